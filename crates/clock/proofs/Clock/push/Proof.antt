@@ -1,0 +1,19 @@
+-- `Clock::push` meets its contract: a store behind the last dot. Assumes nothing.
+use mathlib.Core.Path.{_≡_, ap, sym, _∙_}
+use Rattle.clock.proofs.Packs.{pushed}
+use borrow.Author.Needs.{needs}
+use native.Mathlib.Omega.{arith}
+use Rattle.clock.proofs.Clock.push.Statement.{statement}
+use Rattle.clock.proofs.Clock.push.Tie as tie
+
+returns : tie.Need-returns
+returns c = λ l e. pushed l _ e (omega (arith, ap (λ k. k .len) e))
+
+pub push-spec : {M : Type 1} → statement M
+push-spec =
+    tie.close
+    (tie.spec
+    (λ c. search needs)
+    (λ c. search needs)
+    (λ c. search needs)
+    returns)

@@ -1,0 +1,74 @@
+-- Laws of a clock as a pack of its dots, and of the limit.
+-- Assumes nothing.
+use mathlib.Core.Path.{_≡_, refl, ap, sym, _∙_}
+use mathlib.Core.Bool.{Bool, true, false}
+use mathlib.Core.List.{List, [], _∷_, _++_, map, map-id}
+use Prim.Native.Nat.{ℕ, _+_, _≤_, _<_}
+use native.Mathlib.Omega.{arith}
+use borrow.Author.Tests.{le-leb, lt-leb, leb-true, leb-false}
+use lib.Dec.{leb}
+use lib.ListN.{length, set, length-append}
+use Rattle.lists.specs.Weave.{weave}
+use Rattle.lists.specs.Order.{by}
+use Rattle.lists.proofs.Pads.{take-pad, push-pad, length-snoc}
+use Rattle.lists.proofs.Sifts.{length-sift}
+use Rattle.lists.proofs.Rests.{weave-first-left}
+use Rattle.lists.proofs.Orders.{apart}
+use Rattle.lists.proofs.Weaves.{weave-longer}
+use Rattle.clock.specs.declared.Dot.{Dot}
+use Rattle.clock.specs.declared.Clock.{Clock}
+use Rattle.clock.specs.declared.Joined.{Joined}
+use Rattle.clock.specs.Dots.{dotLimit, noDot, dotsOf, clockOf, fitted, beyond, cutDots, shared, commonDots, largerDot, joinDots}
+
+-- the dots of the clock of a list are the list
+pub dots-of : {c : Clock} (l : List Dot) → c ≡ clockOf l → dotsOf c ≡ l
+dots-of l e = rw e (take-pad noDot dotLimit l)
+
+-- a dot stored behind the last
+pub pushed : {c : Clock} (l : List Dot) (d : Dot) → c ≡ clockOf l → length l < dotLimit → _≡_ {A = Clock} (record { dots = set (c .dots) (c .len) d; len = c .len + 1 }) (clockOf (l ++ (d ∷ [])))
+pushed l d e h = rw (e, push-pad noDot dotLimit l d h, length-snoc l d)
+
+-- within the limit the answer is the clock, above it none
+pub fits : (l : List Dot) → length l ≤ dotLimit → fitted l ≡ record { over = false; clock = clockOf l }
+unfolding fitted
+fits l h = rw (le-leb (length l) dotLimit h)
+
+pub exceeds : (l : List Dot) → dotLimit < length l → fitted l ≡ record { over = true; clock = clockOf [] }
+unfolding fitted
+exceeds l h = rw (lt-leb (length l) dotLimit h)
+
+-- what the flag says of the list
+pub over-means : {j : Joined} (l : List Dot) → j ≡ fitted l → j .over ≡ true → dotLimit < length l
+over-means {j} l e t = go (leb (length l) dotLimit) refl
+  where
+    go : (b : Bool) → leb (length l) dotLimit ≡ b → dotLimit < length l
+    go true q = apart (sym t ∙ ap (λ k. k .over) (e ∙ fits l (leb-true _ _ q)))
+    go false q = leb-false _ _ q
+
+pub within-means : {j : Joined} (l : List Dot) → j ≡ fitted l → j .over ≡ false → length l ≤ dotLimit
+within-means {j} l e t = go (leb (length l) dotLimit) refl
+  where
+    go : (b : Bool) → leb (length l) dotLimit ≡ b → length l ≤ dotLimit
+    go true q = leb-true _ _ q
+    go false q = apart (sym (ap (λ k. k .over) (e ∙ exceeds l (leb-false _ _ q))) ∙ t)
+
+-- the clock of an answer that is within the limit
+pub within-clock : {j : Joined} (l : List Dot) → j ≡ fitted l → j .over ≡ false → j .clock ≡ clockOf l
+within-clock l e t = ap (λ k. k .clock) (e ∙ fits l (within-means l e t))
+
+pub cut-length : (c x : List Dot) → length (cutDots c x) ≤ length x
+unfolding cutDots
+cut-length c x = length-sift (beyond c) (λ d. d) x
+
+pub common-length : (a b : List Dot) → length (commonDots a b) ≤ length a
+unfolding commonDots
+common-length a b = length-sift (shared b) (λ d. d) a
+
+-- nothing joined is the clock itself
+pub join-nil : (a : List Dot) → joinDots a [] ≡ a
+unfolding joinDots
+join-nil a = weave-first-left (by (λ d. d .actor)) (λ d. d) (λ d. d) largerDot a [] 0 (omega arith) ∙ map-id a
+
+pub join-longer : (a b : List Dot) → length a ≤ length (joinDots a b)
+unfolding joinDots
+join-longer a b = weave-longer (by (λ d. d .actor)) (λ d. d) (λ d. d) largerDot a b

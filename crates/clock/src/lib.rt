@@ -1,0 +1,266 @@
+// Dots and clocks: a counter for each actor, as a sorted array of dots with a count, by value.
+ghost use mathlib.Core.Path.{_≡_};
+ghost use mathlib.Core.List.{List, [], _∷_, _++_, map};
+ghost use Prim.Native.Nat.{_≤_, _<_};
+ghost use lib.ListN.{length, drop};
+ghost use Rattle.clock.specs.declared.Dot.{Dot};
+ghost use Rattle.clock.specs.Dots.{dotLimit, dotsOf, clockOf, fitted, counterIn, isEmpty, covers, orderOf, cutDots, commonDots, largerDot, joinDots, addDot};
+
+// The most dots that a clock can hold.
+pub const DOTS: usize = 8;
+
+pub struct Dot {
+    pub actor: u16,
+    pub counter: u64,
+}
+
+pub struct Clock {
+    pub dots: [Dot; DOTS],
+    pub len: usize,
+}
+
+// How two clocks stand to each other.
+pub enum Order {
+    Equal,
+    Greater,
+    Less,
+    Concurrent,
+}
+
+// A clock that may have grown over the limit: then `over` is set, and the clock is empty.
+pub struct Joined {
+    pub over: bool,
+    pub clock: Clock,
+}
+
+impl Dot {
+    // Of two dots of one actor, the one with the larger counter.
+    fn larger(self, other: Dot) -> Dot
+        ensures { λ r. ⌜ r ≡ largerDot self other ⌝ }
+    {
+        if self.counter < other.counter {
+            other
+        } else {
+            self
+        }
+    }
+}
+
+impl Clock {
+    pub fn new() -> Clock
+        ensures { λ r. ⌜ r ≡ clockOf [] ⌝ }
+    {
+        let none = Dot {
+            actor: 0,
+            counter: 0,
+        };
+        Clock {
+            dots: [none; DOTS],
+            len: 0,
+        }
+    }
+
+    pub fn size(self) -> usize
+        ensures { λ r. ⌜ (r ≡ length (dotsOf self)) × (r ≤ dotLimit) ⌝ }
+    {
+        let n = self.len;
+        if n < DOTS { n } else { DOTS }
+    }
+
+    pub fn is_empty(self) -> bool
+        ensures { λ r. ⌜ r ≡ isEmpty (dotsOf self) ⌝ }
+    {
+        self.size() == 0
+    }
+
+    // The counter of an actor.
+    pub fn get(self, actor: u16) -> u64
+        ensures { λ r. ⌜ r ≡ counterIn (dotsOf self) actor ⌝ }
+    {
+        let n = self.size();
+        let mut i: usize = 0;
+        while i < n {
+            let d = self.dots[i];
+            if d.actor == actor {
+                return d.counter;
+            }
+            i += 1;
+        }
+        0
+    }
+
+    // The clock with a dot behind its last.
+    fn push(self, d: Dot) -> Clock
+        requires { ⌜ self .len < dotLimit ⌝ }
+        ensures { λ r. ⌜ ((l : List Dot) → self ≡ clockOf l → r ≡ clockOf (l ++ (d ∷ []))) ⌝ }
+    {
+        let mut out = self;
+        let k = out.len;
+        out.dots[k] = d;
+        out.len = k + 1;
+        out
+    }
+
+    // Without the dots that `by` has seen: the Rust's `reset_remove` and `clone_without`.
+    pub fn cut(self, by: Clock) -> Clock
+        ensures { λ r. ⌜ r ≡ clockOf (cutDots (dotsOf by) (dotsOf self)) ⌝ }
+    {
+        let n = self.size();
+        let mut out = Clock::new();
+        let mut i: usize = 0;
+        while i < n {
+            let d = self.dots[i];
+            i += 1;
+            if by.get(d.actor) < d.counter {
+                out = out.push(d);
+            }
+        }
+        out
+    }
+
+    // The dots that both have, at equal counters: the Rust's `intersection`.
+    pub fn common(self, other: Clock) -> Clock
+        ensures { λ r. ⌜ r ≡ clockOf (commonDots (dotsOf self) (dotsOf other)) ⌝ }
+    {
+        let n = self.size();
+        let mut out = Clock::new();
+        let mut i: usize = 0;
+        while i < n {
+            let d = self.dots[i];
+            i += 1;
+            if other.get(d.actor) == d.counter {
+                out = out.push(d);
+            }
+        }
+        out
+    }
+
+    // Whether every counter of `other` is at most this clock's.
+    pub fn covers(self, other: Clock) -> bool
+        ensures { λ r. ⌜ r ≡ covers (dotsOf self) (dotsOf other) ⌝ }
+    {
+        let n = other.size();
+        let mut i: usize = 0;
+        while i < n {
+            let d = other.dots[i];
+            if self.get(d.actor) < d.counter {
+                return false;
+            }
+            i += 1;
+        }
+        true
+    }
+
+    // The Rust's `partial_cmp`.
+    pub fn compare(self, other: Clock) -> Order
+        ensures { λ r. ⌜ r ≡ orderOf (dotsOf self) (dotsOf other) ⌝ }
+    {
+        let over = self.covers(other);
+        let under = other.covers(self);
+        if over {
+            if under { Order::Equal } else { Order::Greater }
+        } else if under {
+            Order::Less
+        } else {
+            Order::Concurrent
+        }
+    }
+
+    // The larger counter of each actor: the Rust's `merge`.
+    pub fn join(self, other: Clock) -> Joined
+        ensures { λ r. ⌜ r ≡ fitted (joinDots (dotsOf self) (dotsOf other)) ⌝ }
+    {
+        let n = self.size();
+        let m = other.size();
+        let mut out = Joined::new();
+        let mut i: usize = 0;
+        let mut j: usize = 0;
+        while i < n && j < m {
+            let x = self.dots[i];
+            let y = other.dots[j];
+            if x.actor < y.actor {
+                out = out.push(x);
+                i += 1;
+            } else if y.actor < x.actor {
+                out = out.push(y);
+                j += 1;
+            } else {
+                out = out.push(x.larger(y));
+                i += 1;
+                j += 1;
+            }
+        }
+        out.trail(self, i).trail(other, j)
+    }
+
+    // The clock with a dot, where its counter is larger: the Rust's `apply`.
+    pub fn add(self, d: Dot) -> Joined
+        ensures { λ r. ⌜ r ≡ fitted (addDot (dotsOf self) d) ⌝ }
+    {
+        let none = Clock::new();
+        if self.get(d.actor) < d.counter {
+            let news = none.push(d);
+            return self.join(news);
+        }
+        self.join(none)
+    }
+}
+
+impl Joined {
+    // A clock joined to what was joined before.
+    pub fn join(self, other: Clock) -> Joined
+        ensures { λ r. ⌜ ((l : List Dot) → self ≡ fitted l → r ≡ fitted (joinDots l (dotsOf other))) ⌝ }
+    {
+        if self.over {
+            return self;
+        }
+        self.clock.join(other)
+    }
+
+    pub fn new() -> Joined
+        ensures { λ r. ⌜ r ≡ fitted [] ⌝ }
+    {
+        let none = Clock::new();
+        Joined {
+            over: false,
+            clock: none,
+        }
+    }
+
+    // One dot more behind the last, or over the limit.
+    fn push(self, d: Dot) -> Joined
+        ensures { λ r. ⌜ ((l : List Dot) → self ≡ fitted l → r ≡ fitted (l ++ (d ∷ []))) ⌝ }
+    {
+        if self.over {
+            return self;
+        }
+        let c = self.clock;
+        if c.len < DOTS {
+            let more = c.push(d);
+            return Joined {
+                over: false,
+                clock: more,
+            };
+        }
+        let none = Clock::new();
+        Joined {
+            over: true,
+            clock: none,
+        }
+    }
+
+    // The dots of `from` from place `at` on, behind the last.
+    fn trail(self, from: Clock, at: usize) -> Joined
+        ensures { λ r. ⌜ ((l : List Dot) → self ≡ fitted l → r ≡ fitted (l ++ map (λ d. d) (drop at (dotsOf from)))) ⌝ }
+    {
+        let n = from.size();
+        let mut out = self;
+        let mut i: usize = at;
+        while i < n {
+            let d = from.dots[i];
+            i += 1;
+            out = out.push(d);
+        }
+        out
+    }
+}

@@ -1,0 +1,12 @@
+pub mod Pads
+pub mod Rests
+pub mod Growing
+pub mod Sifting
+pub mod Passing
+pub mod Folding
+pub mod Trailing
+pub mod Weaving
+pub mod Sifts
+pub mod Folds
+pub mod Orders
+pub mod Weaves

@@ -1,0 +1,6 @@
+pub mod Pad
+pub mod Sift
+pub mod First
+pub mod Fold
+pub mod Weave
+pub mod Order

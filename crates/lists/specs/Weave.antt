@@ -1,0 +1,16 @@
+-- Two ascending lists walked side by side: what stands in the first alone, in the second alone, and in both.
+-- Assumes nothing.
+use mathlib.Core.Bool.{Bool, cond}
+use mathlib.Core.List.{List, [], _∷_, map}
+
+-- `before` is the order; `first` and `second` say what becomes of an element that one side has alone, `both` of two that stand level
+module _ {A : Type 0} (before : A → A → Bool) (first second : A → A) (both : A → A → A) where
+  -- x and what `rest` makes of the first list behind it, against the second list
+  abbrev pub against : A → List A → (List A → List A) → List A → List A
+  against x l rest [] = first x ∷ map first l
+  against x l rest (y ∷ m) =
+      cond (before x y) (first x ∷ rest (y ∷ m)) (cond (before y x) (second y ∷ against x l rest m) (both x y ∷ rest m))
+
+  unfoldable pub weave : List A → List A → List A
+  weave [] m = map second m
+  weave (x ∷ l) m = against x l (weave l) m

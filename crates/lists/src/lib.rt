@@ -1,0 +1,1 @@
+// Laws on lists that every layer cites: this crate has no code.

@@ -1,0 +1,52 @@
+-- Laws of a register as a pack of its values, and of the limit.
+-- Assumes nothing.
+use mathlib.Core.Path.{_≡_, refl, ap, sym, _∙_}
+use mathlib.Core.Bool.{Bool, true, false}
+use mathlib.Core.List.{List, [], _∷_, _++_}
+use Prim.Native.Nat.{ℕ, _+_, _≤_, _<_}
+use native.Mathlib.Omega.{arith}
+use borrow.Author.Tests.{le-leb, lt-leb}
+use lib.ListN.{length, set, length-append}
+use Rattle.lists.proofs.Pads.{take-pad, push-pad, length-snoc}
+use Rattle.lists.proofs.Sifts.{length-sift}
+use Rattle.clock.specs.declared.Dot.{Dot}
+use Rattle.register.specs.declared.Value.{Value}
+use Rattle.register.specs.declared.Register.{Register}
+use Rattle.register.specs.declared.Wide.{Wide}
+use Rattle.register.specs.declared.Settled.{Settled}
+use Rattle.register.specs.Values.{valueLimit, wideRoom, noValue, valuesOf, wideValues, registerOf, wideOf, settled, alive, cutValue, cutValues, standing, remaining, putValues, oursLeft, mergeValues}
+
+-- what the logic reads past the end of an array of values
+abbrev pub noneRead : Value
+noneRead = record { clock = record { dots = []; len = 0 }; value = 0 }
+
+-- the values of the register of a list are the list
+pub values-of : {r : Register} (l : List Value) → r ≡ registerOf l → valuesOf r ≡ l
+values-of l e = rw e (take-pad noValue valueLimit l)
+
+pub wide-values : {w : Wide} (l : List Value) → w ≡ wideOf l → wideValues w ≡ l
+wide-values l e = rw e (take-pad noValue wideRoom l)
+
+-- a value stored behind the last
+pub pushed : {r : Register} (l : List Value) (v : Value) → r ≡ registerOf l → length l < valueLimit → _≡_ {A = Register} (record { values = set (r .values) (r .len) v; len = r .len + 1 }) (registerOf (l ++ (v ∷ [])))
+pushed l v e h = rw (e, push-pad noValue valueLimit l v h, length-snoc l v)
+
+pub wide-pushed : {w : Wide} (l : List Value) (v : Value) → w ≡ wideOf l → length l < wideRoom → _≡_ {A = Wide} (record { values = set (w .values) (w .len) v; len = w .len + 1 }) (wideOf (l ++ (v ∷ [])))
+wide-pushed l v e h = rw (e, push-pad noValue wideRoom l v h, length-snoc l v)
+
+-- within the limit the answer is the register, above it none
+pub fits : (l : List Value) → length l ≤ valueLimit → settled l ≡ record { over = false; register = registerOf l }
+unfolding settled
+fits l h = rw (le-leb (length l) valueLimit h)
+
+pub exceeds : (l : List Value) → valueLimit < length l → settled l ≡ record { over = true; register = registerOf [] }
+unfolding settled
+exceeds l h = rw (lt-leb (length l) valueLimit h)
+
+pub cut-length : (c : List Dot) (l : List Value) → length (cutValues c l) ≤ length l
+unfolding cutValues
+cut-length c l = length-sift alive (cutValue c) l
+
+pub remaining-length : (l : List Value) (put : Value) → length (remaining l put) ≤ length l
+unfolding remaining
+remaining-length l put = length-sift (standing true (put ∷ [])) (λ v. v) l

@@ -1,0 +1,48 @@
+-- `Register::all_found` meets its contract: the loop looks for a value that is not found. Assumes nothing.
+use mathlib.Core.Path.{ap, sym, _∙_}
+use mathlib.Core.Bool.{true, false, not}
+use Prim.Native.Nat.{_≤_, _-_}
+use Rattle.lists.proofs.Passing.{Passing, passing-start, passing-here, passing-on, passing-end}
+use Rattle.register.specs.Values.{valuesOf, found, allFound}
+use Rattle.register.proofs.Packs.{noneRead}
+use borrow.Author.Needs.{needs}
+use native.Mathlib.Omega.{arith}
+use Rattle.register.proofs.Register.all_found.Statement.{statement}
+use Rattle.register.proofs.Register.all_found.Tie as tie
+
+abbrev Inv-loop : tie.InvT-loop
+Inv-loop other self n i₀ i = (i ≤ n) × Passing (λ v. not (found (valuesOf other) v)) (λ v. false) true (self .values) (self .len) i
+
+abbrev μ-loop : tie.MeasureT-loop
+μ-loop other self n i₀ i = n - i
+
+loop-holds : tie.Need-loop-holds Inv-loop μ-loop
+loop-holds c = (search needs, passing-start)
+
+returns : tie.Need-returns Inv-loop μ-loop
+unfolding allFound
+returns c = passing-here noneRead (c .before .before .before .before .loop .inv .1) (omega arith) (ap not (sym (c .before .found .ensures)) ∙ c .if1 .taken)
+
+loop-again : tie.Need-loop-again Inv-loop μ-loop
+loop-again c = (search needs, passing-on noneRead (c .before .before .before .before .loop .inv .1) (omega arith) (ap not (sym (c .before .found .ensures)) ∙ c .if1 .left))
+
+returns-2 : tie.Need-returns-2 Inv-loop μ-loop
+unfolding allFound
+returns-2 c = passing-end (c .before .loop .inv .1) (omega arith)
+
+pub all-found-spec : {M : Type 1} → statement M
+all-found-spec =
+    tie.close
+    (tie.spec
+    Inv-loop
+    μ-loop
+    (λ c κs. search needs)
+    loop-holds
+    (λ c. search needs)
+    (λ c. search needs)
+    (λ c κs. search needs)
+    returns
+    (λ c. search needs)
+    (λ c. search needs)
+    loop-again
+    returns-2)

@@ -1,0 +1,17 @@
+-- `Register::equals` meets its contract, by that of `all_found`, both ways. Assumes nothing.
+use Rattle.register.specs.Values.{equalValues}
+use borrow.Author.Needs.{needs}
+use Rattle.register.proofs.Register.equals.Statement.{statement}
+use Rattle.register.proofs.Register.equals.Tie as tie
+
+returns : tie.Need-returns
+unfolding equalValues
+returns c = cc
+
+pub equals-spec : {M : Type 1} → statement M
+equals-spec =
+    tie.close
+    (tie.spec
+    (λ c κs. search needs)
+    (λ c κs. search needs)
+    returns)

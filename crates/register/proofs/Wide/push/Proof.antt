@@ -1,0 +1,19 @@
+-- `Wide::push` meets its contract: a store behind the last value. Assumes nothing.
+use mathlib.Core.Path.{refl, ap}
+use Rattle.register.proofs.Packs.{wide-pushed}
+use borrow.Author.Needs.{needs}
+use native.Mathlib.Omega.{arith}
+use Rattle.register.proofs.Wide.push.Statement.{statement}
+use Rattle.register.proofs.Wide.push.Tie as tie
+
+returns : tie.Need-returns
+returns c = (refl, λ l e. wide-pushed l _ e (omega (arith, ap (λ k. k .len) e)))
+
+pub push-spec : {M : Type 1} → statement M
+push-spec =
+    tie.close
+    (tie.spec
+    (λ c. search needs)
+    (λ c. search needs)
+    (λ c. search needs)
+    returns)

@@ -1,0 +1,127 @@
+-- Registers, in the words and order of 01 "Register": an ordered list of values, of any length, each under a clock.
+-- Assumes nothing.
+use mathlib.Core.Bool.{Bool, true, false, not, _&&_, cond}
+use mathlib.Core.List.{List, [], _∷_, _++_, map}
+use Prim.Native.Nat.{ℕ}
+use lib.Dec.{leb, eqb}
+use lib.ListN.{length, take}
+use Rattle.lists.specs.Pad.{pad}
+use Rattle.lists.specs.Sift.{sift, those}
+use Rattle.lists.specs.First.{some, none}
+use Rattle.lists.specs.Fold.{fold}
+use Rattle.clock.specs.declared.Dot.{Dot}
+use Rattle.clock.specs.declared.Order.{Order}
+use Rattle.clock.specs.declared.Order.the-variants.{Equal, Greater, Less, Concurrent}
+use Rattle.clock.specs.Dots.{dotsOf, clockOf, fitted, isEmpty, cutDots, joinDots, orderOf}
+use Rattle.register.specs.declared.Value.{Value}
+use Rattle.register.specs.declared.Register.{Register}
+use Rattle.register.specs.declared.Wide.{Wide}
+use Rattle.register.specs.declared.Settled.{Settled}
+use Rattle.register.specs.declared.Numbers.{Numbers}
+use Rattle.register.specs.declared.Read.{Read}
+
+-- the limit: so many values in a register
+abbrev pub valueLimit : ℕ
+valueLimit = 4
+
+-- the room of a register in hand: two registers' values, before what follows has cut them
+abbrev pub wideRoom : ℕ
+wideRoom = 8
+
+abbrev pub noValue : Value
+noValue = record { clock = clockOf []; value = 0 }
+
+-- the values of a register, and of one in hand
+abbrev pub valuesOf : Register → List Value
+valuesOf r = take (r .len) (r .values)
+
+abbrev pub wideValues : Wide → List Value
+wideValues w = take (w .len) (w .values)
+
+-- the register of these values: the places behind them hold zeros
+abbrev pub registerOf : List Value → Register
+registerOf l = record { values = pad noValue valueLimit l; len = length l }
+
+abbrev pub wideOf : List Value → Wide
+wideOf l = record { values = pad noValue wideRoom l; len = length l }
+
+-- a list of numbers, as many as a register has values
+abbrev pub numbersOf : List ℕ → Numbers
+numbersOf l = record { items = pad 0 valueLimit l; len = length l }
+
+-- the register of these values, or that it is over the limit
+unfoldable pub settled : List Value → Settled
+settled l = cond (leb (length l) valueLimit) (record { over = false; register = registerOf l }) (record { over = true; register = registerOf [] })
+
+-- a clock that is less than another, or, where `equalToo` says so, equal to it
+abbrev pub yielding : Bool → Order → Bool
+yielding equalToo Less = true
+yielding equalToo Equal = equalToo
+yielding equalToo Greater = false
+yielding equalToo Concurrent = false
+
+unfoldable pub yields : Bool → Value → Value → Bool
+yields equalToo v w = yielding equalToo (orderOf (dotsOf (v .clock)) (dotsOf (w .clock)))
+
+-- a value whose clock is strictly below, or below or equal to, that of one of these
+unfoldable pub outdone : Bool → List Value → Value → Bool
+outdone equalToo l v = some (yields equalToo v) l
+
+abbrev pub standing : Bool → List Value → Value → Bool
+standing equalToo l v = not (outdone equalToo l v)
+
+-- "values whose clock is equal to or less than the put's go"
+unfoldable pub remaining : List Value → Value → List Value
+remaining l put = those (standing true (put ∷ [])) l
+
+-- "Put with an empty clock does nothing. Otherwise [these go]; then the new value goes last, unless a remaining clock is greater."
+unfoldable pub putValues : List Value → Value → List Value
+putValues l put =
+    cond (isEmpty (dotsOf (put .clock))) l
+    (cond (outdone false (remaining l put) put) (remaining l put) (remaining l put ++ (put ∷ [])))
+
+abbrev pub cutValue : List Dot → Value → Value
+cutValue c v = record { clock = clockOf (cutDots c (dotsOf (v .clock))); value = v .value }
+
+abbrev pub alive : Value → Bool
+alive v = not (isEmpty (dotsOf (v .clock)))
+
+-- "Cut: cut each value's clock, drop values left with none, keep order."
+unfoldable pub cutValues : List Dot → List Value → List Value
+cutValues c l = sift alive (cutValue c) l
+
+-- "Merge: drop ours strictly below any of theirs"
+unfoldable pub oursLeft : List Value → List Value → List Value
+oursLeft ours theirs = those (standing false theirs) ours
+
+-- "then append, in their order, those of theirs that are neither strictly below nor equal in clock to one of our remaining"
+unfoldable pub mergeValues : List Value → List Value → List Value
+mergeValues ours theirs = oursLeft ours theirs ++ those (standing true (oursLeft ours theirs)) theirs
+
+-- the same value under the same clock
+abbrev pub equalClock : Order → Bool
+equalClock Equal = true
+equalClock Less = false
+equalClock Greater = false
+equalClock Concurrent = false
+
+unfoldable pub samePair : Value → Value → Bool
+samePair v w = equalClock (orderOf (dotsOf (v .clock)) (dotsOf (w .clock))) && eqb (v .value) (w .value)
+
+unfoldable pub found : List Value → Value → Bool
+found l v = some (samePair v) l
+
+unfoldable pub allFound : List Value → List Value → Bool
+allFound l m = none (λ v. not (found m v)) l
+
+-- "Equality ignores order: every value-with-clock of each is found in the other."
+unfoldable pub equalValues : List Value → List Value → Bool
+equalValues l m = allFound l m && allFound m l
+
+-- the clock under which a register is read: those of its values, joined
+unfoldable pub clockOver : List Value → List Dot
+clockOver l = fold (λ c v. joinDots c (dotsOf (v .clock))) [] l
+
+-- reading gives that clock, and the values in order
+unfoldable pub readOf : List Value → Read
+readOf l = record { joined = fitted (clockOver l); numbers = numbersOf (map (λ v. v .value) l) }
