@@ -1,0 +1,109 @@
+-- 01 "Map": what is asked of a map without changing it: both validations, making an operation, reading a key, the count.
+-- Assumes nothing.
+use mathlib.Core.Bool.{Bool, true, false, cond}
+use mathlib.Core.List.{List, [], _∷_}
+use Prim.Native.Nat.{ℕ, _+_, _-_, _^_}
+use lib.Dec.{ltb, leb, eqb}
+use lib.ListN.{length}
+use Rattle.lists.specs.Sift.{those}
+use Rattle.lists.specs.First.{firstIn}
+use Rattle.clock.specs.declared.Dot.{Dot}
+use Rattle.clock.specs.Dots.{dotLimit, clockOf, counterIn, addDot, shared}
+use Rattle.parts.specs.declared.Entry.{Entry}
+use Rattle.map.specs.declared.Map.{Map}
+use Rattle.map.specs.declared.Op.{Op}
+use Rattle.parts.specs.declared.Update.{Update}
+use Rattle.parts.specs.declared.Removal.{Removal}
+use Rattle.map.specs.declared.Made.{Made}
+use Rattle.map.specs.declared.Order.{Order}
+use Rattle.map.specs.declared.Order.the-variants.{Fits, Missing}
+use Rattle.map.specs.declared.Spent.{Spent}
+use Rattle.map.specs.declared.Spent.the-variants.{Once, Twice}
+use Rattle.parts.specs.Model.{dotsIn, entriesAs, removalAs, noRemoval, noUpdate, waitingAs}
+use Rattle.map.specs.Model.{seenBy, entriesIn}
+use Rattle.map.specs.Judging.{exceeding}
+
+-- the clock of a key's entry, empty where there is none
+unfoldable pub clockAt : Map → ℕ → List Dot
+clockAt m k = firstIn (λ e. eqb (e .key) k) dotsIn [] (entriesIn m)
+
+-- "An update's dot must be at most one above the map clock's counter, then at most one above the entry clock's (0 if no entry);
+-- the first failure answers 11 with the range start (counter + 1) and end (the dot)."
+unfoldable pub following : List Dot → Dot → Order → Order
+following c d next = cond (ltb (counterIn c (d .actor) + 1) (d .counter)) (Missing (counterIn c (d .actor) + 1) (d .counter)) next
+
+unfoldable pub validateUpdate : Map → Update → Order
+validateUpdate m u = following (seenBy m) (u .dot) (following (clockAt m (u .key)) (u .dot) Fits)
+
+-- "`validate_op`: a removal passes."
+unfoldable pub validateOp : Map → Op → Order
+validateOp m op = cond (op .up) (validateUpdate m (op .update)) Fits
+
+-- 01's number and the numbers that it carries
+abbrev pub orderNumber : Order → ℕ
+orderNumber Fits = 0
+orderNumber (Missing start end) = 11
+
+abbrev pub orderStart : Order → ℕ
+orderStart Fits = 0
+orderStart (Missing start end) = start
+
+abbrev pub orderEnd : Order → ℕ
+orderEnd Fits = 0
+orderEnd (Missing start end) = end
+
+-- the first that was found, by the order of a list
+abbrev pub orElse : Spent → Spent → Spent
+orElse Once next = next
+orElse (Twice d k h) next = Twice d k h
+
+unfoldable pub firstSpent : {A : Type 0} → (A → Spent) → List A → Spent
+firstSpent f [] = Once
+firstSpent f (x ∷ l) = orElse (f x) (firstSpent f l)
+
+-- "the first dot of our entry that their entry under a different key holds at the same counter"
+unfoldable pub spentBy : Entry → Entry → Spent
+spentBy ours theirs =
+    cond (eqb (ours .key) (theirs .key)) Once
+    (firstIn (shared (dotsIn theirs)) (λ d. Twice d (ours .key) (theirs .key)) Once (dotsIn ours))
+
+-- "`validate_merge`: by our key, their key, then actor, all ascending"
+unfoldable pub validateMerge : Map → Map → Spent
+validateMerge m n = firstSpent (λ e. firstSpent (spentBy e) (entriesIn n)) (entriesIn m)
+
+-- "answers 12 with dot and both keys"
+abbrev pub spentNumber : Spent → ℕ
+spentNumber Once = 0
+spentNumber (Twice d k h) = 12
+
+-- "Making an update by `update`: dot = map counter + 1, put clock = map clock with that dot."
+unfoldable pub nextDot : Map → ℕ → Dot
+nextDot m actor = record { actor = actor; counter = counterIn (seenBy m) actor + 1 }
+
+abbrev pub updateOp : Map → ℕ → ℕ → ℕ → Op
+updateOp m actor k value = record {
+  up = true;
+  removal = noRemoval;
+  update = record { dot = nextDot m actor; key = k; put = record { clock = clockOf (addDot (seenBy m) (nextDot m actor)); value = value } };
+}
+
+abbrev pub noOp : Op
+noOp = record { up = false; removal = noRemoval; update = noUpdate }
+
+-- 9 at the last counter, then 4 for a put clock of more than 8 dots
+unfoldable pub makeUpdate : Map → ℕ → ℕ → ℕ → Made
+makeUpdate m actor k value =
+    cond (leb (2 ^ 64 - 1) (counterIn (seenBy m) actor)) (record { number = 9; op = noOp })
+    (cond (exceeding dotLimit (addDot (seenBy m) (nextDot m actor))) (record { number = 4; op = noOp }) (record { number = 0; op = updateOp m actor k value }))
+
+-- "Making a removal: that key under its entry clock (`get`; empty clock if absent), or under the map clock (`read_ctx`)."
+abbrev pub removalOp : List Dot → ℕ → Op
+removalOp c k = record { up = false; removal = removalAs c (k ∷ []); update = noUpdate }
+
+-- "Reading a key gives an image of the map clock and that entry alone."
+unfoldable pub readKey : Map → ℕ → Map
+readKey m k = record { clock = m .clock; entries = entriesAs (those (λ e. eqb (e .key) k) (entriesIn m)); waiting = waitingAs [] }
+
+-- "The count is the number of entries."
+unfoldable pub count : Map → ℕ
+count m = length (entriesIn m)

@@ -1,0 +1,19 @@
+-- 01 "Map": `reset_remove`.
+-- Assumes nothing.
+use mathlib.Core.List.{List}
+use Rattle.lists.specs.Sift.{sift}
+use Rattle.clock.specs.declared.Dot.{Dot}
+use Rattle.clock.specs.Dots.{clockOf, cutDots}
+use Rattle.parts.specs.Model.{entriesAs, waitingAs}
+use Rattle.parts.specs.Entries.{stays, cutEntry}
+use Rattle.parts.specs.Waits.{resetWaiting}
+use Rattle.map.specs.declared.Map.{Map}
+use Rattle.map.specs.Model.{seenBy, entriesIn, waitingIn}
+
+-- "`reset_remove` by C: cut entry clocks, registers, waiting clocks and map clock; drop entries and waiting removals whose clocks are emptied"
+unfoldable pub reset : Map → List Dot → Map
+reset m c = record {
+  clock = clockOf (cutDots c (seenBy m));
+  entries = entriesAs (sift stays (cutEntry c) (entriesIn m));
+  waiting = waitingAs (resetWaiting c (waitingIn m));
+}

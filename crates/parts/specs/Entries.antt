@@ -1,0 +1,70 @@
+-- 01 "Map", what becomes of an entry: in a removal, an update, a merge; and of all entries, in the order of their keys.
+-- Assumes nothing.
+use mathlib.Core.Bool.{Bool, true, false, not, cond}
+use mathlib.Core.List.{List, [], _∷_, _++_}
+use Prim.Native.Nat.{ℕ}
+use lib.Dec.{ltb, eqb}
+use Rattle.lists.specs.Sift.{sift, those}
+use Rattle.lists.specs.First.{firstIn, some}
+use Rattle.lists.specs.Weave.{weave}
+use Rattle.lists.specs.Order.{by}
+use Rattle.clock.specs.declared.Dot.{Dot}
+use Rattle.clock.specs.Dots.{isEmpty, covers, cutDots, commonDots, joinDots, addDot}
+use Rattle.register.specs.Values.{putValues, cutValues, mergeValues}
+use Rattle.parts.specs.declared.Entry.{Entry}
+use Rattle.parts.specs.declared.Removal.{Removal}
+use Rattle.parts.specs.declared.Update.{Update}
+use Rattle.parts.specs.Model.{dotsIn, valuesIn, entryAs, underOf, listedIn}
+
+-- "Every entry clock is non-empty": an entry whose clock is emptied goes
+abbrev pub stays : Entry → Bool
+stays e = not (isEmpty (dotsIn e))
+
+unfoldable pub cutEntry : List Dot → Entry → Entry
+cutEntry c e = entryAs (e .key) (cutDots c (dotsIn e)) (cutValues c (valuesIn e))
+
+unfoldable pub listed : List ℕ → ℕ → Bool
+listed keys k = some (λ h. eqb h k) keys
+
+-- "for each listed entry, cut its clock; if empty the entry goes, register included; else cut the register"
+unfoldable pub removeFrom : Removal → Entry → Entry
+removeFrom r e = cond (listed (listedIn r) (e .key)) (cutEntry (underOf r) e) e
+
+unfoldable pub removeEntries : Removal → List Entry → List Entry
+removeEntries r l = sift stays (removeFrom r) l
+
+-- "add the dot to the entry, apply the put"
+unfoldable pub putEntry : Update → Entry → Entry
+putEntry u e = entryAs (e .key) (addDot (dotsIn e) (u .dot)) (putValues (valuesIn e) (u .put))
+
+-- the entry of a key, "(a new one if absent)"
+unfoldable pub entryAt : ℕ → List Entry → Entry
+entryAt k l = firstIn (λ e. eqb (e .key) k) (λ e. e) (entryAs k [] []) l
+
+-- the entries below a key, or those above it
+abbrev pub aside : Bool → ℕ → Entry → Bool
+aside below k e = cond below (ltb (e .key) k) (ltb k (e .key))
+
+unfoldable pub putEntries : Update → List Entry → List Entry
+putEntries u l = those (aside true (u .key)) l ++ (putEntry u (entryAt (u .key) l) ∷ those (aside false (u .key)) l)
+
+-- "Merge, entry on one side only: if the other map's clock covers the entry clock, it goes. Else cut the entry clock by the other map's clock,
+-- and cut the register by (other map's clock cut by the new entry clock)." An entry that goes is left with no dot.
+unfoldable pub alone : List Dot → Entry → Entry
+alone other e =
+    let left = cutDots other (dotsIn e) in
+    cond (covers other (dotsIn e)) (entryAs (e .key) [] []) (entryAs (e .key) left (cutValues (cutDots left other) (valuesIn e)))
+
+-- "keep = common dots, joined with each entry clock cut by the other map's clock"
+unfoldable pub keepDots : List Dot → List Dot → List Dot → List Dot → List Dot
+keepDots ours theirs a b = joinDots (joinDots (commonDots a b) (cutDots theirs a)) (cutDots ours b)
+
+-- "merge registers, cut the result by (both entry clocks joined, then cut by keep), entry clock = keep"
+unfoldable pub together : List Dot → List Dot → Entry → Entry → Entry
+together ours theirs e f =
+    let keep = keepDots ours theirs (dotsIn e) (dotsIn f) in
+    entryAs (e .key) keep (cutValues (cutDots keep (joinDots (dotsIn e) (dotsIn f))) (mergeValues (valuesIn e) (valuesIn f)))
+
+-- "Empty: the entry goes." "Should the cut leave the entry clock empty, the entry is dropped."
+unfoldable pub mergeEntries : List Dot → List Dot → List Entry → List Entry → List Entry
+mergeEntries ours theirs l m = those stays (weave (by (λ e. e .key)) (alone theirs) (alone ours) (together ours theirs) l m)
