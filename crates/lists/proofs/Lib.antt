@@ -10,3 +10,8 @@ pub mod Sifts
 pub mod Folds
 pub mod Orders
 pub mod Weaves
+pub mod Those
+pub mod Levels
+pub mod Woven
+pub mod Firsts
+pub mod Ranks
