@@ -1,13 +1,15 @@
 -- A clock is its counters: what a list of dots holds at an actor, and that a clock has nothing else.
 -- Assumes nothing.
-use mathlib.Core.Path.{_≡_, refl, ap, sym, _∙_}
+use mathlib.Core.Path.{_≡_, refl, sym, _∙_}
+use mathlib.Core.Bool.{cond}
 use mathlib.Core.Logic.{_⊎_, inl, inr, ⊎-elim}
-use mathlib.Core.List.{List, [], _∷_, Memᴰ·cast}
-use Prim.Native.Nat.{ℕ, zero, suc, _≤_, _<_}
+use mathlib.Core.List.{List, [], _∷_, List·Memᴰ·not-nil, Memᴰ·cast}
+use Prim.Native.Nat.{ℕ, _≤_, _<_}
 use native.Mathlib.Omega.{arith}
 use borrow.Author.Tests.{eqb-true, eqb-false, ne-eqb}
 use lib.Dec.{eqb}
 use lib.ListN.{length}
+use Rattle.lists.specs.First.{firstIn}
 use Rattle.lists.specs.Order.{_∈_}
 use Rattle.lists.proofs.Orders.{by-strict, same-members}
 use Rattle.lists.proofs.Firsts.{first-cases, first-none}
@@ -38,6 +40,13 @@ counter-cases l a =
 pub counter-absent : (l : List Dot) (a : ℕ) → ((d : Dot) → d ∈ l → d .actor ≡ a → ⊥) → counterIn l a ≡ 0
 unfolding counterIn
 counter-absent l a f = first-none (λ d. eqb (d .actor) a) (λ d. d .counter) 0 l (λ d i. ne-eqb (d .actor) a (f d i))
+
+pub counter-nil : (a : ℕ) → counterIn [] a ≡ 0
+counter-nil a = counter-absent [] a (λ d i. absurd (List·Memᴰ·not-nil i))
+
+pub counter-one : (d : Dot) (a : ℕ) → counterIn (d ∷ []) a ≡ cond (eqb (d .actor) a) (d .counter) 0
+unfolding counterIn firstIn
+counter-one d a = refl
 
 -- an actor with a counter has its dot
 pub counter-holds : (l : List Dot) (a : ℕ) → 0 < counterIn l a → dotIn l a ∈ l

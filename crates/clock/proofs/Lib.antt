@@ -1,2 +1,5 @@
 pub mod Packs
 pub mod Counters
+pub mod Cuts
+pub mod Joins
+pub mod Covers

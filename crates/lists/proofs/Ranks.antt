@@ -18,11 +18,11 @@ by-steady rank x y z e f =
     le-ltb (rank x) (rank z) (omega (arith, ltb-false (rank x) (rank y) e, ltb-false (rank y) (rank z) f))
 
 -- by a number, level is equal
-pub by-level : {A : Type 0} (rank : A → ℕ) {x y : A} → Level (by rank) x y → rank x ≡ rank y
-by-level rank {x} {y} e = omega (arith, ltb-false (rank x) (rank y) (e .0), ltb-false (rank y) (rank x) (e .1))
+pub by-level : {A : Type 0} (rank : A → ℕ) (x y : A) → Level (by rank) x y → rank x ≡ rank y
+by-level rank x y e = omega (arith, ltb-false (rank x) (rank y) (e .0), ltb-false (rank y) (rank x) (e .1))
 
-pub level-by : {A : Type 0} (rank : A → ℕ) {x y : A} → rank x ≡ rank y → Level (by rank) x y
-level-by rank {x} {y} e = (le-ltb (rank x) (rank y) (omega arith), le-ltb (rank y) (rank x) (omega arith))
+pub level-by : {A : Type 0} (rank : A → ℕ) (x y : A) → rank x ≡ rank y → Level (by rank) x y
+level-by rank x y e = (le-ltb (rank x) (rank y) (omega arith), le-ltb (rank y) (rank x) (omega arith))
 
 -- the first with a member's number is the member
 pub first-member : {A R : Type 0} (rank : A → ℕ) (give : A → R) (z : R) {l : List A} {x : A} → Ascending (by rank) l → x ∈ l → firstIn (λ y. eqb (rank y) (rank x)) give z l ≡ give x
