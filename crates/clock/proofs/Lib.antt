@@ -3,3 +3,5 @@ pub mod Counters
 pub mod Cuts
 pub mod Joins
 pub mod Covers
+pub mod Within
+pub mod Empties

@@ -5,15 +5,13 @@ use mathlib.Core.Bool.{Bool, true, false}
 use mathlib.Core.List.{List, [], _∷_, _++_, map, map-id}
 use Prim.Native.Nat.{ℕ, _+_, _≤_, _<_}
 use native.Mathlib.Omega.{arith}
-use borrow.Author.Tests.{le-leb, lt-leb, leb-true, leb-false}
-use lib.Dec.{leb}
 use lib.ListN.{length, set, length-append}
 use Rattle.lists.specs.Weave.{weave}
 use Rattle.lists.specs.Order.{by}
 use Rattle.lists.proofs.Pads.{take-pad, push-pad, length-snoc}
 use Rattle.lists.proofs.Sifts.{length-sift}
 use Rattle.lists.proofs.Rests.{weave-first-left}
-use Rattle.lists.proofs.Orders.{apart}
+use Rattle.lists.proofs.Limits.{within-fits, within-exceeds, flag-set, flag-clear}
 use Rattle.lists.proofs.Weaves.{weave-longer}
 use Rattle.clock.specs.declared.Dot.{Dot}
 use Rattle.clock.specs.declared.Clock.{Clock}
@@ -28,29 +26,25 @@ dots-of l e = rw e (take-pad noDot dotLimit l)
 pub pushed : {c : Clock} (l : List Dot) (d : Dot) → c ≡ clockOf l → length l < dotLimit → _≡_ {A = Clock} (record { dots = set (c .dots) (c .len) d; len = c .len + 1 }) (clockOf (l ++ (d ∷ [])))
 pushed l d e h = rw (e, push-pad noDot dotLimit l d h, length-snoc l d)
 
--- within the limit the answer is the clock, above it none
+-- the two answers of what can grow
+abbrev good : List Dot → Joined
+good d = record { over = false; clock = clockOf d }
+
+abbrev bad : Joined
+bad = record { over = true; clock = clockOf [] }
+
 pub fits : (l : List Dot) → length l ≤ dotLimit → fitted l ≡ record { over = false; clock = clockOf l }
-unfolding fitted
-fits l h = rw (le-leb (length l) dotLimit h)
+fits l h = within-fits dotLimit good bad l h
 
 pub exceeds : (l : List Dot) → dotLimit < length l → fitted l ≡ record { over = true; clock = clockOf [] }
-unfolding fitted
-exceeds l h = rw (lt-leb (length l) dotLimit h)
+exceeds l h = within-exceeds dotLimit good bad l h
 
 -- what the flag says of the list
 pub over-means : {j : Joined} (l : List Dot) → j ≡ fitted l → j .over ≡ true → dotLimit < length l
-over-means {j} l e t = go (leb (length l) dotLimit) refl
-  where
-    go : (b : Bool) → leb (length l) dotLimit ≡ b → dotLimit < length l
-    go true q = apart (sym t ∙ ap (λ k. k .over) (e ∙ fits l (leb-true _ _ q)))
-    go false q = leb-false _ _ q
+over-means l e t = flag-set dotLimit good bad (λ j. j .over) (λ d. refl) refl l e t
 
 pub within-means : {j : Joined} (l : List Dot) → j ≡ fitted l → j .over ≡ false → length l ≤ dotLimit
-within-means {j} l e t = go (leb (length l) dotLimit) refl
-  where
-    go : (b : Bool) → leb (length l) dotLimit ≡ b → length l ≤ dotLimit
-    go true q = leb-true _ _ q
-    go false q = apart (sym (ap (λ k. k .over) (e ∙ exceeds l (leb-false _ _ q))) ∙ t)
+within-means l e t = flag-clear dotLimit good bad (λ j. j .over) (λ d. refl) refl l e t
 
 -- the clock of an answer that is within the limit
 pub within-clock : {j : Joined} (l : List Dot) → j ≡ fitted l → j .over ≡ false → j .clock ≡ clockOf l

@@ -3,13 +3,14 @@
 use mathlib.Core.Bool.{Bool, true, false, cond}
 use mathlib.Core.List.{List, [], _∷_}
 use Prim.Native.Nat.{ℕ}
-use lib.Dec.{ltb, leb, eqb}
+use lib.Dec.{ltb, eqb}
 use lib.ListN.{length, take}
 use Rattle.lists.specs.Pad.{pad}
 use Rattle.lists.specs.Sift.{those}
 use Rattle.lists.specs.First.{firstIn, none}
 use Rattle.lists.specs.Weave.{weave}
 use Rattle.lists.specs.Order.{by}
+use Rattle.lists.specs.Limit.{within}
 use Rattle.clock.specs.declared.Dot.{Dot}
 use Rattle.clock.specs.declared.Clock.{Clock}
 use Rattle.clock.specs.declared.Joined.{Joined}
@@ -32,8 +33,8 @@ abbrev pub clockOf : List Dot → Clock
 clockOf l = record { dots = pad noDot dotLimit l; len = length l }
 
 -- the answer of an operation that can grow: the clock, or that it is over the limit
-unfoldable pub fitted : List Dot → Joined
-fitted l = cond (leb (length l) dotLimit) (record { over = false; clock = clockOf l }) (record { over = true; clock = clockOf [] })
+abbrev pub fitted : List Dot → Joined
+fitted l = within dotLimit (λ d. record { over = false; clock = clockOf d }) (record { over = true; clock = clockOf [] }) l
 
 unfoldable pub isEmpty : List Dot → Bool
 isEmpty l = eqb (length l) 0

@@ -29,6 +29,14 @@ module _ {B S : Type 0} {pack : List B → S} where
     parts = g .parts ∙ ap (λ r. g .done ++ r) e ∙ sym (append-snoc (g .done) v more);
   }
 
+  -- several elements more, or none
+  pub grow-more : {s t : S} {whole rest : List B} (chunk : List B) {more : List B} → Growing pack whole rest s → rest ≡ chunk ++ more → ((l : List B) → s ≡ pack l → t ≡ pack (l ++ chunk)) → Growing pack whole more t
+  grow-more chunk {more} g e f = record {
+    done = g .done ++ chunk;
+    packed = f (g .done) (g .packed);
+    parts = g .parts ∙ ap (λ r. g .done ++ r) e ∙ sym (append-assoc (g .done) chunk more);
+  }
+
   -- an element that leaves the rest as it is
   pub grow-skip : {s : S} {whole rest more : List B} → Growing pack whole rest s → rest ≡ more → Growing pack whole more s
   grow-skip g e = record { done = g .done; packed = g .packed; parts = g .parts ∙ ap (λ r. g .done ++ r) e }

@@ -9,9 +9,16 @@ pub mod Weaving
 pub mod Sifts
 pub mod Folds
 pub mod Orders
+pub mod Limits
 pub mod Weaves
 pub mod Those
 pub mod Levels
 pub mod Woven
 pub mod Firsts
 pub mod Ranks
+pub mod Twice
+pub mod Uniting
+pub mod Somes
+pub mod Sides
+pub mod Tally
+pub mod Perms

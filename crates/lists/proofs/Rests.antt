@@ -2,16 +2,17 @@
 -- Assumes nothing.
 use mathlib.Core.Path.{_≡_, refl}
 use mathlib.Core.Bool.{Bool, true, false}
-use mathlib.Core.List.{List, [], _∷_, map}
+use mathlib.Core.List.{List, [], _∷_, _++_, map, List·Memᴰ·head, Memᴰ·append-right}
 use Prim.Native.Nat.{ℕ, _+_, _≤_, _<_}
 use native.Mathlib.Numerals.{add-one}
 use native.Mathlib.Omega.{arith}
-use lib.ListN.{length, take, drop, getD, length-take, drop-of-length-le}
+use lib.ListN.{length, take, drop, getD, length-take, drop-of-length-le, take-append-drop}
 use lib.Seq.{drop-cons, getD-take}
 use Rattle.lists.specs.Sift.{sift}
 use Rattle.lists.specs.First.{firstIn}
 use Rattle.lists.specs.Fold.{fold}
 use Rattle.lists.specs.Weave.{weave}
+use Rattle.lists.specs.Order.{_∈_}
 
 module _ {A : Type 0} (xs : List A) (n i : ℕ) (d : A) (h : i < length (take n xs)) where
   in-use : getD (take n xs) i d ≡ getD xs i d
@@ -19,6 +20,10 @@ module _ {A : Type 0} (xs : List A) (n i : ℕ) (d : A) (h : i < length (take n 
 
   pub drop-step : drop i (take n xs) ≡ getD xs i d ∷ drop (i + 1) (take n xs)
   drop-step = rw (add-one, ← in-use) (drop-cons (take n xs) i d h)
+
+  -- what is looked at stands in the list
+  pub in-list : getD xs i d ∈ take n xs
+  in-list = rw take-append-drop at (Memᴰ·append-right {a = getD xs i d} (take i (take n xs)) {t = drop i (take n xs)} (rw drop-step (List·Memᴰ·head refl)))
 
   module _ {B : Type 0} (keep : B → Bool) (change : A → B) where
     pub sift-yes : keep (change (getD xs i d)) ≡ true → sift keep change (drop i (take n xs)) ≡ change (getD xs i d) ∷ sift keep change (drop (i + 1) (take n xs))

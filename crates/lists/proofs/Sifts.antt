@@ -26,3 +26,12 @@ module _ {A B : Type 0} (keep : B → Bool) (change : A → B) where
       go : (b : Bool) (s : List B) → length s ≤ length l → length (cond b (change x ∷ s) s) ≤ suc (length l)
       go true s h = omega arith
       go false s h = omega arith
+
+-- the first element, and the rest
+pub sift-one : {A B : Type 0} (keep : B → Bool) (change : A → B) (x : A) (l : List A) → sift keep change (x ∷ l) ≡ those keep (change x ∷ []) ++ sift keep change l
+unfolding sift
+sift-one keep change x l = go (keep (change x))
+  where
+    go : (b : Bool) → cond b (change x ∷ sift keep change l) (sift keep change l) ≡ cond b (change x ∷ []) [] ++ sift keep change l
+    go true = refl
+    go false = refl

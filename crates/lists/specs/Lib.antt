@@ -4,3 +4,4 @@ pub mod First
 pub mod Fold
 pub mod Weave
 pub mod Order
+pub mod Limit

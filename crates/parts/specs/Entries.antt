@@ -6,6 +6,7 @@ use Prim.Native.Nat.{ℕ}
 use lib.Dec.{ltb, eqb}
 use Rattle.lists.specs.Sift.{sift, those}
 use Rattle.lists.specs.First.{firstIn, some}
+use Rattle.lists.specs.Fold.{fold}
 use Rattle.lists.specs.Weave.{weave}
 use Rattle.lists.specs.Order.{by}
 use Rattle.clock.specs.declared.Dot.{Dot}
@@ -32,6 +33,10 @@ removeFrom r e = cond (listed (listedIn r) (e .key)) (cutEntry (underOf r) e) e
 
 unfoldable pub removeEntries : Removal → List Entry → List Entry
 removeEntries r l = sift stays (removeFrom r) l
+
+-- one removal after the other
+abbrev pub run : List Removal → Entry → Entry
+run l e = fold (λ x r. removeFrom r x) e l
 
 -- "add the dot to the entry, apply the put"
 unfoldable pub putEntry : Update → Entry → Entry
@@ -65,6 +70,10 @@ together ours theirs e f =
     let keep = keepDots ours theirs (dotsIn e) (dotsIn f) in
     entryAs (e .key) keep (cutValues (cutDots keep (joinDots (dotsIn e) (dotsIn f))) (mergeValues (valuesIn e) (valuesIn f)))
 
+-- what stands on one side only, and what stands on both, by key
+abbrev pub weaveEntries : List Dot → List Dot → List Entry → List Entry → List Entry
+weaveEntries ours theirs l m = weave (by (λ e. e .key)) (alone theirs) (alone ours) (together ours theirs) l m
+
 -- "Empty: the entry goes." "Should the cut leave the entry clock empty, the entry is dropped."
 unfoldable pub mergeEntries : List Dot → List Dot → List Entry → List Entry → List Entry
-mergeEntries ours theirs l m = those stays (weave (by (λ e. e .key)) (alone theirs) (alone ours) (together ours theirs) l m)
+mergeEntries ours theirs l m = those stays (weaveEntries ours theirs l m)

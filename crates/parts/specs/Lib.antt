@@ -1,3 +1,4 @@
 pub mod Model
 pub mod Entries
 pub mod Waits
+pub mod Valid

@@ -1,19 +1,29 @@
 -- The parts of a map as lists: entries by key, removals that wait by clock, sets of keys; and the limits on each.
 -- Assumes nothing.
+use mathlib.Core.Path.{_≡_}
+use mathlib.Core.Bool.{Bool, true, false, not, _&&_, cond}
 use mathlib.Core.List.{List, []}
-use Prim.Native.Nat.{ℕ}
+use Prim.Native.Nat.{ℕ, _≤_}
+use lib.Dec.{ltb, leb}
 use lib.ListN.{length, take}
+use Rattle.lists.specs.First.{some}
+use Rattle.lists.specs.Limit.{within}
 use Rattle.lists.specs.Pad.{pad}
 use Rattle.clock.specs.declared.Dot.{Dot}
 use Rattle.clock.specs.Dots.{noDot, dotsOf, clockOf}
 use Rattle.register.specs.declared.Value.{Value}
-use Rattle.register.specs.Values.{noValue, valuesOf, registerOf}
+use Rattle.register.specs.Values.{valueLimit, noValue, valuesOf, registerOf, wideOf}
 use Rattle.parts.specs.declared.Entry.{Entry}
 use Rattle.parts.specs.declared.Entries.{Entries}
 use Rattle.parts.specs.declared.Keys.{Keys}
 use Rattle.parts.specs.declared.Removal.{Removal}
 use Rattle.parts.specs.declared.Waiting.{Waiting}
 use Rattle.parts.specs.declared.Update.{Update}
+use Rattle.parts.specs.declared.United.{United}
+use Rattle.parts.specs.declared.Hand.{Hand}
+use Rattle.parts.specs.declared.Finished.{Finished}
+use Rattle.parts.specs.declared.Gathered.{Gathered}
+use Rattle.parts.specs.declared.Remnant.{Remnant}
 
 -- the limits: so many entries, so many waiting removals, so many keys in each
 abbrev pub entryLimit : ℕ
@@ -73,3 +83,49 @@ waitingAs l = record { items = pad noRemoval waitingLimit l; len = length l }
 -- the part of an operation that is not in use
 abbrev pub noUpdate : Update
 noUpdate = record { dot = noDot; key = 0; put = noValue }
+
+-- a set of keys that may have grown over the limit
+abbrev pub keysFit : List ℕ → United
+keysFit l = within keyLimit (λ k. record { over = false; keys = keysAs k }) (record { over = true; keys = keysAs [] }) l
+
+-- an entry in hand
+abbrev pub handOf : Entry → Hand
+handOf e = record { key = e .key; clock = e .clock; wide = wideOf (valuesIn e) }
+
+-- an entry laid down with zeros behind its dots and its values
+abbrev pub Laid : Entry → Type 0
+Laid e = e ≡ entryAs (e .key) (dotsIn e) (valuesIn e)
+
+-- finished entries: how many there are, whether one has too many values, and the entries where they are within both limits
+abbrev pub overfull : Entry → Bool
+overfull e = ltb valueLimit (length (valuesIn e))
+
+unfoldable pub finished : List Entry → Finished
+finished l = record {
+  count = length l;
+  wide = some overfull l;
+  entries = cond (leb (length l) entryLimit && not (some overfull l)) (entriesAs l) (entriesAs []);
+}
+
+-- so many entries at most have been finished, and no more are stored
+abbrev pub Counted : Finished → ℕ → Type 0
+Counted f n = (f .count ≤ n) × (f .entries .len ≤ f .count)
+
+-- united removals: how many there are, whether one has too many keys, and the removals where they are within both limits
+abbrev pub overlong : Removal → Bool
+overlong r = ltb keyLimit (length (listedIn r))
+
+unfoldable pub gathered : List Removal → Gathered
+gathered l = record {
+  count = length l;
+  long = some overlong l;
+  waiting = cond (leb (length l) waitingLimit && not (some overlong l)) (waitingAs l) (waitingAs []);
+}
+
+-- so many removals at most have been united, and no more are stored
+abbrev pub Numbered : Gathered → ℕ → Type 0
+Numbered g n = (g .count ≤ n) × (g .waiting .len ≤ g .count)
+
+-- united removals, or that one of them has too many keys
+unfoldable pub remnantOf : List Removal → Remnant
+remnantOf l = cond (some overlong l) (record { over = true; waiting = waitingAs [] }) (record { over = false; waiting = waitingAs l })

@@ -1,14 +1,15 @@
 -- Laws of a register as a pack of its values, and of the limit.
 -- Assumes nothing.
 use mathlib.Core.Path.{_≡_, refl, ap, sym, _∙_}
-use mathlib.Core.Bool.{Bool, true, false}
+use mathlib.Core.Bool.{true, false}
 use mathlib.Core.List.{List, [], _∷_, _++_}
 use Prim.Native.Nat.{ℕ, _+_, _≤_, _<_}
 use native.Mathlib.Omega.{arith}
-use borrow.Author.Tests.{le-leb, lt-leb}
+use lib.Dec.{ltb}
 use lib.ListN.{length, set, length-append}
 use Rattle.lists.proofs.Pads.{take-pad, push-pad, length-snoc}
 use Rattle.lists.proofs.Sifts.{length-sift}
+use Rattle.lists.proofs.Limits.{within-fits, within-exceeds, flag-set, flag-clear, flag-is}
 use Rattle.clock.specs.declared.Dot.{Dot}
 use Rattle.register.specs.declared.Value.{Value}
 use Rattle.register.specs.declared.Register.{Register}
@@ -34,14 +35,28 @@ pushed l v e h = rw (e, push-pad noValue valueLimit l v h, length-snoc l v)
 pub wide-pushed : {w : Wide} (l : List Value) (v : Value) → w ≡ wideOf l → length l < wideRoom → _≡_ {A = Wide} (record { values = set (w .values) (w .len) v; len = w .len + 1 }) (wideOf (l ++ (v ∷ [])))
 wide-pushed l v e h = rw (e, push-pad noValue wideRoom l v h, length-snoc l v)
 
--- within the limit the answer is the register, above it none
+-- the two answers of what is laid down
+abbrev good : List Value → Settled
+good v = record { over = false; register = registerOf v }
+
+abbrev bad : Settled
+bad = record { over = true; register = registerOf [] }
+
 pub fits : (l : List Value) → length l ≤ valueLimit → settled l ≡ record { over = false; register = registerOf l }
-unfolding settled
-fits l h = rw (le-leb (length l) valueLimit h)
+fits l h = within-fits valueLimit good bad l h
 
 pub exceeds : (l : List Value) → valueLimit < length l → settled l ≡ record { over = true; register = registerOf [] }
-unfolding settled
-exceeds l h = rw (lt-leb (length l) valueLimit h)
+exceeds l h = within-exceeds valueLimit good bad l h
+
+-- what the flag says of the list
+pub over-means : {s : Settled} (l : List Value) → s ≡ settled l → s .over ≡ true → valueLimit < length l
+over-means l e t = flag-set valueLimit good bad (λ s. s .over) (λ v. refl) refl l e t
+
+pub within-means : {s : Settled} (l : List Value) → s ≡ settled l → s .over ≡ false → length l ≤ valueLimit
+within-means l e t = flag-clear valueLimit good bad (λ s. s .over) (λ v. refl) refl l e t
+
+pub settled-over : (l : List Value) → settled l .over ≡ ltb valueLimit (length l)
+settled-over l = flag-is valueLimit good bad (λ s. s .over) (λ v. refl) refl l
 
 pub cut-length : (c : List Dot) (l : List Value) → length (cutValues c l) ≤ length l
 unfolding cutValues

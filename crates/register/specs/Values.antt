@@ -3,12 +3,13 @@
 use mathlib.Core.Bool.{Bool, true, false, not, _&&_, cond}
 use mathlib.Core.List.{List, [], _∷_, _++_, map}
 use Prim.Native.Nat.{ℕ}
-use lib.Dec.{leb, eqb}
+use lib.Dec.{eqb}
 use lib.ListN.{length, take}
 use Rattle.lists.specs.Pad.{pad}
 use Rattle.lists.specs.Sift.{sift, those}
 use Rattle.lists.specs.First.{some, none}
 use Rattle.lists.specs.Fold.{fold}
+use Rattle.lists.specs.Limit.{within}
 use Rattle.clock.specs.declared.Dot.{Dot}
 use Rattle.clock.specs.declared.Order.{Order}
 use Rattle.clock.specs.declared.Order.the-variants.{Equal, Greater, Less, Concurrent}
@@ -50,8 +51,8 @@ abbrev pub numbersOf : List ℕ → Numbers
 numbersOf l = record { items = pad 0 valueLimit l; len = length l }
 
 -- the register of these values, or that it is over the limit
-unfoldable pub settled : List Value → Settled
-settled l = cond (leb (length l) valueLimit) (record { over = false; register = registerOf l }) (record { over = true; register = registerOf [] })
+abbrev pub settled : List Value → Settled
+settled l = within valueLimit (λ v. record { over = false; register = registerOf v }) (record { over = true; register = registerOf [] }) l
 
 -- a clock that is less than another, or, where `equalToo` says so, equal to it
 abbrev pub yielding : Bool → Order → Bool

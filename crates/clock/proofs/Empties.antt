@@ -1,0 +1,35 @@
+-- Laws of the clock without dots.
+-- Assumes nothing.
+use mathlib.Core.Path.{_≡_, refl, ap}
+use mathlib.Core.Bool.{true, false}
+use mathlib.Core.List.{List, [], _∷_}
+use Prim.Native.Nat.{ℕ, _<_}
+use native.Mathlib.Omega.{arith}
+use borrow.Author.Tests.{eqb-true, ne-eqb}
+use lib.ListN.{length}
+use Rattle.lists.specs.Sift.{sift}
+use Rattle.lists.specs.First.{firstIn}
+use Rattle.clock.specs.declared.Dot.{Dot}
+use Rattle.clock.specs.Dots.{isEmpty, counterIn, covers, cutDots}
+use Rattle.clock.proofs.Counters.{counter-nil}
+
+pub empty-means : (l : List Dot) → isEmpty l ≡ true → l ≡ []
+unfolding isEmpty
+empty-means [] t = refl
+empty-means (x ∷ l) t = absurd (omega (arith, eqb-true (length (x ∷ l)) 0 t))
+
+-- what is empty stays empty under a cut
+pub empty-cut : (c l : List Dot) → isEmpty l ≡ true → isEmpty (cutDots c l) ≡ true
+unfolding cutDots sift isEmpty
+empty-cut c l t = rw (empty-means l t) refl
+
+-- a clock with a counter is not empty
+pub counter-some : (l : List Dot) (a : ℕ) → 0 < counterIn l a → isEmpty l ≡ false
+unfolding isEmpty
+counter-some [] a h = absurd (omega (arith, counter-nil a))
+counter-some (x ∷ l) a h = ne-eqb (length (x ∷ l)) 0 (λ e. omega arith)
+
+-- every clock covers the empty one
+pub covers-empty : (a b : List Dot) → isEmpty b ≡ true → covers a b ≡ true
+unfolding covers firstIn
+covers-empty a b t = ap (covers a) (empty-means b t)

@@ -1,0 +1,17 @@
+-- `Entry::cut` meets its contract, by the clock's and the register's. Assumes nothing.
+use Rattle.parts.specs.Entries.{cutEntry}
+use borrow.Author.Needs.{needs}
+use Rattle.parts.proofs.Entry.cut.Statement.{statement}
+use Rattle.parts.proofs.Entry.cut.Tie as tie
+
+returns : tie.Need-returns
+unfolding cutEntry
+returns c = rw (c .before .cut .ensures, c .cut2 .ensures)
+
+pub cut-spec : {M : Type 1} → statement M
+cut-spec =
+    tie.close
+    (tie.spec
+    (λ c κs. search needs)
+    (λ c κs. search needs)
+    returns)

@@ -1,0 +1,48 @@
+-- `Entry::together` meets its contract: both joins fit. Assumes nothing.
+use mathlib.Core.Path.{_≡_, ap, sym, _∙_}
+use borrow.Author.Needs.{needs}
+use Rattle.clock.specs.Dots.{dotsOf, fitted}
+use Rattle.clock.proofs.Packs.{fits, dots-of}
+use Rattle.register.proofs.Packs.{wide-values}
+use Rattle.parts.specs.Model.{dotsIn}
+use Rattle.parts.specs.Entries.{keepDots, together}
+use Rattle.parts.proofs.Packs.{hand-as}
+use Rattle.parts.proofs.Entry.together.Statement.{statement}
+use Rattle.parts.proofs.Entry.together.Tie as tie
+
+-- both joins, as one
+joined : (c : tie.After-join2) → let a = c .before .before .before .before .before in
+    c .join2 .result ≡ fitted (keepDots (dotsOf (a .args .ours)) (dotsOf (a .args .theirs)) (dotsIn (a .args .self)) (dotsIn (a .args .other)))
+unfolding keepDots
+joined c =
+    let j = c .before in
+    let y = j .before in
+    let m = y .before in
+    c .join2 .ensures _ (j .join .ensures) ∙ rw (dots-of _ (y .cut2 .ensures), dots-of _ (m .cut .ensures), dots-of _ (m .before .common .ensures))
+
+returns : tie.Need-returns
+unfolding together
+returns c =
+    let m = c .before in
+    let d = m .before in
+    let j = d .before in
+    let q = j .before .before in
+    let a = q .before .before .before .before .before in
+    let k = ap (λ r. r .clock) (joined q ∙ fits _ (a .pre .0)) in
+    let all = ap (λ r. r .clock) (j .join3 .ensures ∙ fits _ (a .pre .1)) in
+    rw (k, c .cut4 .ensures, wide-values _ (m .merge .ensures), dots-of _ (d .cut3 .ensures), dots-of _ all, dots-of _ k) (sym (hand-as _ _ _))
+
+pub together-spec : {M : Type 1} → statement M
+together-spec =
+    tie.close
+    (tie.spec
+    (λ c κs. search needs)
+    (λ c κs. search needs)
+    (λ c κs. search needs)
+    (λ c κs. search needs)
+    (λ c κs. search needs)
+    (λ c κs. search needs)
+    (λ c κs. search needs)
+    (λ c κs. search needs)
+    (λ c κs. search needs)
+    returns)

@@ -1,0 +1,120 @@
+-- Laws of removals united one after the other, as a reset leaves them.
+-- Assumes nothing.
+use mathlib.Core.Path.{_≡_, refl, ap, sym, _∙_}
+use mathlib.Core.Bool.{Bool, true, false, not, cond}
+use mathlib.Core.Logic.{⊎-elim}
+use mathlib.Core.List.{List, [], _∷_, List·Memᴰ·not-nil}
+use Prim.Native.Nat.{ℕ, _+_, _≤_, _<_}
+use native.Mathlib.Omega.{arith}
+use borrow.Author.Tests.{ltb-true, lt-ltb, le-leb}
+use lib.ListN.{length, drop, getD, take}
+use Rattle.lists.specs.First.{some}
+use Rattle.lists.specs.Fold.{fold}
+use Rattle.lists.specs.Order.{_∈_, by}
+use Rattle.lists.specs.Sift.{sift}
+use Rattle.lists.specs.Weave.{weave}
+use Rattle.lists.proofs.Orders.{apart}
+use Rattle.lists.proofs.Somes.{some-means, some-holds}
+use Rattle.lists.proofs.Rests.{sift-yes, sift-no, drop-end}
+use Rattle.lists.proofs.Weaves.{weave-longer, weave-shorter}
+use Rattle.clock.specs.declared.Dot.{Dot}
+use Rattle.clock.specs.Dots.{isEmpty}
+use Rattle.parts.specs.declared.Removal.{Removal}
+use Rattle.parts.specs.declared.Gathered.{Gathered}
+use Rattle.parts.specs.declared.Remnant.{Remnant}
+use Rattle.parts.specs.Model.{waitingLimit, keyLimit, keysAs, underOf, listedIn, waitingOf, waitingAs, overlong, gathered, remnantOf}
+use Rattle.parts.specs.Waits.{removalBefore, unionKeys, unite, uniteAll, uniteInto, cutRemoval, remains}
+use Rattle.parts.specs.Valid.{ValidRemoval, ValidWaiting}
+use Rattle.parts.proofs.Packs.{noRemovalRead, waiting-of}
+use Rattle.parts.proofs.Waits.{unite-left, unite-keys}
+use Rattle.parts.proofs.Held.{valid-unite-into}
+
+pub held-long : (l : List Removal) → some overlong l ≡ true → remnantOf l ≡ record { over = true; waiting = waitingAs [] }
+unfolding remnantOf
+held-long l t = rw t
+
+pub held-short : (l : List Removal) → some overlong l ≡ false → remnantOf l ≡ record { over = false; waiting = waitingAs l }
+unfolding remnantOf
+held-short l t = rw t
+
+-- the flag is the test
+pub held-over : (l : List Removal) → remnantOf l .over ≡ some overlong l
+held-over l = go (some overlong l) refl
+  where
+    go : (b : Bool) → some overlong l ≡ b → remnantOf l .over ≡ some overlong l
+    go true t = ap (λ h. h .over) (held-long l t) ∙ sym t
+    go false t = ap (λ h. h .over) (held-short l t) ∙ sym t
+
+-- a union lists no fewer keys
+union-longer : (x y : Removal) → length (listedIn x) ≤ length (listedIn (unite x y))
+unfolding unionKeys
+union-longer x y = rw (unite-keys x y) (weave-longer (by (λ k. k)) (λ k. k) (λ k. k) (λ a b. a) (listedIn x) (listedIn y))
+
+-- once too long, always too long
+pub long-stays : {l m : List Removal} → ValidWaiting l → ValidWaiting m → some overlong l ≡ true → some overlong (uniteAll l m) ≡ true
+long-stays {l} {m} a b t =
+    let r = some-means overlong l t in
+    ⊎-elim
+    (λ i. some-holds overlong i (r .2))
+    (λ s. some-holds overlong (s .3) (lt-ltb keyLimit (length (listedIn (unite (r .0) (s .0)))) (omega (arith, ltb-true keyLimit (length (listedIn (r .0))) (r .2), union-longer (r .0) (s .0)))))
+    (unite-left (a .rising) (b .rising) (r .1))
+
+-- what is gathered with no list of keys too long, and not too many
+pub gathered-short : {g : Gathered} (l : List Removal) → g ≡ gathered l → g .long ≡ false → length l ≤ waitingLimit → (some overlong l ≡ false) × (g .waiting ≡ waitingAs l)
+unfolding gathered
+gathered-short {g} l q t h =
+    let s : some overlong l ≡ false = sym (ap (λ k. k .long) q) ∙ t in
+    (s, ap (λ k. k .waiting) q ∙ rw (le-leb (length l) waitingLimit h, s))
+
+pub unite-few : (l : List Removal) (r : Removal) → length (uniteInto l r) ≤ length l + 1
+unfolding uniteAll
+unite-few l r = weave-shorter removalBefore (λ w. w) (λ w. w) unite l (r ∷ [])
+
+-- no more are stored than there are, and each of them is one of the list
+pub remnant-few : (l : List Removal) → remnantOf l .waiting .len ≤ length l
+remnant-few l = go (some overlong l) refl
+  where
+    go : (b : Bool) → some overlong l ≡ b → remnantOf l .waiting .len ≤ length l
+    go true t = rw (held-long l t) (omega arith)
+    go false t = rw (held-short l t) (omega arith)
+
+pub remnant-in : (l : List Removal) (w : Removal) → w ∈ waitingOf (remnantOf l .waiting) → w ∈ l
+remnant-in l w i = go (some overlong l) refl
+  where
+    go : (b : Bool) → some overlong l ≡ b → w ∈ l
+    go true t = absurd (List·Memᴰ·not-nil (rw (waiting-of [] (ap (λ h. h .waiting) (held-long l t))) at i))
+    go false t = rw (waiting-of l (ap (λ h. h .waiting) (held-short l t))) at i
+
+pub gathered-long : {g : Gathered} (l : List Removal) → g ≡ gathered l → g .long ≡ true → some overlong l ≡ true
+unfolding gathered
+gathered-long l q t = sym (ap (λ k. k .long) q) ∙ t
+
+-- i of the n waiting removals are cut and united
+pub record Uniting (c : List Dot) (xs : List Removal) (n i : ℕ) (h : Remnant) : Type 0 where
+  pub state : List Removal
+  pub packed : h ≡ remnantOf state
+  pub left : fold uniteInto [] (sift remains (cutRemoval c) (take n xs)) ≡ fold uniteInto state (sift remains (cutRemoval c) (drop i (take n xs)))
+  pub few : length state ≤ i
+  pub valid : ValidWaiting state
+
+module _ {c : List Dot} {xs : List Removal} {n i : ℕ} {h : Remnant} (u : Uniting c xs n i h) (k : i < length (take n xs)) where
+  -- a removal that is left with a dot
+  pub unite-next : {r : Removal} {o : Remnant} → r ≡ cutRemoval c (getD xs i noRemovalRead) → remains r ≡ true → ValidRemoval r → isEmpty (underOf r) ≡ false → o ≡ remnantOf (uniteInto (u .state) r) → Uniting c xs n (i + 1) o
+  unfolding fold
+  unite-next {r} e t v s q = record {
+    state = uniteInto (u .state) r;
+    packed = q;
+    left = u .left ∙ ap (fold uniteInto (u .state)) (sift-yes xs n i noRemovalRead k remains (cutRemoval c) (rw e at t)) ∙ rw e;
+    few = omega (arith, u .few, unite-few (u .state) r);
+    valid = valid-unite-into (u .valid) v s;
+  }
+
+  -- one that is not
+  pub unite-skip : {r : Removal} → r ≡ cutRemoval c (getD xs i noRemovalRead) → remains r ≡ false → Uniting c xs n (i + 1) h
+  unite-skip e t = record {
+    state = u .state;
+    packed = u .packed;
+    left = u .left ∙ ap (fold uniteInto (u .state)) (sift-no xs n i noRemovalRead k remains (cutRemoval c) (rw e at t));
+    few = omega (arith, u .few);
+    valid = u .valid;
+  }

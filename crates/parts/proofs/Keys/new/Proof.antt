@@ -1,0 +1,15 @@
+-- `Keys::new` meets its contract. Assumes nothing.
+use Rattle.lists.specs.Pad.{pad}
+use borrow.Author.Needs.{needs}
+use Rattle.parts.proofs.Keys.new.Statement.{statement}
+use Rattle.parts.proofs.Keys.new.Tie as tie
+
+returns : tie.Need-returns
+unfolding pad
+returns c = search needs
+
+pub new-spec : {M : Type 1} → statement M
+new-spec =
+    tie.close
+    (tie.spec
+    returns)

@@ -1,0 +1,19 @@
+-- `Keys::push` meets its contract: a store behind the last key. Assumes nothing.
+use mathlib.Core.Path.{ap}
+use Rattle.parts.proofs.Sets.{key-pushed}
+use borrow.Author.Needs.{needs}
+use native.Mathlib.Omega.{arith}
+use Rattle.parts.proofs.Keys.push.Statement.{statement}
+use Rattle.parts.proofs.Keys.push.Tie as tie
+
+returns : tie.Need-returns
+returns c = λ l e. key-pushed l _ e (omega (arith, ap (λ k. k .len) e))
+
+pub push-spec : {M : Type 1} → statement M
+push-spec =
+    tie.close
+    (tie.spec
+    (λ c. search needs)
+    (λ c. search needs)
+    (λ c. search needs)
+    returns)

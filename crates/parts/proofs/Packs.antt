@@ -1,0 +1,90 @@
+-- Laws of entries and removals as packs of their lists.
+-- Assumes nothing.
+use mathlib.Core.Path.{_≡_, refl, ap, sym, _∙_}
+use mathlib.Core.Bool.{Bool, true, false, cond}
+use mathlib.Core.List.{List, [], _∷_, _++_}
+use Prim.Native.Nat.{ℕ, _+_, _≤_, _<_}
+use lib.ListN.{length, set}
+use Rattle.lists.specs.Fold.{fold}
+use Rattle.lists.proofs.Pads.{take-pad, push-pad, length-snoc}
+use Rattle.lists.proofs.Sifts.{length-sift}
+use Rattle.clock.specs.declared.Dot.{Dot}
+use Rattle.clock.specs.Dots.{noDot, dotLimit, clockOf, covers, cutDots}
+use Rattle.register.specs.declared.Value.{Value}
+use Rattle.register.specs.Values.{noValue, valueLimit, wideOf, cutValues}
+use Rattle.parts.specs.declared.Entry.{Entry}
+use Rattle.parts.specs.declared.Entries.{Entries}
+use Rattle.parts.specs.declared.Hand.{Hand}
+use Rattle.parts.specs.declared.Removal.{Removal}
+use Rattle.parts.specs.declared.Waiting.{Waiting}
+use Rattle.parts.specs.declared.Update.{Update}
+use Rattle.parts.specs.Model.{entryLimit, waitingLimit, noEntry, noRemoval, dotsIn, valuesIn, entryAs, underOf, listedIn, entriesOf, entriesAs, waitingOf, waitingAs, handOf, Laid}
+use Rattle.parts.specs.Entries.{stays, cutEntry, listed, removeFrom, removeEntries, run, putEntry, alone, together}
+
+-- what the logic reads past the end of an array of entries, or of removals
+abbrev pub noneRead : Entry
+noneRead = record { key = 0; clock = record { dots = []; len = 0 }; register = record { values = []; len = 0 } }
+
+abbrev pub noRemovalRead : Removal
+noRemovalRead = record { clock = record { dots = []; len = 0 }; keys = record { items = []; len = 0 } }
+
+module _ (k : ℕ) (c : List Dot) (l : List Value) where
+  pub dots-as : dotsIn (entryAs k c l) ≡ c
+  dots-as = take-pad noDot dotLimit c
+
+  pub values-as : valuesIn (entryAs k c l) ≡ l
+  values-as = take-pad noValue valueLimit l
+
+  -- an entry in hand, by its parts
+  pub hand-as : handOf (entryAs k c l) ≡ record { key = k; clock = clockOf c; wide = wideOf l }
+  hand-as = rw values-as
+
+  pub laid-as : Laid (entryAs k c l)
+  laid-as = rw (dots-as, values-as)
+
+pub entries-of : {e : Entries} (l : List Entry) → e ≡ entriesAs l → entriesOf e ≡ l
+entries-of l e = rw e (take-pad noEntry entryLimit l)
+
+pub waiting-of : {w : Waiting} (l : List Removal) → w ≡ waitingAs l → waitingOf w ≡ l
+waiting-of l e = rw e (take-pad noRemoval waitingLimit l)
+
+-- one stored behind the last
+pub entry-pushed : {e : Entries} (l : List Entry) (x : Entry) → e ≡ entriesAs l → length l < entryLimit → _≡_ {A = Entries} (record { items = set (e .items) (e .len) x; len = e .len + 1 }) (entriesAs (l ++ (x ∷ [])))
+entry-pushed l x e h = rw (e, push-pad noEntry entryLimit l x h, length-snoc l x)
+
+pub removal-pushed : {w : Waiting} (l : List Removal) (x : Removal) → w ≡ waitingAs l → length l < waitingLimit → _≡_ {A = Waiting} (record { items = set (w .items) (w .len) x; len = w .len + 1 }) (waitingAs (l ++ (x ∷ [])))
+removal-pushed l x e h = rw (e, push-pad noRemoval waitingLimit l x h, length-snoc l x)
+
+pub remove-length : (r : Removal) (l : List Entry) → length (removeEntries r l) ≤ length l
+unfolding removeEntries
+remove-length r l = length-sift stays (removeFrom r) l
+
+-- removals leave an entry laid down
+laid-from : (r : Removal) (e : Entry) → Laid e → Laid (removeFrom r e)
+unfolding removeFrom cutEntry
+laid-from r e h = go (listed (listedIn r) (e .key))
+  where
+    go : (b : Bool) → Laid (cond b (entryAs (e .key) (cutDots (underOf r) (dotsIn e)) (cutValues (underOf r) (valuesIn e))) e)
+    go true = laid-as _ _ _
+    go false = h
+
+pub laid-run : (l : List Removal) (e : Entry) → Laid e → Laid (run l e)
+unfolding fold
+laid-run [] e h = h
+laid-run (r ∷ l) e h = laid-run l (removeFrom r e) (laid-from r e h)
+
+pub laid-alone : (other : List Dot) (e : Entry) → Laid (alone other e)
+unfolding alone
+laid-alone other e = go (covers other (dotsIn e))
+  where
+    go : (b : Bool) → Laid (cond b (entryAs (e .key) [] []) (entryAs (e .key) (cutDots other (dotsIn e)) (cutValues (cutDots (cutDots other (dotsIn e)) other) (valuesIn e))))
+    go true = laid-as _ _ _
+    go false = laid-as _ _ _
+
+pub laid-together : (ours theirs : List Dot) (e f : Entry) → Laid (together ours theirs e f)
+unfolding together
+laid-together ours theirs e f = laid-as _ _ _
+
+pub laid-put : (u : Update) (e : Entry) → Laid (putEntry u e)
+unfolding putEntry
+laid-put u e = laid-as _ _ _

@@ -1,0 +1,63 @@
+-- `Remnant::unite` meets its contract: too many keys stay too many, and the union is kept where it fits. Assumes nothing.
+use mathlib.Core.Path.{_≡_, ap, sym, _∙_}
+use mathlib.Core.List.{List, [], _∷_, List·Memᴰ·eq-of-singleton}
+use Rattle.lists.specs.Order.{_∈_}
+use Rattle.parts.specs.declared.Removal.{Removal}
+use Rattle.parts.specs.Model.{keysAs, listedIn, waitingOf, gathered, remnantOf}
+use Rattle.parts.specs.Waits.{uniteAll, uniteInto}
+use Rattle.parts.proofs.Packs.{waiting-of}
+use Rattle.parts.proofs.Hold.{held-long, held-short, held-over, long-stays, gathered-short, gathered-long, unite-few}
+use borrow.Author.Needs.{needs}
+use native.Mathlib.Omega.{arith}
+use Rattle.parts.proofs.Remnant.unite.Statement.{statement}
+use Rattle.parts.proofs.Remnant.unite.Tie as tie
+
+returns : tie.Need-returns
+returns c = λ l v w q.
+    let t = sym (ap (λ h. h .over) q ∙ held-over l) ∙ c .if1 .taken in
+    q ∙ held-long l t ∙ sym (held-long _ (long-stays v w t))
+
+push-requires : tie.Need-push-requires
+push-requires c κs = omega (arith, ap (λ k. k .len) (c .new .ensures))
+
+join-requires : tie.Need-join-requires
+join-requires c κs =
+    let z = c .before .before .before in
+    let e = waiting-of _ (c .push .ensures .1 [] (c .before .new .ensures)) in
+    (z .pre .1, λ r i. rw (List·Memᴰ·eq-of-singleton (rw e at i)) (z .pre .2))
+
+-- what is joined, where nothing was too long
+joined : (c : tie.After-join) → let z = c .before .before .before .before in (l : List Removal) → z .args .self ≡ remnantOf l
+    → (c .join .result ≡ gathered (uniteInto l (z .args .r))) × (waitingOf (z .args .self .waiting) ≡ l)
+joined c l q =
+    let p = c .before in
+    let i = p .before .before in
+    let z = i .before in
+    let t = sym (ap (λ h. h .over) q ∙ held-over l) ∙ i .if1 .left in
+    let w = waiting-of l (ap (λ h. h .waiting) (q ∙ held-short l t)) in
+    (c .join .ensures ∙ rw (w, waiting-of _ (p .push .ensures .1 [] (p .before .new .ensures))), w)
+
+returns-2 : tie.Need-returns-2
+returns-2 c = λ l v w q.
+    let g = c .before .before in
+    rw (c .new2 .ensures) (sym (held-long _ (gathered-long _ (joined g l q .0) (c .before .if2 .taken))))
+
+returns-3 : tie.Need-returns-3
+returns-3 c = λ l v w q.
+    let g = c .before .before in
+    let z = g .before .before .before .before in
+    let j = joined g l q in
+    let s = gathered-short _ (j .0) (c .before .if2 .left) (omega (arith, unite-few l (z .args .r), z .pre .0, ap (λ h. h .waiting .len) (q ∙ held-short l (sym (ap (λ h. h .over) q ∙ held-over l) ∙ g .before .before .before .if1 .left)))) in
+    rw (s .1) (sym (held-short _ (s .0)))
+
+pub unite-spec : {M : Type 1} → statement M
+unite-spec =
+    tie.close
+    (tie.spec
+    returns
+    (λ c κs. search needs)
+    push-requires
+    join-requires
+    (λ c κs. search needs)
+    returns-2
+    returns-3)

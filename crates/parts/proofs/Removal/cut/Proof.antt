@@ -1,0 +1,14 @@
+-- `Removal::cut` meets its contract, by the clock's. Assumes nothing.
+use borrow.Author.Needs.{needs}
+use Rattle.parts.proofs.Removal.cut.Statement.{statement}
+use Rattle.parts.proofs.Removal.cut.Tie as tie
+
+returns : tie.Need-returns
+returns c = rw (c .before .cut .ensures)
+
+pub cut-spec : {M : Type 1} → statement M
+cut-spec =
+    tie.close
+    (tie.spec
+    (λ c κs. search needs)
+    returns)

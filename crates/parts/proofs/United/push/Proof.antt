@@ -1,0 +1,33 @@
+-- `United::push` meets its contract: over the limit stays over, and one key too many goes over. Assumes nothing.
+use mathlib.Core.Path.{ap, sym, _∙_}
+use Rattle.lists.proofs.Pads.{length-snoc}
+use Rattle.parts.proofs.Sets.{keys-fit, keys-exceed, keys-over, united-keys}
+use borrow.Author.Needs.{needs}
+use native.Mathlib.Omega.{arith}
+use Rattle.parts.proofs.United.push.Statement.{statement}
+use Rattle.parts.proofs.United.push.Tie as tie
+
+returns : tie.Need-returns
+returns c = λ l e. e ∙ keys-exceed l (keys-over l e (c .if1 .taken)) ∙ sym (keys-exceed _ (omega (arith, keys-over l e (c .if1 .taken), length-snoc l (c .before .args .key))))
+
+returns-2 : tie.Need-returns-2
+returns-2 c = λ l e.
+    let s = c .before .before .before .before in
+    let w = united-keys l e (s .if1 .left) in
+    rw (c .push .ensures l w) (sym (keys-fit _ (omega (arith, ap (λ k. k .len) w, length-snoc l (s .before .args .key)))))
+
+returns-3 : tie.Need-returns-3
+returns-3 c = λ l e.
+    let s = c .before .before .before .before in
+    let w = united-keys l e (s .if1 .left) in
+    rw (c .new .ensures) (sym (keys-exceed _ (omega (arith, ap (λ k. k .len) w, length-snoc l (s .before .args .key)))))
+
+pub push-spec : {M : Type 1} → statement M
+push-spec =
+    tie.close
+    (tie.spec
+    returns
+    (λ c κs. search needs)
+    returns-2
+    (λ c κs. search needs)
+    returns-3)

@@ -1,0 +1,19 @@
+-- `Waiting::push` meets its contract: a store behind the last removal. Assumes nothing.
+use mathlib.Core.Path.{refl, ap}
+use Rattle.parts.proofs.Packs.{removal-pushed}
+use borrow.Author.Needs.{needs}
+use native.Mathlib.Omega.{arith}
+use Rattle.parts.proofs.Waiting.push.Statement.{statement}
+use Rattle.parts.proofs.Waiting.push.Tie as tie
+
+returns : tie.Need-returns
+returns c = (refl, λ l e. removal-pushed l _ e (omega (arith, ap (λ k. k .len) e)))
+
+pub push-spec : {M : Type 1} → statement M
+push-spec =
+    tie.close
+    (tie.spec
+    (λ c. search needs)
+    (λ c. search needs)
+    (λ c. search needs)
+    returns)

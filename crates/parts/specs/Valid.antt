@@ -1,0 +1,45 @@
+-- When the parts of a map are valid: lists ascend, clocks are clocks and not empty, and zeros stand behind what is in use.
+-- Assumes nothing.
+use mathlib.Core.Path.{_≡_}
+use mathlib.Core.Bool.{true, false}
+use mathlib.Core.List.{List}
+use Rattle.lists.specs.Order.{_∈_, Ascending, by}
+use Rattle.clock.specs.declared.Dot.{Dot}
+use Rattle.clock.specs.Dots.{dotsOf, clockOf, isEmpty, covers}
+use Rattle.clock.specs.Lawful.{Lawful}
+use Rattle.register.specs.declared.Value.{Value}
+use Rattle.parts.specs.declared.Entry.{Entry}
+use Rattle.parts.specs.declared.Removal.{Removal}
+use Rattle.parts.specs.Model.{dotsIn, valuesIn, Laid, underOf, listedIn, removalAs}
+use Rattle.parts.specs.Waits.{removalBefore}
+
+-- a value under a clock that is not empty
+pub record ValidValue (v : Value) : Type 0 where
+  pub laid : v ≡ record { clock = clockOf (dotsOf (v .clock)); value = v .value }
+  pub clock : Lawful (dotsOf (v .clock))
+  pub some : isEmpty (dotsOf (v .clock)) ≡ false
+
+-- "Every entry clock is non-empty and covered by the map clock."
+pub record ValidEntry (seen : List Dot) (e : Entry) : Type 0 where
+  pub laid : Laid e
+  pub clock : Lawful (dotsIn e)
+  pub some : isEmpty (dotsIn e) ≡ false
+  pub covered : covers seen (dotsIn e) ≡ true
+  pub values : (v : Value) → v ∈ valuesIn e → ValidValue v
+
+-- entries "by key"
+pub record ValidEntries (seen : List Dot) (l : List Entry) : Type 0 where
+  pub rising : Ascending (by (λ e. e .key)) l
+  pub each : (e : Entry) → e ∈ l → ValidEntry seen e
+
+-- a clock, which may be empty, and a set of keys
+pub record ValidRemoval (r : Removal) : Type 0 where
+  pub laid : r ≡ removalAs (underOf r) (listedIn r)
+  pub clock : Lawful (underOf r)
+  pub keys : Ascending (by (λ k. k)) (listedIn r)
+
+-- waiting removals, each under a clock that is not empty
+pub record ValidWaiting (l : List Removal) : Type 0 where
+  pub rising : Ascending removalBefore l
+  pub each : (r : Removal) → r ∈ l → ValidRemoval r
+  pub some : (r : Removal) → r ∈ l → isEmpty (underOf r) ≡ false

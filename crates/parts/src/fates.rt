@@ -1,0 +1,396 @@
+// What becomes of an entry, and of all entries, in the order of their keys.
+ghost use mathlib.Core.Path.{_≡_};
+ghost use mathlib.Core.Bool.{Bool, true, false};
+ghost use mathlib.Core.List.{List, [], _∷_, _++_, map};
+ghost use Prim.Native.Nat.{ℕ, _≤_, _<_, _+_};
+ghost use lib.Dec.{eqb};
+ghost use lib.ListN.{length, drop};
+ghost use Rattle.lists.specs.Sift.{sift, those};
+ghost use Rattle.lists.specs.Order.{_∈_};
+ghost use Rattle.clock.specs.Dots.{dotLimit, dotsOf, joinDots, addDot};
+ghost use Rattle.parts.specs.declared.Entry.{Entry};
+ghost use Rattle.parts.specs.Model.{entryLimit, dotsIn, entriesOf, entriesAs, waitingOf, entryAs, handOf, Laid, finished, Counted};
+ghost use Rattle.parts.specs.Entries.{stays, cutEntry, removeFrom, removeEntries, run, putEntry, entryAt, aside, alone, keepDots, together, weaveEntries};
+use crate::ENTRIES;
+use crate::Entries;
+use crate::Entry;
+use crate::Finished;
+use crate::Hand;
+use crate::Removal;
+use crate::Update;
+use crate::Waiting;
+use clock::Clock;
+use register::Register;
+
+impl Entry {
+    // An entry of a key with nothing in it.
+    pub fn new(key: u32) -> Entry
+        ensures { λ r. ⌜ r ≡ entryAs key [] [] ⌝ }
+    {
+        let clock = Clock::new();
+        let register = Register::new();
+        Entry {
+            key,
+            clock,
+            register,
+        }
+    }
+
+    pub fn hand(self) -> Hand
+        ensures { λ r. ⌜ r ≡ handOf self ⌝ }
+    {
+        let clock = self.clock;
+        let wide = self.register.wide();
+        Hand {
+            key: self.key,
+            clock,
+            wide,
+        }
+    }
+
+    // Without the dots that `by` has seen, in the clock and in the register.
+    pub fn cut(self, by: Clock) -> Entry
+        ensures { λ r. ⌜ r ≡ cutEntry (dotsOf by) self ⌝ }
+    {
+        let clock = self.clock.cut(by);
+        let register = self.register.cut(by);
+        Entry {
+            key: self.key,
+            clock,
+            register,
+        }
+    }
+
+    // What a removal leaves of the entry.
+    pub fn removed(self, r: Removal) -> Entry
+        ensures { λ e. ⌜ e ≡ removeFrom r self ⌝ }
+    {
+        if r.keys.contains(self.key) {
+            return self.cut(r.clock);
+        }
+        self
+    }
+
+    // Whether the entry stands below a key, or, where `below` is not set, above it.
+    fn aside(self, key: u32, below: bool) -> bool
+        ensures { λ r. ⌜ r ≡ aside below key self ⌝ }
+    {
+        if below {
+            self.key < key
+        } else {
+            key < self.key
+        }
+    }
+
+    // The entry with an update's dot and put.
+    pub fn put(self, u: Update) -> Hand
+        requires { ⌜ length (addDot (dotsIn self) (u .dot)) ≤ dotLimit ⌝ }
+        ensures { λ r. ⌜ r ≡ handOf (putEntry u self) ⌝ }
+    {
+        let grown = self.clock.add(u.dot);
+        let clock = grown.clock;
+        let wide = self.register.put(u.put);
+        Hand {
+            key: self.key,
+            clock,
+            wide,
+        }
+    }
+
+    // What a merge leaves of an entry that one map has alone; `other` is the other map's clock.
+    pub fn alone(self, other: Clock) -> Hand
+        ensures { λ r. ⌜ r ≡ handOf (alone (dotsOf other) self) ⌝ }
+    {
+        if other.covers(self.clock) {
+            return Entry::new(self.key).hand();
+        }
+        let clock = self.clock.cut(other);
+        let deleted = other.cut(clock);
+        let wide = self.register.wide().cut(deleted);
+        Hand {
+            key: self.key,
+            clock,
+            wide,
+        }
+    }
+
+    // What a merge makes of an entry that both maps have; `ours` and `theirs` are the maps' clocks.
+    pub fn together(self, other: Entry, ours: Clock, theirs: Clock) -> Hand
+        requires { ⌜ (length (keepDots (dotsOf ours) (dotsOf theirs) (dotsIn self) (dotsIn other)) ≤ dotLimit) × (length (joinDots (dotsIn self) (dotsIn other)) ≤ dotLimit) ⌝ }
+        ensures { λ r. ⌜ r ≡ handOf (together (dotsOf ours) (dotsOf theirs) self other) ⌝ }
+    {
+        let common = self.clock.common(other.clock);
+        let mine = self.clock.cut(theirs);
+        let yours = other.clock.cut(ours);
+        let keep = common.join(mine).join(yours);
+        let clock = keep.clock;
+        let all = self.clock.join(other.clock);
+        let deleted = all.clock.cut(clock);
+        let wide = self.register.merge(other.register).cut(deleted);
+        Hand {
+            key: self.key,
+            clock,
+            wide,
+        }
+    }
+}
+
+impl Hand {
+    // What a removal leaves of the entry in hand.
+    pub fn removed(self, r: Removal) -> Hand
+        ensures { λ h. ⌜ ((e : Entry) → self ≡ handOf e → h ≡ handOf (removeFrom r e)) ⌝ }
+    {
+        if r.keys.contains(self.key) {
+            let clock = self.clock.cut(r.clock);
+            let wide = self.wide.cut(r.clock);
+            return Hand {
+                key: self.key,
+                clock,
+                wide,
+            };
+        }
+        self
+    }
+
+    // What every waiting removal leaves of it.
+    pub fn run(self, waiting: Waiting) -> Hand
+        ensures { λ h. ⌜ ((e : Entry) → self ≡ handOf e → h ≡ handOf (run (waitingOf waiting) e)) ⌝ }
+    {
+        let n = waiting.size();
+        let mut out = self;
+        let mut i: usize = 0;
+        while i < n {
+            let w = waiting.items[i];
+            i += 1;
+            out = out.removed(w);
+        }
+        out
+    }
+}
+
+impl Entries {
+    pub fn new() -> Entries
+        ensures { λ r. ⌜ r ≡ entriesAs [] ⌝ }
+    {
+        let none = Entry::new(0);
+        Entries {
+            items: [none; ENTRIES],
+            len: 0,
+        }
+    }
+
+    pub fn size(self) -> usize
+        ensures { λ r. ⌜ (r ≡ length (entriesOf self)) × (r ≤ entryLimit) ⌝ }
+    {
+        let n = self.len;
+        if n < ENTRIES { n } else { ENTRIES }
+    }
+
+    // One entry more behind the last.
+    pub fn push(self, e: Entry) -> Entries
+        requires { ⌜ self .len < entryLimit ⌝ }
+        ensures { λ r. ⌜ (r .len ≡ self .len + 1) × ((l : List Entry) → self ≡ entriesAs l → r ≡ entriesAs (l ++ (e ∷ []))) ⌝ }
+    {
+        let mut out = self;
+        let k = out.len;
+        out.items[k] = e;
+        out.len = k + 1;
+        out
+    }
+
+    // What a removal leaves of the entries.
+    pub fn remove(self, r: Removal) -> Entries
+        ensures { λ o. ⌜ o ≡ entriesAs (removeEntries r (entriesOf self)) ⌝ }
+    {
+        let n = self.size();
+        let mut out = Entries::new();
+        let mut i: usize = 0;
+        while i < n {
+            let e = self.items[i];
+            i += 1;
+            let left = e.removed(r);
+            if !left.clock.is_empty() {
+                out = out.push(left);
+            }
+        }
+        out
+    }
+
+    // What a reset leaves of the entries.
+    pub fn reset(self, by: Clock) -> Entries
+        ensures { λ o. ⌜ o ≡ entriesAs (sift stays (cutEntry (dotsOf by)) (entriesOf self)) ⌝ }
+    {
+        let n = self.size();
+        let mut out = Entries::new();
+        let mut i: usize = 0;
+        while i < n {
+            let e = self.items[i];
+            i += 1;
+            let left = e.cut(by);
+            if !left.clock.is_empty() {
+                out = out.push(left);
+            }
+        }
+        out
+    }
+
+    // The entry of a key, a new one if absent.
+    pub fn at(self, key: u32) -> Entry
+        ensures { λ r. ⌜ r ≡ entryAt key (entriesOf self) ⌝ }
+    {
+        let n = self.size();
+        let mut i: usize = 0;
+        while i < n {
+            let e = self.items[i];
+            if e.key == key {
+                return e;
+            }
+            i += 1;
+        }
+        Entry::new(key)
+    }
+
+    // The entry of a key alone, if there is one.
+    pub fn only(self, key: u32) -> Entries
+        ensures { λ r. ⌜ r ≡ entriesAs (those (λ e. eqb (e .key) key) (entriesOf self)) ⌝ }
+    {
+        let n = self.size();
+        let mut out = Entries::new();
+        let mut i: usize = 0;
+        while i < n {
+            let e = self.items[i];
+            i += 1;
+            if e.key == key {
+                out = out.push(e);
+            }
+        }
+        out
+    }
+}
+
+impl Finished {
+    pub fn new() -> Finished
+        ensures { λ r. ⌜ r ≡ finished [] ⌝ }
+    {
+        let none = Entries::new();
+        Finished {
+            count: 0,
+            wide: false,
+            entries: none,
+        }
+    }
+
+    // One entry more behind the last, unless its clock is empty.
+    pub fn add(self, h: Hand) -> Finished
+        requires { ⌜ Counted self 63 ⌝ }
+        ensures { λ r. ⌜ Counted r (self .count + 1) × ((l : List Entry) (e : Entry) → Laid e → self ≡ finished l → h ≡ handOf e → r ≡ finished (l ++ those stays (e ∷ []))) ⌝ }
+    {
+        if h.clock.is_empty() {
+            return self;
+        }
+        let laid = h.wide.settle();
+        let wide = self.wide | laid.over;
+        let count = self.count;
+        if (count < ENTRIES) & !wide {
+            let clock = h.clock;
+            let register = laid.register;
+            let e = Entry {
+                key: h.key,
+                clock,
+                register,
+            };
+            let old = self.entries;
+            let entries = old.push(e);
+            return Finished {
+                count: count + 1,
+                wide,
+                entries,
+            };
+        }
+        let none = Entries::new();
+        Finished {
+            count: count + 1,
+            wide,
+            entries: none,
+        }
+    }
+
+    // The entries on one side of a key, each with every waiting removal, behind the last.
+    pub fn side(self, from: Entries, key: u32, below: bool, waiting: Waiting) -> Finished
+        requires { ⌜ Counted self 32 ⌝ }
+        ensures { λ r. ⌜ Counted r (self .count + entryLimit) × ((l : List Entry) → ((e : Entry) → e ∈ entriesOf from → Laid e) → self ≡ finished l → r ≡ finished (l ++ sift stays (run (waitingOf waiting)) (those (aside below key) (entriesOf from)))) ⌝ }
+    {
+        let n = from.size();
+        let mut out = self;
+        let mut i: usize = 0;
+        while i < n {
+            let e = from.items[i];
+            i += 1;
+            if e.aside(key, below) {
+                out = out.add(e.hand().run(waiting));
+            }
+        }
+        out
+    }
+
+    // The entries from place `at` on, which one map has alone, each with both maps' waiting removals, behind the last.
+    fn trail(
+        self,
+        from: Entries,
+        at: usize,
+        other: Clock,
+        first: Waiting,
+        then: Waiting,
+    ) -> Finished
+        requires { ⌜ Counted self 48 ⌝ }
+        ensures { λ r. ⌜ Counted r (self .count + entryLimit) × ((l : List Entry) → self ≡ finished l → r ≡ finished (l ++ sift stays (λ e. run (waitingOf then) (run (waitingOf first) e)) (map (alone (dotsOf other)) (drop at (entriesOf from))))) ⌝ }
+    {
+        let n = from.size();
+        let mut out = self;
+        let mut i: usize = at;
+        while i < n {
+            let e = from.items[i];
+            i += 1;
+            out = out.add(e.alone(other).run(first).run(then));
+        }
+        out
+    }
+}
+
+impl Entries {
+    // Both maps' entries as one, each with their waiting removals and then ours; `mine` and `yours` are the maps' clocks.
+    pub fn merge(
+        self,
+        other: Entries,
+        mine: Clock,
+        yours: Clock,
+        ours: Waiting,
+        theirs: Waiting,
+    ) -> Finished
+        requires { ⌜ ((x y : Entry) → x ∈ entriesOf self → y ∈ entriesOf other → (length (keepDots (dotsOf mine) (dotsOf yours) (dotsIn x) (dotsIn y)) ≤ dotLimit) × (length (joinDots (dotsIn x) (dotsIn y)) ≤ dotLimit)) ⌝ }
+        ensures { λ r. ⌜ r ≡ finished (sift stays (λ e. run (waitingOf ours) (run (waitingOf theirs) e)) (weaveEntries (dotsOf mine) (dotsOf yours) (entriesOf self) (entriesOf other))) ⌝ }
+    {
+        let n = self.size();
+        let m = other.size();
+        let mut out = Finished::new();
+        let mut i: usize = 0;
+        let mut j: usize = 0;
+        while i < n && j < m {
+            let x = self.items[i];
+            let y = other.items[j];
+            if x.key < y.key {
+                out = out.add(x.alone(yours).run(theirs).run(ours));
+                i += 1;
+            } else if y.key < x.key {
+                out = out.add(y.alone(mine).run(theirs).run(ours));
+                j += 1;
+            } else {
+                out = out.add(x.together(y, mine, yours).run(theirs).run(ours));
+                i += 1;
+                j += 1;
+            }
+        }
+        let some = out.trail(self, i, yours, theirs, ours);
+        some.trail(other, j, mine, theirs, ours)
+    }
+}
