@@ -5,3 +5,6 @@ pub mod Uncovered
 pub mod Small
 pub mod Orders
 pub mod Accepts
+pub mod Verdicts
+pub mod Outcomes
+pub mod Askings

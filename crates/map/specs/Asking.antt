@@ -71,6 +71,10 @@ spentBy ours theirs =
 unfoldable pub validateMerge : Map → Map → Spent
 validateMerge m n = firstSpent (λ e. firstSpent (spentBy e) (entriesIn n)) (entriesIn m)
 
+abbrev pub isTwice : Spent → Bool
+isTwice Once = false
+isTwice (Twice d k h) = true
+
 -- "answers 12 with dot and both keys"
 abbrev pub spentNumber : Spent → ℕ
 spentNumber Once = 0

@@ -2,14 +2,18 @@
 -- Assumes nothing.
 use mathlib.Core.Path.{_≡_}
 use mathlib.Core.Bool.{true}
-use Prim.Native.Nat.{_<_}
-use Rattle.clock.specs.Dots.{dotsOf, clockOf}
+use Prim.Native.Nat.{_≤_, _<_}
+use lib.ListN.{length}
+use Rattle.clock.specs.Dots.{dotLimit, dotsOf, clockOf}
 use Rattle.clock.specs.Lawful.{Lawful}
+use Rattle.parts.specs.declared.Removal.{Removal}
 use Rattle.parts.specs.declared.Update.{Update}
+use Rattle.parts.specs.Model.{keyLimit, underOf, listedIn}
 use Rattle.parts.specs.Valid.{ValidEntries, ValidRemoval, ValidWaiting}
 use Rattle.map.specs.declared.Map.{Map}
 use Rattle.map.specs.declared.Op.{Op}
 use Rattle.map.specs.Model.{seenBy, entriesIn, waitingIn, mapAs}
+use Rattle.map.specs.Judging.{overNumber}
 
 pub record Valid (m : Map) : Type 0 where
   pub laid : m ≡ mapAs (seenBy m) (entriesIn m) (waitingIn m)
@@ -26,3 +30,21 @@ pub record ValidUpdate (u : Update) : Type 0 where
 pub record ValidOp (op : Op) : Type 0 where
   pub removal : ValidRemoval (op .removal)
   pub update : op .up ≡ true → ValidUpdate (op .update)
+
+-- a valid map within every limit
+pub record Within (m : Map) : Type 0 where
+  pub valid : Valid m
+  pub limits : overNumber m ≡ 0
+
+pub record RemovalWithin (r : Removal) : Type 0 where
+  pub valid : ValidRemoval r
+  pub dots : length (underOf r) ≤ dotLimit
+  pub keys : length (listedIn r) ≤ keyLimit
+
+pub record UpdateWithin (u : Update) : Type 0 where
+  pub valid : ValidUpdate u
+  pub dots : length (dotsOf (u .put .clock)) ≤ dotLimit
+
+pub record OpWithin (op : Op) : Type 0 where
+  pub removal : RemovalWithin (op .removal)
+  pub update : op .up ≡ true → UpdateWithin (op .update)

@@ -1,4 +1,8 @@
 // The map: a clock, entries by key, and removals that wait. The Rust's map.rs and ctx.rs, on arrays with a count, by value.
+mod applying;
+mod asking;
+mod merging;
+
 use clock::Clock;
 use clock::Dot;
 use parts::Entries;

@@ -8,7 +8,7 @@ use native.Mathlib.Omega.{arith}
 use borrow.Author.Tests.{ltb-false, le-leb}
 use lib.Dec.{ltb}
 use lib.ListN.{length}
-use Rattle.lists.specs.First.{some}
+use Rattle.lists.specs.First.{firstIn, some}
 use Rattle.lists.proofs.Pads.{length-snoc}
 use Rattle.lists.proofs.Tally.{some-snoc, both-pass, tally-step}
 use Rattle.register.specs.Values.{valueLimit, wideValues, settled}
@@ -18,7 +18,7 @@ use Rattle.parts.specs.declared.Finished.{Finished}
 use Rattle.parts.specs.declared.Hand.{Hand}
 use Rattle.parts.specs.declared.Entries.{Entries}
 use Rattle.register.specs.declared.Settled.{Settled}
-use Rattle.parts.specs.Model.{entryLimit, valuesIn, entriesAs, handOf, Laid, overfull, finished}
+use Rattle.parts.specs.Model.{entryLimit, valuesIn, entriesAs, handOf, Laid, overfull, finished, Counted}
 
 module _ (l : List Entry) where
   pub finish-open : length l ≤ entryLimit → some overfull l ≡ false → finished l .entries ≡ entriesAs l
@@ -62,3 +62,16 @@ module _ {f : Finished} {h : Hand} {s : Settled} (l : List Entry) (e : Entry) (q
   pub lose-one : {o : Entries} → (ltb (f .count) entryLimit && not (f .wide || s .over)) ≡ false → o ≡ entriesAs []
       → record { count = f .count + 1; wide = f .wide || s .over; entries = o } ≡ finished (l ++ (e ∷ []))
   lose-one {o} t g = together o ∙ ap (λ x. record { count = length l + 1; wide = some overfull l || overfull e; entries = x }) g ∙ finish-lost l e (flags false t)
+
+-- what is counted of finished entries
+pub finish-none : Counted (finished []) 0
+unfolding finished firstIn
+finish-none = (omega arith, omega arith)
+
+pub finish-count : {f : Finished} (l : List Entry) → f ≡ finished l → f .count ≡ length l
+unfolding finished
+finish-count l e = ap (λ f. f .count) e
+
+pub finish-wide : {f : Finished} (l : List Entry) → f ≡ finished l → f .wide ≡ some overfull l
+unfolding finished
+finish-wide l e = ap (λ f. f .wide) e

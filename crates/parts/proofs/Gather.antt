@@ -50,3 +50,16 @@ module _ {g : Gathered} {u : United} (l : List Removal) (r : Removal) (q : g ≡
   unfolding gathered
   gather-none {o} t e =
       counted o ∙ ap (λ x. record { count = length l + 1; long = some overlong l || overlong r; waiting = x }) e ∙ rw (tally-step waitingLimit overlong l r, some-snoc overlong l r, length-snoc l r, flags false t)
+
+-- what is counted of united removals, and that they are stored where they fit
+pub gather-count : {g : Gathered} (l : List Removal) → g ≡ gathered l → g .count ≡ length l
+unfolding gathered
+gather-count l e = ap (λ g. g .count) e
+
+pub gather-long : {g : Gathered} (l : List Removal) → g ≡ gathered l → g .long ≡ some overlong l
+unfolding gathered
+gather-long l e = ap (λ g. g .long) e
+
+pub gather-open : {g : Gathered} (l : List Removal) → g ≡ gathered l → length l ≤ waitingLimit → some overlong l ≡ false → g .waiting ≡ waitingAs l
+unfolding gathered
+gather-open l e h t = ap (λ g. g .waiting) e ∙ rw (le-leb (length l) waitingLimit h, t)

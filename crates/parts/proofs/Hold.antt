@@ -14,6 +14,7 @@ use Rattle.lists.specs.Order.{_∈_, by}
 use Rattle.lists.specs.Sift.{sift}
 use Rattle.lists.specs.Weave.{weave}
 use Rattle.lists.proofs.Orders.{apart}
+use Rattle.lists.proofs.Sifts.{length-sift}
 use Rattle.lists.proofs.Somes.{some-means, some-holds}
 use Rattle.lists.proofs.Rests.{sift-yes, sift-no, drop-end}
 use Rattle.lists.proofs.Weaves.{weave-longer, weave-shorter}
@@ -23,7 +24,7 @@ use Rattle.parts.specs.declared.Removal.{Removal}
 use Rattle.parts.specs.declared.Gathered.{Gathered}
 use Rattle.parts.specs.declared.Remnant.{Remnant}
 use Rattle.parts.specs.Model.{waitingLimit, keyLimit, keysAs, underOf, listedIn, waitingOf, waitingAs, overlong, gathered, remnantOf}
-use Rattle.parts.specs.Waits.{removalBefore, unionKeys, unite, uniteAll, uniteInto, cutRemoval, remains}
+use Rattle.parts.specs.Waits.{removalBefore, unionKeys, unite, uniteAll, uniteInto, cutRemoval, remains, resetWaiting}
 use Rattle.parts.specs.Valid.{ValidRemoval, ValidWaiting}
 use Rattle.parts.proofs.Packs.{noRemovalRead, waiting-of}
 use Rattle.parts.proofs.Waits.{unite-left, unite-keys}
@@ -59,16 +60,19 @@ long-stays {l} {m} a b t =
     (λ s. some-holds overlong (s .3) (lt-ltb keyLimit (length (listedIn (unite (r .0) (s .0)))) (omega (arith, ltb-true keyLimit (length (listedIn (r .0))) (r .2), union-longer (r .0) (s .0)))))
     (unite-left (a .rising) (b .rising) (r .1))
 
--- what is gathered with no list of keys too long, and not too many
-pub gathered-short : {g : Gathered} (l : List Removal) → g ≡ gathered l → g .long ≡ false → length l ≤ waitingLimit → (some overlong l ≡ false) × (g .waiting ≡ waitingAs l)
-unfolding gathered
-gathered-short {g} l q t h =
-    let s : some overlong l ≡ false = sym (ap (λ k. k .long) q) ∙ t in
-    (s, ap (λ k. k .waiting) q ∙ rw (le-leb (length l) waitingLimit h, s))
-
 pub unite-few : (l : List Removal) (r : Removal) → length (uniteInto l r) ≤ length l + 1
 unfolding uniteAll
 unite-few l r = weave-shorter removalBefore (λ w. w) (λ w. w) unite l (r ∷ [])
+
+unites-few : (ws l : List Removal) → length (fold uniteInto l ws) ≤ length l + length ws
+unfolding fold
+unites-few [] l = omega arith
+unites-few (r ∷ ws) l = omega (arith, unites-few ws (uniteInto l r), unite-few l r)
+
+-- a reset leaves no more removals than there were
+pub reset-few : (c : List Dot) (l : List Removal) → length (resetWaiting c l) ≤ length l
+unfolding resetWaiting
+reset-few c l = omega (arith, unites-few (sift remains (cutRemoval c) l) [], length-sift remains (cutRemoval c) l)
 
 -- no more are stored than there are, and each of them is one of the list
 pub remnant-few : (l : List Removal) → remnantOf l .waiting .len ≤ length l
@@ -84,10 +88,6 @@ remnant-in l w i = go (some overlong l) refl
     go : (b : Bool) → some overlong l ≡ b → w ∈ l
     go true t = absurd (List·Memᴰ·not-nil (rw (waiting-of [] (ap (λ h. h .waiting) (held-long l t))) at i))
     go false t = rw (waiting-of l (ap (λ h. h .waiting) (held-short l t))) at i
-
-pub gathered-long : {g : Gathered} (l : List Removal) → g ≡ gathered l → g .long ≡ true → some overlong l ≡ true
-unfolding gathered
-gathered-long l q t = sym (ap (λ k. k .long) q) ∙ t
 
 -- i of the n waiting removals are cut and united
 pub record Uniting (c : List Dot) (xs : List Removal) (n i : ℕ) (h : Remnant) : Type 0 where

@@ -52,6 +52,19 @@ impl Removal {
 }
 
 impl Removal {
+    // Whether a map clock is less than the removal's clock, or concurrent with it.
+    pub fn waits(self, seen: Clock) -> bool
+        ensures { λ b. ⌜ b ≡ waits (dotsOf seen) self ⌝ }
+    {
+        let o = seen.compare(self.clock);
+        match o {
+            Order::Less => true,
+            Order::Concurrent => true,
+            Order::Equal => false,
+            Order::Greater => false,
+        }
+    }
+
     // The removal under its clock without the dots that `by` has seen.
     fn cut(self, by: Clock) -> Removal
         ensures { λ r. ⌜ r ≡ cutRemoval (dotsOf by) self ⌝ }
@@ -153,7 +166,7 @@ impl Waiting {
         while i < n {
             let r = self.items[i];
             i += 1;
-            if waits(seen, r) {
+            if r.waits(seen) {
                 out = out.push(r);
             }
         }
@@ -253,18 +266,5 @@ impl Waiting {
             }
         }
         out.trail(self, i).trail(other, j)
-    }
-}
-
-// Whether a map clock is less than the removal's clock, or concurrent with it.
-pub fn waits(seen: Clock, r: Removal) -> bool
-    ensures { λ b. ⌜ b ≡ waits (dotsOf seen) r ⌝ }
-{
-    let o = seen.compare(r.clock);
-    match o {
-        Order::Less => true,
-        Order::Concurrent => true,
-        Order::Equal => false,
-        Order::Greater => false,
     }
 }

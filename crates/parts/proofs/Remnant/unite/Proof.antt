@@ -6,7 +6,8 @@ use Rattle.parts.specs.declared.Removal.{Removal}
 use Rattle.parts.specs.Model.{keysAs, listedIn, waitingOf, gathered, remnantOf}
 use Rattle.parts.specs.Waits.{uniteAll, uniteInto}
 use Rattle.parts.proofs.Packs.{waiting-of}
-use Rattle.parts.proofs.Hold.{held-long, held-short, held-over, long-stays, gathered-short, gathered-long, unite-few}
+use Rattle.parts.proofs.Hold.{held-long, held-short, held-over, long-stays, unite-few}
+use Rattle.parts.proofs.Gather.{gather-long, gather-open}
 use borrow.Author.Needs.{needs}
 use native.Mathlib.Omega.{arith}
 use Rattle.parts.proofs.Remnant.unite.Statement.{statement}
@@ -40,15 +41,16 @@ joined c l q =
 returns-2 : tie.Need-returns-2
 returns-2 c = λ l v w q.
     let g = c .before .before in
-    rw (c .new2 .ensures) (sym (held-long _ (gathered-long _ (joined g l q .0) (c .before .if2 .taken))))
+    rw (c .new2 .ensures) (sym (held-long _ (sym (gather-long _ (joined g l q .0)) ∙ c .before .if2 .taken)))
 
 returns-3 : tie.Need-returns-3
 returns-3 c = λ l v w q.
     let g = c .before .before in
     let z = g .before .before .before .before in
     let j = joined g l q in
-    let s = gathered-short _ (j .0) (c .before .if2 .left) (omega (arith, unite-few l (z .args .r), z .pre .0, ap (λ h. h .waiting .len) (q ∙ held-short l (sym (ap (λ h. h .over) q ∙ held-over l) ∙ g .before .before .before .if1 .left)))) in
-    rw (s .1) (sym (held-short _ (s .0)))
+    let t = sym (gather-long _ (j .0)) ∙ c .before .if2 .left in
+    let few = ap (λ h. h .waiting .len) (q ∙ held-short l (sym (ap (λ h. h .over) q ∙ held-over l) ∙ g .before .before .before .if1 .left)) in
+    rw (gather-open _ (j .0) (omega (arith, unite-few l (z .args .r), z .pre .0, few)) t) (sym (held-short _ t))
 
 pub unite-spec : {M : Type 1} → statement M
 unite-spec =

@@ -1,8 +1,8 @@
--- `waits` meets its contract, by that of `compare`. Assumes nothing.
+-- `Removal::waits` meets its contract, by that of `compare`. Assumes nothing.
 use Rattle.parts.specs.Waits.{waits}
 use borrow.Author.Needs.{needs}
-use Rattle.parts.proofs.queue.waits.Statement.{statement}
-use Rattle.parts.proofs.queue.waits.Tie as tie
+use Rattle.parts.proofs.Removal.waits.Statement.{statement}
+use Rattle.parts.proofs.Removal.waits.Tie as tie
 
 returns : tie.Need-returns
 unfolding waits

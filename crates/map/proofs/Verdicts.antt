@@ -1,0 +1,75 @@
+-- How a finished map is judged, by its three lists.
+-- Assumes nothing.
+use mathlib.Core.Path.{_≡_, refl, ap, sym, _∙_}
+use mathlib.Core.Bool.{Bool, true, false, cond}
+use mathlib.Core.List.{List, []}
+use Prim.Native.Nat.{ℕ, _≤_, _<_}
+use native.Mathlib.Omega.{arith}
+use borrow.Author.Tests.{le-ltb}
+use lib.Dec.{eqb}
+use lib.ListN.{length}
+use Rattle.lists.specs.First.{some}
+use Rattle.lists.specs.Order.{_∈_}
+use Rattle.lists.specs.Sift.{those}
+use Rattle.lists.proofs.Sifts.{length-sift}
+use Rattle.lists.proofs.Somes.{false-some}
+use Rattle.lists.proofs.Those.{those-means}
+use Rattle.clock.specs.declared.Dot.{Dot}
+use Rattle.clock.specs.Dots.{dotLimit}
+use Rattle.register.specs.Values.{valueLimit}
+use Rattle.parts.specs.declared.Entry.{Entry}
+use Rattle.parts.specs.declared.Removal.{Removal}
+use Rattle.parts.specs.Model.{entryLimit, waitingLimit, keyLimit, valuesIn, listedIn, overfull, overlong}
+use Rattle.parts.specs.Entries.{removeEntries}
+use Rattle.parts.proofs.Pieces.{entries-of, waiting-of}
+use Rattle.parts.proofs.Bounds.{EntryFits, runs-fit, runs-length}
+use Rattle.map.specs.declared.Map.{Map}
+use Rattle.map.specs.declared.Judged.{Judged}
+use Rattle.map.specs.Model.{seenBy, entriesIn, waitingIn, mapAs, noMap}
+use Rattle.map.specs.Judging.{exceeding, overEntries, overValues, overWaiting, overKeys, overNumber, judged}
+use Rattle.map.specs.Valid.{Valid, Within}
+use Rattle.map.proofs.Kept.{seen-of}
+use Rattle.map.proofs.Small.{Small, small-over}
+use Rattle.map.proofs.Accepts.{Fits, fits-means}
+
+-- the answer, by which limits are broken
+abbrev pub answer : ℕ → Map → Judged
+answer n m = cond (eqb n 0) (record { number = 0; map = m }) (record { number = n; map = noMap })
+
+abbrev pub outcome : Bool → Bool → Bool → Bool → Bool → Map → Judged
+outcome a b c d e m = answer (cond a 4 (cond b 5 (cond c 6 (cond d 7 (cond e 8 0))))) m
+
+pub judged-as : (c : List Dot) (l : List Entry) (w : List Removal) → Valid (mapAs c l w) → Small (mapAs c l w)
+    → (a b d e f : Bool) → exceeding dotLimit c ≡ a → exceeding entryLimit l ≡ b → some overfull l ≡ d → exceeding waitingLimit w ≡ e → some overlong w ≡ f
+    → judged (mapAs c l w) ≡ outcome a b d e f (mapAs c l w)
+unfolding judged overNumber overEntries overValues overWaiting overKeys
+judged-as c l w v s a b d e f p q r t u = rw (small-over v s, seen-of c l w, entries-of l, waiting-of w, p, q, r, t, u)
+
+-- a map within the limits is judged to be itself
+pub judged-within : {m : Map} → overNumber m ≡ 0 → judged m ≡ record { number = 0; map = m }
+unfolding judged
+judged-within e = rw e
+
+pub small-within : {m : Map} → Within m → Small m
+small-within {m} i =
+    let f = fits-means m (i .limits) in
+    record { values = λ e j. record { each = f .entries e j .each }; waiting = λ r j. f .waiting r j .dots }
+
+-- a list within a limit
+pub not-over : {A : Type 0} (limit : ℕ) (l : List A) → length l ≤ limit → exceeding limit l ≡ false
+not-over limit l h = le-ltb limit (length l) h
+
+-- entries of which each has few enough values, removals of which each has few enough keys
+pub none-overfull : (l : List Entry) → ((e : Entry) → e ∈ l → length (valuesIn e) ≤ valueLimit) → some overfull l ≡ false
+none-overfull l f = false-some overfull l (λ e i. le-ltb valueLimit (length (valuesIn e)) (f e i))
+
+pub none-overlong : (l : List Removal) → ((r : Removal) → r ∈ l → length (listedIn r) ≤ keyLimit) → some overlong l ≡ false
+none-overlong l f = false-some overlong l (λ r i. le-ltb keyLimit (length (listedIn r)) (f r i))
+
+-- those that wait are no more, and no longer
+module _ {m : Map} (i : Within m) (p : Removal → Bool) where
+  pub those-few : length (those p (waitingIn m)) ≤ waitingLimit
+  those-few = omega (arith, length-sift p (λ r. r) (waitingIn m), fits-means m (i .limits) .number)
+
+  pub those-short : some overlong (those p (waitingIn m)) ≡ false
+  those-short = none-overlong (those p (waitingIn m)) (λ r j. fits-means m (i .limits) .waiting r (those-means p (waitingIn m) j .0) .keys)

@@ -1,0 +1,62 @@
+-- `spent_by` meets its contract: the loop looks for a dot that both hold. Assumes nothing.
+use mathlib.Core.Path.{_∙_}
+use mathlib.Core.Path.{_≡_}
+use Prim.Native.Nat.{_≤_, _-_}
+use borrow.Author.Tests.{eq-eqb, ne-eqb}
+use Rattle.lists.proofs.Passing.{Passing, passing-start, passing-here, passing-on, passing-end}
+use Rattle.clock.specs.Dots.{noDot, shared}
+use Rattle.parts.specs.Model.{dotsIn}
+use Rattle.map.specs.declared.Spent.the-variants.{Once, Twice}
+use Rattle.map.specs.Asking.{spentBy}
+use borrow.Author.Needs.{needs}
+use native.Mathlib.Omega.{arith}
+use Rattle.map.proofs.asking.spent_by.Statement.{statement}
+use Rattle.map.proofs.asking.spent_by.Tie as tie
+
+abbrev Inv-loop : tie.InvT-loop
+Inv-loop ours theirs clock n i₀ i = (i ≤ n) × Passing (shared (dotsIn theirs)) (λ d. Twice d (ours .key) (theirs .key)) Once (clock .dots) (clock .len) i
+
+abbrev μ-loop : tie.MeasureT-loop
+μ-loop ours theirs clock n i₀ i = n - i
+
+loop-holds : tie.Need-loop-holds Inv-loop μ-loop
+loop-holds c = (search needs, passing-start)
+
+returns : tie.Need-returns Inv-loop μ-loop
+unfolding spentBy
+returns c = rw (eq-eqb _ _ (c .if1 .taken))
+
+returns-2 : tie.Need-returns-2 Inv-loop μ-loop
+unfolding spentBy
+returns-2 c =
+    let s = c .before .before .before .before .before in
+    rw (ne-eqb _ _ (s .before .before .before .if1 .left)) (passing-here noDot (s .loop .inv .1) (omega arith) (eq-eqb _ _ (rw (c .before .before .get .ensures) at (c .if2 .taken))))
+
+loop-again : tie.Need-loop-again Inv-loop μ-loop
+loop-again c =
+    let s = c .before .before .before .before .before in
+    (search needs, passing-on noDot (s .loop .inv .1) (omega arith) (ne-eqb _ _ (rw (c .before .before .get .ensures) at (c .if2 .left))))
+
+returns-3 : tie.Need-returns-3 Inv-loop μ-loop
+unfolding spentBy
+returns-3 c =
+    let s = c .before in
+    rw (ne-eqb _ _ (s .before .before .before .if1 .left)) (passing-end (s .loop .inv .1) (omega arith))
+
+pub spent-by-spec : {M : Type 1} → statement M
+spent-by-spec =
+    tie.close
+    (tie.spec
+    Inv-loop
+    μ-loop
+    returns
+    (λ c κs. search needs)
+    loop-holds
+    (λ c. search needs)
+    (λ c. search needs)
+    (λ c κs. search needs)
+    returns-2
+    (λ c. search needs)
+    (λ c. search needs)
+    loop-again
+    returns-3)

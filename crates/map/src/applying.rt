@@ -1,0 +1,138 @@
+// Applying an operation: the Rust's `apply`, with its removal and its update.
+ghost use mathlib.Core.Path.{_≡_};
+ghost use Rattle.clock.specs.Dots.{dotsOf};
+ghost use Rattle.map.specs.Model.{noMap};
+ghost use Rattle.map.specs.Removing.{remove};
+ghost use Rattle.map.specs.Updating.{update};
+ghost use Rattle.map.specs.Applying.{apply};
+ghost use Rattle.map.specs.Resetting.{reset};
+ghost use Rattle.map.specs.Judging.{judged};
+ghost use Rattle.map.specs.Valid.{Within, RemovalWithin, UpdateWithin, OpWithin};
+use crate::Judged;
+use crate::Map;
+use crate::Op;
+use clock::Clock;
+use parts::ENTRIES;
+use parts::Entries;
+use parts::Finished;
+use parts::Removal;
+use parts::Update;
+use parts::WAITING;
+use parts::Waiting;
+
+impl Map {
+    pub fn new() -> Map
+        ensures { λ r. ⌜ r ≡ noMap ⌝ }
+    {
+        let clock = Clock::new();
+        let entries = Entries::new();
+        let waiting = Waiting::new();
+        Map {
+            clock,
+            entries,
+            waiting,
+        }
+    }
+
+    // A removal: entries lose what its clock has seen, and it waits where the map clock does not cover it.
+    fn apply_keyset_rm(self, r: Removal) -> Judged
+        requires { ⌜ Within self × RemovalWithin r ⌝ }
+        ensures { λ o. ⌜ o ≡ judged (remove self r) ⌝ }
+    {
+        let clock = self.clock;
+        let entries = self.entries.remove(r);
+        if !r.waits(clock) {
+            let waiting = self.waiting;
+            return Judged::accepted(clock, entries, waiting);
+        }
+        let one = Waiting::new().push(r);
+        let g = self.waiting.join(one);
+        if WAITING < g.count {
+            return Judged::refused(7);
+        }
+        if g.long {
+            return Judged::refused(8);
+        }
+        let waiting = g.waiting;
+        Judged::accepted(clock, entries, waiting)
+    }
+
+    // An update: an entry takes its dot and its put, and every entry what the waiting removals leave of it.
+    fn apply_update(self, u: Update) -> Judged
+        requires { ⌜ Within self × UpdateWithin u ⌝ }
+        ensures { λ o. ⌜ o ≡ judged (update self u) ⌝ }
+    {
+        let d = u.dot;
+        if d.counter <= self.clock.get(d.actor) {
+            return Judged {
+                number: 0,
+                map: self,
+            };
+        }
+        let grown = self.clock.add(d);
+        if grown.over {
+            return Judged::refused(4);
+        }
+        let entries = self.entries;
+        let waiting = self.waiting;
+        let below = Finished::new().side(entries, u.key, true, waiting);
+        let with = below.add(entries.at(u.key).put(u).run(waiting));
+        let all = with.side(entries, u.key, false, waiting);
+        if ENTRIES < all.count {
+            return Judged::refused(5);
+        }
+        if all.wide {
+            return Judged::refused(6);
+        }
+        let clock = grown.clock;
+        let left = waiting.uncovered(clock);
+        let done = all.entries;
+        Judged::accepted(clock, done, left)
+    }
+
+    pub fn apply(self, op: Op) -> Judged
+        requires { ⌜ Within self × OpWithin op ⌝ }
+        ensures { λ o. ⌜ o ≡ judged (apply self op) ⌝ }
+    {
+        if op.up {
+            return self.apply_update(op.update);
+        }
+        self.apply_keyset_rm(op.removal)
+    }
+
+    pub fn reset_remove(self, by: Clock) -> Judged
+        requires { ⌜ Within self ⌝ }
+        ensures { λ o. ⌜ o ≡ judged (reset self (dotsOf by)) ⌝ }
+    {
+        let clock = self.clock.cut(by);
+        let entries = self.entries.reset(by);
+        let left = self.waiting.reset(by);
+        if left.over {
+            return Judged::refused(8);
+        }
+        let waiting = left.waiting;
+        Judged::accepted(clock, entries, waiting)
+    }
+}
+
+impl Judged {
+    pub fn accepted(clock: Clock, entries: Entries, waiting: Waiting) -> Judged
+        ensures { λ r. ⌜ r ≡ record { number = 0; map = record { clock = clock; entries = entries; waiting = waiting } } ⌝ }
+    {
+        Judged {
+            number: 0,
+            map: Map {
+                clock,
+                entries,
+                waiting,
+            },
+        }
+    }
+
+    pub fn refused(number: u64) -> Judged
+        ensures { λ r. ⌜ r ≡ record { number = number; map = noMap } ⌝ }
+    {
+        let map = Map::new();
+        Judged { number, map }
+    }
+}
