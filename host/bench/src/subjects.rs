@@ -1,0 +1,229 @@
+//! What is timed: byte calls, the plain program on decoded arrays, the published crate.
+
+use crate::inputs::{Task, Work};
+use calls::{length_of, Calls, LONGEST_MAP};
+use crdts::{CmRDT, CvRDT, ResetRemove, VClock};
+use oracle::expected;
+use oracle::image::{map_image, read_clock, read_map, read_operation};
+use oracle::published::{self, PublishedMap, PublishedOperation};
+use std::hint::black_box;
+
+/// Inputs made ready outside the time that is taken; results are dropped outside it too.
+pub trait Prepared {
+    fn run(&mut self);
+}
+
+pub trait Subject {
+    fn name(&self) -> String;
+    fn prepare<'a>(&'a self, task: &'a Task, batch: usize) -> Box<dyn Prepared + 'a>;
+    /// Stops the program if the subject's answer is wrong.
+    fn check(&self, task: &Task);
+}
+
+pub fn all() -> Vec<Box<dyn Subject>> {
+    vec![
+        #[cfg(feature = "archive")]
+        Box::new(ByByte(calls::Archive)),
+        Box::new(ByByte(calls::Plain)),
+        Box::new(OnArrays),
+        Box::new(Published),
+    ]
+}
+
+/// The image that must come out; empty for `len`.
+fn expected_image(task: &Task) -> Vec<u8> {
+    let answer = match &task.work {
+        Work::Apply { op } => expected::apply(&task.map, op),
+        Work::Merge { other } => expected::merge(&task.map, other),
+        Work::ResetRemove { clock } => expected::reset_remove(&task.map, clock).unwrap(),
+        Work::Len => expected::len(&task.map),
+    };
+    assert_eq!(answer.number, 0, "{} is refused", task.name);
+    answer.bytes
+}
+
+struct ByByte<C: Calls>(C);
+
+struct ByteRuns<'a, C: Calls> {
+    subject: &'a ByByte<C>,
+    task: &'a Task,
+    out: Vec<u8>,
+    batch: usize,
+}
+
+impl<C: Calls> ByByte<C> {
+    fn once(&self, task: &Task, out: &mut [u8]) -> u64 {
+        match &task.work {
+            Work::Apply { op } => self.0.apply(&task.map, op, out),
+            Work::Merge { other } => self.0.merge(&task.map, other, out),
+            Work::ResetRemove { clock } => self.0.reset_remove(&task.map, clock, out),
+            Work::Len => self.0.len_count(&task.map),
+        }
+    }
+}
+
+impl<C: Calls> Prepared for ByteRuns<'_, C> {
+    fn run(&mut self) {
+        for _ in 0..self.batch {
+            black_box(self.subject.once(black_box(self.task), &mut self.out));
+        }
+    }
+}
+
+impl<C: Calls> Subject for ByByte<C> {
+    fn name(&self) -> String {
+        format!("{}, byte call", self.0.name())
+    }
+    fn prepare<'a>(&'a self, task: &'a Task, batch: usize) -> Box<dyn Prepared + 'a> {
+        Box::new(ByteRuns { subject: self, task, out: vec![0; LONGEST_MAP], batch })
+    }
+    fn check(&self, task: &Task) {
+        let mut out = vec![0; LONGEST_MAP];
+        let word = self.once(task, &mut out);
+        if let Work::Len = task.work {
+            assert_eq!(word, 16);
+        } else {
+            assert_eq!(out[..length_of(word)], expected_image(task));
+        }
+    }
+}
+
+struct OnArrays;
+
+enum ArrayWork {
+    Apply(plain::Operation),
+    Merge(Box<plain::Map>),
+    ResetRemove(plain::Clock),
+    Len,
+}
+
+struct ArrayRuns {
+    maps: Vec<plain::Map>,
+    work: ArrayWork,
+}
+
+impl Prepared for ArrayRuns {
+    fn run(&mut self) {
+        for map in &mut self.maps {
+            match &self.work {
+                ArrayWork::Apply(operation) => map.apply(operation).unwrap(),
+                ArrayWork::Merge(other) => *map = map.merge(other).unwrap(),
+                ArrayWork::ResetRemove(clock) => map.reset_remove(clock).unwrap(),
+                ArrayWork::Len => {
+                    black_box(black_box(&*map).len());
+                }
+            }
+        }
+    }
+}
+
+impl OnArrays {
+    fn runs(task: &Task, batch: usize) -> ArrayRuns {
+        let work = match &task.work {
+            Work::Apply { op } => ArrayWork::Apply(plain::read_op(op).unwrap()),
+            Work::Merge { other } => ArrayWork::Merge(Box::new(plain::read_map(other).unwrap())),
+            Work::ResetRemove { clock } => {
+                ArrayWork::ResetRemove(plain::read_clock(clock).unwrap())
+            }
+            Work::Len => ArrayWork::Len,
+        };
+        ArrayRuns { maps: vec![plain::read_map(&task.map).unwrap(); batch], work }
+    }
+}
+
+impl Subject for OnArrays {
+    fn name(&self) -> String {
+        "plain, on decoded arrays".to_string()
+    }
+    fn prepare<'a>(&'a self, task: &'a Task, batch: usize) -> Box<dyn Prepared + 'a> {
+        Box::new(OnArrays::runs(task, batch))
+    }
+    fn check(&self, task: &Task) {
+        let mut runs = OnArrays::runs(task, 1);
+        runs.run();
+        let mut out = vec![0; LONGEST_MAP];
+        let length = plain::write_map(&runs.maps[0], &mut out).unwrap();
+        match task.work {
+            Work::Len => assert_eq!(runs.maps[0].len(), 16),
+            _ => assert_eq!(out[..length], expected_image(task)),
+        }
+    }
+}
+
+struct Published;
+
+enum PublishedWork {
+    Apply(Vec<PublishedOperation>),
+    Merge(Vec<PublishedMap>),
+    ResetRemove(VClock<u16>),
+    Len,
+}
+
+struct PublishedRuns {
+    maps: Vec<PublishedMap>,
+    work: PublishedWork,
+}
+
+impl Prepared for PublishedRuns {
+    fn run(&mut self) {
+        match &mut self.work {
+            PublishedWork::Apply(operations) => {
+                for (map, operation) in self.maps.iter_mut().zip(operations.drain(..)) {
+                    map.apply(operation);
+                }
+            }
+            PublishedWork::Merge(others) => {
+                for (map, other) in self.maps.iter_mut().zip(others.drain(..)) {
+                    map.merge(other);
+                }
+            }
+            PublishedWork::ResetRemove(clock) => {
+                self.maps.iter_mut().for_each(|map| map.reset_remove(clock));
+            }
+            PublishedWork::Len => {
+                for map in &self.maps {
+                    black_box(black_box(map).len().val);
+                }
+            }
+        }
+    }
+}
+
+impl Published {
+    fn runs(task: &Task, batch: usize) -> PublishedRuns {
+        // the published calls change the map in place and take their argument over: one for each
+        let map = published::map_in(&read_map(&task.map).unwrap());
+        let work = match &task.work {
+            Work::Apply { op } => {
+                let operation = published::operation_in(&read_operation(op).unwrap());
+                PublishedWork::Apply(vec![operation; batch])
+            }
+            Work::Merge { other } => {
+                let other = published::map_in(&read_map(other).unwrap());
+                PublishedWork::Merge(vec![other; batch])
+            }
+            Work::ResetRemove { clock } => {
+                PublishedWork::ResetRemove(published::clock_in(&read_clock(clock).unwrap()))
+            }
+            Work::Len => PublishedWork::Len,
+        };
+        PublishedRuns { maps: vec![map; batch], work }
+    }
+}
+
+impl Subject for Published {
+    fn name(&self) -> String {
+        "published crate, on decoded maps".to_string()
+    }
+    fn prepare<'a>(&'a self, task: &'a Task, batch: usize) -> Box<dyn Prepared + 'a> {
+        Box::new(Published::runs(task, batch))
+    }
+    fn check(&self, task: &Task) {
+        let mut runs = Published::runs(task, 1);
+        runs.run();
+        match task.work {
+            Work::Len => assert_eq!(runs.maps[0].len().val, 16),
+            _ => assert_eq!(map_image(&published::map_out(&runs.maps[0])), expected_image(task)),
+        }
+    }
+}

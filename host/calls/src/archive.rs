@@ -1,0 +1,117 @@
+//! The proved version behind the trait: libcastribba.a, called as castribba.h declares it.
+
+use crate::{Calls, LentClock};
+
+mod declared {
+    use crate::LentClock;
+
+    #[rustfmt::skip]
+    extern "C" {
+        pub fn castribba_apply(map: *const u8, map_len: usize, op: *const u8, op_len: usize, out: *mut u8, out_len: usize) -> u64;
+        pub fn castribba_merge(map: *const u8, map_len: usize, other: *const u8, other_len: usize, out: *mut u8, out_len: usize) -> u64;
+        pub fn castribba_reset_remove(map: *const u8, map_len: usize, clock: *const u8, clock_len: usize, out: *mut u8, out_len: usize) -> u64;
+        pub fn castribba_update(map: *const u8, map_len: usize, actor: u16, key: u32, value: u64, out: *mut u8, out_len: usize) -> u64;
+        pub fn castribba_rm_get(map: *const u8, map_len: usize, key: u32, out: *mut u8, out_len: usize) -> u64;
+        pub fn castribba_rm_read_ctx(map: *const u8, map_len: usize, key: u32, out: *mut u8, out_len: usize) -> u64;
+        pub fn castribba_get(map: *const u8, map_len: usize, key: u32, out: *mut u8, out_len: usize) -> u64;
+        pub fn castribba_len(map: *const u8, map_len: usize) -> u64;
+        pub fn castribba_len_count(map: *const u8, map_len: usize) -> u64;
+        pub fn castribba_validate_op(map: *const u8, map_len: usize, op: *const u8, op_len: usize) -> u64;
+        pub fn castribba_validate_op_start(map: *const u8, map_len: usize, op: *const u8, op_len: usize) -> u64;
+        pub fn castribba_validate_op_end(map: *const u8, map_len: usize, op: *const u8, op_len: usize) -> u64;
+        pub fn castribba_validate_merge(map: *const u8, map_len: usize, other: *const u8, other_len: usize) -> u64;
+        pub fn castribba_validate_merge_actor(map: *const u8, map_len: usize, other: *const u8, other_len: usize) -> u64;
+        pub fn castribba_validate_merge_counter(map: *const u8, map_len: usize, other: *const u8, other_len: usize) -> u64;
+        pub fn castribba_validate_merge_our_key(map: *const u8, map_len: usize, other: *const u8, other_len: usize) -> u64;
+        pub fn castribba_validate_merge_their_key(map: *const u8, map_len: usize, other: *const u8, other_len: usize) -> u64;
+        pub fn castribba_clock_advance(clock: *mut LentClock, actor: u16, counter: u64) -> u64;
+    }
+}
+
+pub struct Archive;
+
+/// A call on one map, with whatever plain arguments follow, then the output buffer.
+macro_rules! from_map {
+    ($call:ident, $map:expr, ($($argument:expr),*), $out:expr) => {
+        // SAFETY: each pointer goes with the length of the slice that it comes from.
+        unsafe {
+            declared::$call($map.as_ptr(), $map.len(), $($argument,)* $out.as_mut_ptr(), $out.len())
+        }
+    };
+}
+
+/// A call on two images, with an output buffer or without.
+macro_rules! from_two {
+    ($call:ident, $first:expr, $second:expr $(, $out:expr)?) => {
+        // SAFETY: each pointer goes with the length of the slice that it comes from.
+        unsafe {
+            declared::$call(
+                $first.as_ptr(), $first.len(), $second.as_ptr(), $second.len()
+                $(, $out.as_mut_ptr(), $out.len())?
+            )
+        }
+    };
+}
+
+impl Calls for Archive {
+    fn name(&self) -> &'static str {
+        "archive"
+    }
+    fn apply(&self, map: &[u8], op: &[u8], out: &mut [u8]) -> u64 {
+        from_two!(castribba_apply, map, op, out)
+    }
+    fn merge(&self, map: &[u8], other: &[u8], out: &mut [u8]) -> u64 {
+        from_two!(castribba_merge, map, other, out)
+    }
+    fn reset_remove(&self, map: &[u8], clock: &[u8], out: &mut [u8]) -> u64 {
+        from_two!(castribba_reset_remove, map, clock, out)
+    }
+    fn update(&self, map: &[u8], actor: u16, key: u32, value: u64, out: &mut [u8]) -> u64 {
+        from_map!(castribba_update, map, (actor, key, value), out)
+    }
+    fn rm_get(&self, map: &[u8], key: u32, out: &mut [u8]) -> u64 {
+        from_map!(castribba_rm_get, map, (key), out)
+    }
+    fn rm_read_ctx(&self, map: &[u8], key: u32, out: &mut [u8]) -> u64 {
+        from_map!(castribba_rm_read_ctx, map, (key), out)
+    }
+    fn get(&self, map: &[u8], key: u32, out: &mut [u8]) -> u64 {
+        from_map!(castribba_get, map, (key), out)
+    }
+    fn len(&self, map: &[u8]) -> u64 {
+        // SAFETY: the pointer goes with the slice's length.
+        unsafe { declared::castribba_len(map.as_ptr(), map.len()) }
+    }
+    fn len_count(&self, map: &[u8]) -> u64 {
+        // SAFETY: the pointer goes with the slice's length.
+        unsafe { declared::castribba_len_count(map.as_ptr(), map.len()) }
+    }
+    fn validate_op(&self, map: &[u8], op: &[u8]) -> u64 {
+        from_two!(castribba_validate_op, map, op)
+    }
+    fn validate_op_start(&self, map: &[u8], op: &[u8]) -> u64 {
+        from_two!(castribba_validate_op_start, map, op)
+    }
+    fn validate_op_end(&self, map: &[u8], op: &[u8]) -> u64 {
+        from_two!(castribba_validate_op_end, map, op)
+    }
+    fn validate_merge(&self, map: &[u8], other: &[u8]) -> u64 {
+        from_two!(castribba_validate_merge, map, other)
+    }
+    fn validate_merge_actor(&self, map: &[u8], other: &[u8]) -> u64 {
+        from_two!(castribba_validate_merge_actor, map, other)
+    }
+    fn validate_merge_counter(&self, map: &[u8], other: &[u8]) -> u64 {
+        from_two!(castribba_validate_merge_counter, map, other)
+    }
+    fn validate_merge_our_key(&self, map: &[u8], other: &[u8]) -> u64 {
+        from_two!(castribba_validate_merge_our_key, map, other)
+    }
+    fn validate_merge_their_key(&self, map: &[u8], other: &[u8]) -> u64 {
+        from_two!(castribba_validate_merge_their_key, map, other)
+    }
+    fn clock_advance(&self, clock: &mut LentClock, actor: u16, counter: u64) -> u64 {
+        // SAFETY: a LentClock has the layout of castribba_clock.
+        unsafe { declared::castribba_clock_advance(clock, actor, counter) }
+    }
+}

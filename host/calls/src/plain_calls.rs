@@ -1,0 +1,70 @@
+//! The plain Rust program behind the trait.
+
+use crate::{Calls, LentClock, LentDot};
+
+pub struct Plain;
+
+impl Calls for Plain {
+    fn name(&self) -> &'static str {
+        "plain"
+    }
+    fn apply(&self, map: &[u8], op: &[u8], out: &mut [u8]) -> u64 {
+        plain::castribba_apply(map, op, out)
+    }
+    fn merge(&self, map: &[u8], other: &[u8], out: &mut [u8]) -> u64 {
+        plain::castribba_merge(map, other, out)
+    }
+    fn reset_remove(&self, map: &[u8], clock: &[u8], out: &mut [u8]) -> u64 {
+        plain::castribba_reset_remove(map, clock, out)
+    }
+    fn update(&self, map: &[u8], actor: u16, key: u32, value: u64, out: &mut [u8]) -> u64 {
+        plain::castribba_update(map, actor, key, value, out)
+    }
+    fn rm_get(&self, map: &[u8], key: u32, out: &mut [u8]) -> u64 {
+        plain::castribba_rm_get(map, key, out)
+    }
+    fn rm_read_ctx(&self, map: &[u8], key: u32, out: &mut [u8]) -> u64 {
+        plain::castribba_rm_read_ctx(map, key, out)
+    }
+    fn get(&self, map: &[u8], key: u32, out: &mut [u8]) -> u64 {
+        plain::castribba_get(map, key, out)
+    }
+    fn len(&self, map: &[u8]) -> u64 {
+        plain::castribba_len(map)
+    }
+    fn len_count(&self, map: &[u8]) -> u64 {
+        plain::castribba_len_count(map)
+    }
+    fn validate_op(&self, map: &[u8], op: &[u8]) -> u64 {
+        plain::castribba_validate_op(map, op)
+    }
+    fn validate_op_start(&self, map: &[u8], op: &[u8]) -> u64 {
+        plain::castribba_validate_op_start(map, op)
+    }
+    fn validate_op_end(&self, map: &[u8], op: &[u8]) -> u64 {
+        plain::castribba_validate_op_end(map, op)
+    }
+    fn validate_merge(&self, map: &[u8], other: &[u8]) -> u64 {
+        plain::castribba_validate_merge(map, other)
+    }
+    fn validate_merge_actor(&self, map: &[u8], other: &[u8]) -> u64 {
+        plain::castribba_validate_merge_actor(map, other)
+    }
+    fn validate_merge_counter(&self, map: &[u8], other: &[u8]) -> u64 {
+        plain::castribba_validate_merge_counter(map, other)
+    }
+    fn validate_merge_our_key(&self, map: &[u8], other: &[u8]) -> u64 {
+        plain::castribba_validate_merge_our_key(map, other)
+    }
+    fn validate_merge_their_key(&self, map: &[u8], other: &[u8]) -> u64 {
+        plain::castribba_validate_merge_their_key(map, other)
+    }
+    fn clock_advance(&self, clock: &mut LentClock, actor: u16, counter: u64) -> u64 {
+        let dots = clock.dots.map(|dot| plain::Dot { actor: dot.actor, counter: dot.counter });
+        let mut own = plain::Clock { dots, len: clock.len };
+        let word = plain::castribba_clock_advance(&mut own, actor, counter);
+        clock.dots = own.dots.map(|dot| LentDot { actor: dot.actor, counter: dot.counter });
+        clock.len = own.len;
+        word
+    }
+}

@@ -1,0 +1,284 @@
+//! Runs calls of the implementation under test and compares everything that they did.
+
+use crate::panics::caught;
+use crate::question::{dump, Call, Question};
+use crate::random::Random;
+use calls::{length_of, number_of, Calls, LentClock, LentDot, LONGEST_MAP};
+use oracle::expected::{self, Answer};
+use std::collections::BTreeMap;
+
+/// Bytes on each side of a buffer that no call may touch.
+const GUARD: usize = 48;
+/// Differences printed in full, made small; the others are only counted.
+const PRINTED: u64 = 5;
+/// Cases between two lines of progress.
+const PROGRESS: u64 = 100_000;
+
+pub struct Checker<'a> {
+    calls: &'a dyn Calls,
+    random: Random,
+    met: BTreeMap<(Call, u32), u64>,
+    pub cases: u64,
+    pub differences: u64,
+}
+
+/// What the bytes around an answer look like before a call.
+fn pattern(place: usize) -> u8 {
+    (place as u8).wrapping_mul(37) ^ 0xA5
+}
+
+/// The oracle's answer; a panic inside the published crate is a disagreement too.
+fn oracle_answer(question: &Question) -> Result<Answer, String> {
+    caught(|| question.expected()).unwrap_or_else(|| Err("the published crate panics".to_string()))
+}
+
+impl<'a> Checker<'a> {
+    pub fn new(calls: &'a dyn Calls, seed: u64) -> Checker<'a> {
+        Checker {
+            calls,
+            // other numbers than the inputs are made from
+            random: Random::new(!seed),
+            met: BTreeMap::new(),
+            cases: 0,
+            differences: 0,
+        }
+    }
+
+    fn count(&mut self, call: Call, number: u32) {
+        self.cases += 1;
+        *self.met.entry((call, number)).or_default() += 1;
+        if self.cases % PROGRESS == 0 {
+            println!("{} cases so far, {} differences", self.cases, self.differences);
+        }
+    }
+
+    /// Buffer lengths around the answer's, and others.
+    fn rooms(&mut self, answer: &Answer) -> Vec<usize> {
+        let length = answer.bytes.len();
+        let any = match self.random.below(5) {
+            0 => 0,
+            1 => LONGEST_MAP,
+            2 => self.random.below(64),
+            3 => length + self.random.between(1, 40),
+            _ => self.random.below(length + 1),
+        };
+        if answer.number != 0 {
+            return vec![any];
+        }
+        let around = vec![length, length.saturating_sub(1), length + 1, any];
+        if self.random.one_in(8) {
+            around
+        } else if self.random.one_in(2) {
+            vec![length]
+        } else {
+            vec![*self.random.pick(&around)]
+        }
+    }
+
+    /// What is wrong with the implementation's answer, if anything: number, length, carried
+    /// numbers, every byte written, every byte left alone.
+    fn fault(&mut self, question: &Question, expected: &Answer, room: usize) -> Option<String> {
+        // at odd addresses: a call must not lean on alignment
+        let shifts: Vec<usize> = question.images.iter().map(|_| self.random.below(16)).collect();
+        let copies: Vec<Vec<u8>> = question
+            .images
+            .iter()
+            .zip(&shifts)
+            .map(|(image, shift)| {
+                let mut copy: Vec<u8> = (0..*shift).map(pattern).collect();
+                copy.extend_from_slice(image);
+                copy
+            })
+            .collect();
+        let lent: Vec<&[u8]> = copies.iter().zip(&shifts).map(|(c, shift)| &c[*shift..]).collect();
+        let start = GUARD + self.random.below(16);
+        let mut buffer: Vec<u8> = (0..start + room + GUARD).map(pattern).collect();
+
+        let calls = self.calls;
+        let asked = caught(|| question.ask(calls, &lent, &mut buffer[start..start + room]));
+        let Some((word, carried)) = asked else {
+            return Some(format!("panics, for {}", expected.number));
+        };
+        let (number, length) = (number_of(word), length_of(word));
+        if (number, length) != (expected.number, expected.bytes.len()) {
+            return Some(format!(
+                "answers {number} with length {length}, for {} with length {}, in a buffer of {room}",
+                expected.number,
+                expected.bytes.len()
+            ));
+        }
+        if carried != expected.carried {
+            return Some(format!("carries {carried:?}, for {:?}", expected.carried));
+        }
+        let written = start..start + length;
+        if buffer[written.clone()] != expected.bytes[..] {
+            let (got, wanted) = (dump(&buffer[written]), dump(&expected.bytes));
+            return Some(format!("writes\n{got}\n  for\n{wanted}"));
+        }
+        let touched = (0..buffer.len())
+            .find(|place| !written.contains(place) && buffer[*place] != pattern(*place));
+        if let Some(place) = touched {
+            let place = place as i64 - start as i64;
+            return Some(format!("touches byte {place} of a buffer of {room}, length {length}"));
+        }
+        if lent.iter().zip(&question.images).any(|(lent, image)| *lent != &image[..]) {
+            return Some("changes an input".to_string());
+        }
+        None
+    }
+
+    /// A fault in any of the buffers around the answer.
+    fn fault_in_any_room(&mut self, question: &Question) -> Option<String> {
+        let full = match oracle_answer(question) {
+            Ok(full) => full,
+            Err(disagreement) => return Some(disagreement),
+        };
+        let length = full.bytes.len();
+        [length, length.saturating_sub(1), length + 40]
+            .into_iter()
+            .find_map(|room| self.fault(question, &full.in_room(room), room))
+    }
+
+    fn differs(&mut self, question: &Question, fault: String) {
+        self.differences += 1;
+        if self.differences > PRINTED {
+            return;
+        }
+        // leave records out for as long as something is still wrong
+        let (mut smallest, mut fault) = (question.clone(), fault);
+        loop {
+            let smaller = (0..smallest.images.len()).find_map(|image| {
+                (0..smallest.images[image].len() / 16).find_map(|record| {
+                    let mut smaller = smallest.clone();
+                    smaller.images[image].drain(record * 16..record * 16 + 16);
+                    self.fault_in_any_room(&smaller).map(|fault| (smaller, fault))
+                })
+            });
+            match smaller {
+                Some((smaller, its_fault)) => (smallest, fault) = (smaller, its_fault),
+                None => break,
+            }
+        }
+        println!("DIFFERENCE in {smallest}\n  {fault}\n");
+    }
+
+    /// The answer that the oracle gives, after comparing; None when the oracle itself failed.
+    fn check(&mut self, question: Question) -> Option<Answer> {
+        let full = match oracle_answer(&question) {
+            Ok(full) => full,
+            Err(disagreement) => {
+                self.differs(&question, disagreement);
+                return None;
+            }
+        };
+        let rooms = if question.writes() { self.rooms(&full) } else { vec![0] };
+        for room in rooms {
+            let expected = full.in_room(room);
+            self.count(question.call, expected.number);
+            if let Some(fault) = self.fault(&question, &expected, room) {
+                self.differs(&question, fault);
+            }
+        }
+        Some(full)
+    }
+
+    pub fn apply(&mut self, map: &[u8], op: &[u8]) -> Option<Answer> {
+        self.check(Question::of_two(Call::Apply, map, op))
+    }
+
+    pub fn merge(&mut self, map: &[u8], other: &[u8]) -> Option<Answer> {
+        self.check(Question::of_two(Call::Merge, map, other))
+    }
+
+    pub fn reset_remove(&mut self, map: &[u8], clock: &[u8]) -> Option<Answer> {
+        self.check(Question::of_two(Call::ResetRemove, map, clock))
+    }
+
+    pub fn update(&mut self, map: &[u8], actor: u16, key: u32, value: u64) -> Option<Answer> {
+        self.check(Question { actor, key, value, ..Question::of_one(Call::Update, map) })
+    }
+
+    pub fn rm_get(&mut self, map: &[u8], key: u32) -> Option<Answer> {
+        self.check(Question { key, ..Question::of_one(Call::RmGet, map) })
+    }
+
+    pub fn rm_read_ctx(&mut self, map: &[u8], key: u32) -> Option<Answer> {
+        self.check(Question { key, ..Question::of_one(Call::RmReadCtx, map) })
+    }
+
+    pub fn get(&mut self, map: &[u8], key: u32) -> Option<Answer> {
+        self.check(Question { key, ..Question::of_one(Call::Get, map) })
+    }
+
+    pub fn len(&mut self, map: &[u8]) -> Option<Answer> {
+        self.check(Question::of_one(Call::Len, map))
+    }
+
+    pub fn validate_op(&mut self, map: &[u8], op: &[u8]) -> Option<Answer> {
+        self.check(Question::of_two(Call::ValidateOp, map, op))
+    }
+
+    pub fn validate_merge(&mut self, map: &[u8], other: &[u8]) -> Option<Answer> {
+        self.check(Question::of_two(Call::ValidateMerge, map, other))
+    }
+
+    /// Every call that takes a map, the second image as whatever the call takes.
+    pub fn every_call(&mut self, map: &[u8], second: &[u8], actor: u16, key: u32, value: u64) {
+        self.apply(map, second);
+        self.merge(map, second);
+        self.reset_remove(map, second);
+        self.validate_op(map, second);
+        self.validate_merge(map, second);
+        self.update(map, actor, key, value);
+        self.rm_get(map, key);
+        self.rm_read_ctx(map, key);
+        self.get(map, key);
+        self.len(map);
+    }
+
+    pub fn clock_advance(&mut self, dots: &[(u16, u64); 8], len: usize, actor: u16, counter: u64) {
+        let (number, after, after_len) = expected::clock_advance(dots, len, actor, counter);
+        let lent_dots =
+            |dots: &[(u16, u64); 8]| dots.map(|(actor, counter)| LentDot { actor, counter });
+        let mut lent = LentClock { dots: lent_dots(dots), len };
+        let calls = self.calls;
+        let word = caught(|| calls.clock_advance(&mut lent, actor, counter));
+        self.count(Call::ClockAdvance, number);
+        let expected = LentClock { dots: lent_dots(&after), len: after_len };
+        if word != Some(u64::from(number) << 32) || lent != expected {
+            self.differences += 1;
+            if self.differences <= PRINTED {
+                println!(
+                    "DIFFERENCE in clock_advance of {dots:?}, length {len}, by {actor}:{counter}\n  \
+                     answers {word:?} and leaves {lent:?}, for {number} and {expected:?}\n"
+                );
+            }
+        }
+    }
+
+    /// How often each number was met per call.
+    pub fn print_table(&self) {
+        let cell = |call: Call, number: u32| match self.met.get(&(call, number)) {
+            Some(times) => times.to_string(),
+            None if call.possible().contains(&number) => "NEVER".to_string(),
+            None => "-".to_string(),
+        };
+        print!("{:<15}", "call");
+        (0..=12).for_each(|number| print!("{number:>9}"));
+        println!();
+        for call in Call::ALL {
+            print!("{:<15}", call.name());
+            (0..=12).for_each(|number| print!("{:>9}", cell(call, number)));
+            println!();
+        }
+    }
+
+    /// Whether each call met every number that it can answer, and no other.
+    pub fn met_every_number(&self) -> bool {
+        Call::ALL.iter().all(|call| {
+            (0..=12).all(|number| {
+                self.met.contains_key(&(*call, number)) == call.possible().contains(&number)
+            })
+        })
+    }
+}

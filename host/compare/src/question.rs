@@ -1,0 +1,171 @@
+//! One call with its arguments: what the oracle answers to it, and what an implementation does.
+
+use calls::Calls;
+use oracle::expected::{self, Answer};
+use oracle::image::records_of;
+use std::fmt;
+
+#[derive(Clone, Copy, Debug, PartialEq, Eq, PartialOrd, Ord)]
+pub enum Call {
+    Apply,
+    Merge,
+    ResetRemove,
+    Update,
+    RmGet,
+    RmReadCtx,
+    Get,
+    Len,
+    ValidateOp,
+    ValidateMerge,
+    ClockAdvance,
+}
+
+impl Call {
+    pub const ALL: [Call; 11] = [
+        Call::Apply,
+        Call::Merge,
+        Call::ResetRemove,
+        Call::Update,
+        Call::RmGet,
+        Call::RmReadCtx,
+        Call::Get,
+        Call::Len,
+        Call::ValidateOp,
+        Call::ValidateMerge,
+        Call::ClockAdvance,
+    ];
+
+    pub fn name(self) -> &'static str {
+        match self {
+            Call::Apply => "apply",
+            Call::Merge => "merge",
+            Call::ResetRemove => "reset_remove",
+            Call::Update => "update",
+            Call::RmGet => "rm_get",
+            Call::RmReadCtx => "rm_read_ctx",
+            Call::Get => "get",
+            Call::Len => "len",
+            Call::ValidateOp => "validate_op",
+            Call::ValidateMerge => "validate_merge",
+            Call::ClockAdvance => "clock_advance",
+        }
+    }
+
+    /// The numbers that the call can answer: a run must meet each of them.
+    pub fn possible(self) -> &'static [u32] {
+        match self {
+            Call::Apply | Call::Merge => &[0, 1, 2, 3, 4, 5, 6, 7, 8, 10],
+            // a reset makes nothing longer but the key list of united removals
+            Call::ResetRemove => &[0, 1, 2, 3, 8, 10],
+            Call::Update => &[0, 1, 2, 3, 4, 9, 10],
+            Call::RmGet | Call::RmReadCtx | Call::Get => &[0, 1, 2, 3, 10],
+            Call::Len => &[0, 1, 2, 3],
+            Call::ValidateOp => &[0, 1, 2, 3, 11],
+            Call::ValidateMerge => &[0, 1, 2, 3, 12],
+            Call::ClockAdvance => &[0, 1, 2, 4],
+        }
+    }
+}
+
+/// A call over images. Arguments that the call does not take are zero or missing.
+#[derive(Clone)]
+pub struct Question {
+    pub call: Call,
+    pub images: Vec<Vec<u8>>,
+    pub actor: u16,
+    pub key: u32,
+    pub value: u64,
+}
+
+impl Question {
+    pub fn of_one(call: Call, map: &[u8]) -> Question {
+        Question { call, images: vec![map.to_vec()], actor: 0, key: 0, value: 0 }
+    }
+
+    pub fn of_two(call: Call, first: &[u8], second: &[u8]) -> Question {
+        let images = vec![first.to_vec(), second.to_vec()];
+        Question { call, images, actor: 0, key: 0, value: 0 }
+    }
+
+    /// What must be answered, given room enough. An error is a disagreement of the published
+    /// crate with document 01.
+    pub fn expected(&self) -> Result<Answer, String> {
+        let (first, second) = (&self.images[0][..], self.images.last().unwrap());
+        Ok(match self.call {
+            Call::Apply => expected::apply(first, second),
+            Call::Merge => expected::merge(first, second),
+            Call::ResetRemove => expected::reset_remove(first, second)?,
+            Call::Update => expected::update(first, self.actor, self.key, self.value),
+            Call::RmGet => expected::rm_get(first, self.key),
+            Call::RmReadCtx => expected::rm_read_ctx(first, self.key),
+            Call::Get => expected::get(first, self.key),
+            Call::Len => expected::len(first),
+            Call::ValidateOp => expected::validate_op(first, second),
+            Call::ValidateMerge => expected::validate_merge(first, second),
+            Call::ClockAdvance => unreachable!("a lent clock is no image"),
+        })
+    }
+
+    /// The word, and the numbers that the calls beside this one carry. The images are lent anew,
+    /// so that they can stand anywhere in memory.
+    pub fn ask(&self, calls: &dyn Calls, images: &[&[u8]], out: &mut [u8]) -> (u64, Vec<u64>) {
+        let (first, second) = (images[0], images[images.len() - 1]);
+        match self.call {
+            Call::Apply => (calls.apply(first, second, out), vec![]),
+            Call::Merge => (calls.merge(first, second, out), vec![]),
+            Call::ResetRemove => (calls.reset_remove(first, second, out), vec![]),
+            Call::Update => (calls.update(first, self.actor, self.key, self.value, out), vec![]),
+            Call::RmGet => (calls.rm_get(first, self.key, out), vec![]),
+            Call::RmReadCtx => (calls.rm_read_ctx(first, self.key, out), vec![]),
+            Call::Get => (calls.get(first, self.key, out), vec![]),
+            Call::Len => (calls.len(first), vec![calls.len_count(first)]),
+            Call::ValidateOp => {
+                let start = calls.validate_op_start(first, second);
+                let end = calls.validate_op_end(first, second);
+                (calls.validate_op(first, second), vec![start, end])
+            }
+            Call::ValidateMerge => {
+                let carried = vec![
+                    calls.validate_merge_actor(first, second),
+                    calls.validate_merge_counter(first, second),
+                    calls.validate_merge_our_key(first, second),
+                    calls.validate_merge_their_key(first, second),
+                ];
+                (calls.validate_merge(first, second), carried)
+            }
+            Call::ClockAdvance => unreachable!("a lent clock is no image"),
+        }
+    }
+
+    /// Whether the call has an output buffer.
+    pub fn writes(&self) -> bool {
+        !matches!(self.call, Call::Len | Call::ValidateOp | Call::ValidateMerge)
+    }
+}
+
+/// The records of an image as `mapdump` prints them.
+pub fn dump(image: &[u8]) -> String {
+    let mut lines: Vec<String> = records_of(image)
+        .iter()
+        .map(|r| format!("    {} {} {} {} {}", r.kind, r.index, r.actor, r.key, r.number))
+        .collect();
+    if image.len() % 16 != 0 {
+        lines.push(format!("    and the bytes {:?}", &image[image.len() / 16 * 16..]));
+    }
+    lines.join("\n")
+}
+
+impl fmt::Display for Question {
+    fn fmt(&self, f: &mut fmt::Formatter<'_>) -> fmt::Result {
+        write!(f, "{}", self.call.name())?;
+        if self.call == Call::Update {
+            write!(f, " by actor {} of key {} to {}", self.actor, self.key, self.value)?;
+        } else if matches!(self.call, Call::RmGet | Call::RmReadCtx | Call::Get) {
+            write!(f, " of key {}", self.key)?;
+        }
+        for (place, image) in self.images.iter().enumerate() {
+            write!(f, "\n  image {place}, {} bytes:\n{}", image.len(), dump(image))?;
+        }
+        Ok(())
+    }
+}

@@ -1,0 +1,154 @@
+//! What each call of castribba.h must answer, given room enough: number, bytes, numbers carried.
+
+use crate::image::{map_image, operation_image, read_clock, read_map, read_operation};
+use crate::model::{Map, Operation};
+use crate::published;
+
+#[derive(Clone, Debug, Default, PartialEq, Eq)]
+pub struct Answer {
+    pub number: u32,
+    /// What is written at the start of `out`; empty unless `number` is 0.
+    pub bytes: Vec<u8>,
+    /// One number per carrying call beside this one, in castribba.h's order; zeros if not carried.
+    pub carried: Vec<u64>,
+}
+
+fn refused(number: u32) -> Answer {
+    Answer { number, ..Answer::default() }
+}
+
+impl Answer {
+    /// The same answer to a call whose buffer has only this room: 10 comes after all others.
+    pub fn in_room(&self, room: usize) -> Answer {
+        if self.number == 0 && self.bytes.len() > room {
+            refused(10)
+        } else {
+            self.clone()
+        }
+    }
+}
+
+fn written(over_limit: Option<u32>, bytes: Vec<u8>) -> Answer {
+    match over_limit {
+        Some(number) => refused(number),
+        None => Answer { bytes, ..Answer::default() },
+    }
+}
+
+fn written_map(map: &Map) -> Answer {
+    written(map.over_limit(), map_image(map))
+}
+
+fn written_operation(operation: &Operation) -> Answer {
+    written(operation.over_limit(), operation_image(operation))
+}
+
+/// Runs the part after reading; a number from an image stands for the whole answer.
+fn after_reading(answer: impl FnOnce() -> Result<Answer, u32>) -> Answer {
+    answer().unwrap_or_else(refused)
+}
+
+pub fn apply(map: &[u8], op: &[u8]) -> Answer {
+    after_reading(|| {
+        let (map, operation) = (read_map(map)?, read_operation(op)?);
+        Ok(written_map(&published::apply(&map, &operation)))
+    })
+}
+
+pub fn merge(map: &[u8], other: &[u8]) -> Answer {
+    after_reading(|| {
+        let (map, other) = (read_map(map)?, read_map(other)?);
+        Ok(written_map(&published::merge(&map, &other)))
+    })
+}
+
+/// An error is a disagreement of the published crate with document 01, other than those listed.
+pub fn reset_remove(map: &[u8], clock: &[u8]) -> Result<Answer, String> {
+    let read = || Ok((read_map(map)?, read_clock(clock)?));
+    match read() {
+        Err(number) => Ok(refused(number)),
+        Ok((map, clock)) => published::reset_remove(&map, &clock).map(|after| written_map(&after)),
+    }
+}
+
+pub fn update(map: &[u8], actor: u16, key: u32, value: u64) -> Answer {
+    after_reading(|| {
+        let operation = published::update(&read_map(map)?, actor, key, value).ok_or(9u32)?;
+        Ok(written_operation(&operation))
+    })
+}
+
+pub fn rm_get(map: &[u8], key: u32) -> Answer {
+    after_reading(|| Ok(written_operation(&published::rm_get(&read_map(map)?, key))))
+}
+
+pub fn rm_read_ctx(map: &[u8], key: u32) -> Answer {
+    after_reading(|| Ok(written_operation(&published::rm_read_ctx(&read_map(map)?, key))))
+}
+
+pub fn get(map: &[u8], key: u32) -> Answer {
+    after_reading(|| Ok(written_map(&published::get(&read_map(map)?, key))))
+}
+
+pub fn len(map: &[u8]) -> Answer {
+    match read_map(map) {
+        Err(number) => Answer { number, carried: vec![0], ..Answer::default() },
+        Ok(map) => Answer { carried: vec![published::len(&map)], ..Answer::default() },
+    }
+}
+
+pub fn validate_op(map: &[u8], op: &[u8]) -> Answer {
+    let read = || Ok((read_map(map)?, read_operation(op)?));
+    let (number, carried) = match read() {
+        Err(number) => (number, vec![0; 2]),
+        Ok((map, operation)) => match published::validate_op(&map, &operation) {
+            None => (0, vec![0; 2]),
+            Some((start, end)) => (11, vec![start, end]),
+        },
+    };
+    Answer { number, bytes: vec![], carried }
+}
+
+pub fn validate_merge(map: &[u8], other: &[u8]) -> Answer {
+    let read = || Ok((read_map(map)?, read_map(other)?));
+    let (number, carried) = match read() {
+        Err(number) => (number, vec![0; 4]),
+        Ok((map, other)) => match published::validate_merge(&map, &other) {
+            None => (0, vec![0; 4]),
+            Some((actor, counter, ours, theirs)) => {
+                (12, vec![actor.into(), counter, ours.into(), theirs.into()])
+            }
+        },
+    };
+    Answer { number, bytes: vec![], carried }
+}
+
+/// The number, and the dots after the call: checked on all eight places that are lent, since dots
+/// behind `len` are neither read nor changed.
+pub fn clock_advance(
+    dots: &[(u16, u64); 8],
+    len: usize,
+    actor: u16,
+    counter: u64,
+) -> (u32, [(u16, u64); 8], usize) {
+    let unchanged = |number| (number, *dots, len);
+    if len > 8 {
+        return unchanged(2);
+    }
+    let held = &dots[..len];
+    let ascends = held.windows(2).all(|pair| pair[0].0 < pair[1].0);
+    if !ascends || held.iter().any(|(_, counter)| *counter == 0) {
+        return unchanged(1);
+    }
+    let mut clock: crdts::VClock<u16> = held.iter().map(|dot| crdts::Dot::from(*dot)).collect();
+    crdts::CmRDT::apply(&mut clock, crdts::Dot::new(actor, counter));
+    if clock.dots.len() > 8 {
+        return unchanged(4);
+    }
+    let mut after = *dots;
+    let new_len = clock.dots.len();
+    for (place, dot) in clock.dots.into_iter().enumerate() {
+        after[place] = dot;
+    }
+    (0, after, new_len)
+}

@@ -1,0 +1,147 @@
+//! The calls of castribba.h over slices: same names, same arguments, same words.
+
+use crate::image::read_map_into;
+use crate::{number, read_clock, read_op, write_map, write_op, Clock, Dot, DoubleSpent, Gap, Map};
+
+/// number * 2^32 + length
+fn word(answer: impl FnOnce() -> Result<usize, u32>) -> u64 {
+    match answer() {
+        Ok(length) => length as u64,
+        Err(number) => u64::from(number) << 32,
+    }
+}
+
+pub fn castribba_apply(map: &[u8], op: &[u8], out: &mut [u8]) -> u64 {
+    word(|| {
+        let mut ours = Map::EMPTY;
+        read_map_into(map, &mut ours)?;
+        ours.apply(&read_op(op)?)?;
+        write_map(&ours, out)
+    })
+}
+
+pub fn castribba_merge(map: &[u8], other: &[u8], out: &mut [u8]) -> u64 {
+    word(|| {
+        let (mut ours, mut theirs) = (Map::EMPTY, Map::EMPTY);
+        read_map_into(map, &mut ours)?;
+        read_map_into(other, &mut theirs)?;
+        write_map(&ours.merge(&theirs)?, out)
+    })
+}
+
+pub fn castribba_reset_remove(map: &[u8], clock: &[u8], out: &mut [u8]) -> u64 {
+    word(|| {
+        let mut ours = Map::EMPTY;
+        read_map_into(map, &mut ours)?;
+        ours.reset_remove(&read_clock(clock)?)?;
+        write_map(&ours, out)
+    })
+}
+
+pub fn castribba_update(map: &[u8], actor: u16, key: u32, value: u64, out: &mut [u8]) -> u64 {
+    word(|| {
+        let mut ours = Map::EMPTY;
+        read_map_into(map, &mut ours)?;
+        write_op(&ours.update(actor, key, value)?, out)
+    })
+}
+
+pub fn castribba_rm_get(map: &[u8], key: u32, out: &mut [u8]) -> u64 {
+    word(|| {
+        let mut ours = Map::EMPTY;
+        read_map_into(map, &mut ours)?;
+        write_op(&ours.rm_get(key), out)
+    })
+}
+
+pub fn castribba_rm_read_ctx(map: &[u8], key: u32, out: &mut [u8]) -> u64 {
+    word(|| {
+        let mut ours = Map::EMPTY;
+        read_map_into(map, &mut ours)?;
+        write_op(&ours.rm_read_ctx(key), out)
+    })
+}
+
+pub fn castribba_get(map: &[u8], key: u32, out: &mut [u8]) -> u64 {
+    word(|| {
+        let mut ours = Map::EMPTY;
+        read_map_into(map, &mut ours)?;
+        write_map(&ours.get(key), out)
+    })
+}
+
+fn len_of(map: &[u8]) -> Result<usize, u32> {
+    let mut ours = Map::EMPTY;
+    read_map_into(map, &mut ours)?;
+    Ok(ours.len())
+}
+
+pub fn castribba_len(map: &[u8]) -> u64 {
+    word(|| len_of(map).map(|_| 0))
+}
+
+pub fn castribba_len_count(map: &[u8]) -> u64 {
+    len_of(map).map_or(0, |count| count as u64)
+}
+
+fn gap_of(map: &[u8], op: &[u8]) -> Result<Option<Gap>, u32> {
+    let mut ours = Map::EMPTY;
+    read_map_into(map, &mut ours)?;
+    Ok(ours.validate_op(&read_op(op)?).err())
+}
+
+pub fn castribba_validate_op(map: &[u8], op: &[u8]) -> u64 {
+    word(|| match gap_of(map, op) {
+        Ok(None) => Ok(0),
+        Ok(Some(_)) => Err(number::SOURCE_ORDER),
+        Err(number) => Err(number),
+    })
+}
+
+pub fn castribba_validate_op_start(map: &[u8], op: &[u8]) -> u64 {
+    gap_of(map, op).ok().flatten().map_or(0, |gap| gap.start)
+}
+
+pub fn castribba_validate_op_end(map: &[u8], op: &[u8]) -> u64 {
+    gap_of(map, op).ok().flatten().map_or(0, |gap| gap.end)
+}
+
+fn double_spent_of(map: &[u8], other: &[u8]) -> Result<Option<DoubleSpent>, u32> {
+    let (mut ours, mut theirs) = (Map::EMPTY, Map::EMPTY);
+    read_map_into(map, &mut ours)?;
+    read_map_into(other, &mut theirs)?;
+    Ok(ours.validate_merge(&theirs).err())
+}
+
+pub fn castribba_validate_merge(map: &[u8], other: &[u8]) -> u64 {
+    word(|| match double_spent_of(map, other) {
+        Ok(None) => Ok(0),
+        Ok(Some(_)) => Err(number::DOUBLE_SPENT),
+        Err(number) => Err(number),
+    })
+}
+
+/// One of the numbers that 12 carries, 0 where it is not carried.
+fn carried_by_12(map: &[u8], other: &[u8], pick: impl Fn(DoubleSpent) -> u64) -> u64 {
+    double_spent_of(map, other).ok().flatten().map_or(0, pick)
+}
+
+pub fn castribba_validate_merge_actor(map: &[u8], other: &[u8]) -> u64 {
+    carried_by_12(map, other, |spent| spent.dot.actor.into())
+}
+
+pub fn castribba_validate_merge_counter(map: &[u8], other: &[u8]) -> u64 {
+    carried_by_12(map, other, |spent| spent.dot.counter)
+}
+
+pub fn castribba_validate_merge_our_key(map: &[u8], other: &[u8]) -> u64 {
+    carried_by_12(map, other, |spent| spent.our_key.into())
+}
+
+pub fn castribba_validate_merge_their_key(map: &[u8], other: &[u8]) -> u64 {
+    carried_by_12(map, other, |spent| spent.their_key.into())
+}
+
+pub fn castribba_clock_advance(clock: &mut Clock, actor: u16, counter: u64) -> u64 {
+    word(|| clock.advance(Dot { actor, counter }).map(|()| 0))
+}

@@ -1,0 +1,25 @@
+//! The settings map as a plain Rust program on fixed arrays: no allocation, nothing proved.
+#![no_std]
+
+mod calls;
+mod clock;
+mod image;
+mod map;
+pub mod number;
+mod register;
+
+pub use calls::*;
+pub use clock::{Clock, Dot};
+pub use image::{read_clock, read_map, read_op, write_map, write_op};
+pub use map::{DoubleSpent, Entry, Gap, Map, Operation, Removal, Waiting};
+pub use register::{Register, Value};
+
+pub const MOST_DOTS: usize = 8;
+pub const MOST_ENTRIES: usize = 16;
+pub const MOST_VALUES: usize = 4;
+pub const MOST_WAITING: usize = 8;
+pub const MOST_KEYS: usize = 16;
+
+pub const LONGEST_MAP: usize = 14_464;
+pub const LONGEST_OPERATION: usize = 400;
+pub const LONGEST_CLOCK: usize = 128;
