@@ -26,9 +26,10 @@ use Rattle.parts.specs.declared.Remnant.{Remnant}
 use Rattle.parts.specs.Model.{waitingLimit, keyLimit, keysAs, underOf, listedIn, waitingOf, waitingAs, overlong, gathered, remnantOf}
 use Rattle.parts.specs.Waits.{removalBefore, unionKeys, unite, uniteAll, uniteInto, cutRemoval, remains, resetWaiting}
 use Rattle.parts.specs.Valid.{ValidRemoval, ValidWaiting}
-use Rattle.parts.proofs.Packs.{noRemovalRead, waiting-of}
+use Rattle.parts.proofs.Packs.{noRemovalRead, waiting-from}
 use Rattle.parts.proofs.Waits.{unite-left, unite-keys}
 use Rattle.parts.proofs.Held.{valid-unite-into}
+use Rattle.parts.proofs.Bounds.{union-longer}
 
 pub held-long : (l : List Removal) → some overlong l ≡ true → remnantOf l ≡ record { over = true; waiting = waitingAs [] }
 unfolding remnantOf
@@ -47,9 +48,8 @@ held-over l = go (some overlong l) refl
     go false t = ap (λ h. h .over) (held-short l t) ∙ sym t
 
 -- a union lists no fewer keys
-union-longer : (x y : Removal) → length (listedIn x) ≤ length (listedIn (unite x y))
-unfolding unionKeys
-union-longer x y = rw (unite-keys x y) (weave-longer (by (λ k. k)) (λ k. k) (λ k. k) (λ a b. a) (listedIn x) (listedIn y))
+united-longer : (x y : Removal) → length (listedIn x) ≤ length (listedIn (unite x y))
+united-longer x y = rw (unite-keys x y) (union-longer (listedIn x) (listedIn y))
 
 -- once too long, always too long
 pub long-stays : {l m : List Removal} → ValidWaiting l → ValidWaiting m → some overlong l ≡ true → some overlong (uniteAll l m) ≡ true
@@ -57,7 +57,7 @@ long-stays {l} {m} a b t =
     let r = some-means overlong l t in
     ⊎-elim
     (λ i. some-holds overlong i (r .2))
-    (λ s. some-holds overlong (s .3) (lt-ltb keyLimit (length (listedIn (unite (r .0) (s .0)))) (omega (arith, ltb-true keyLimit (length (listedIn (r .0))) (r .2), union-longer (r .0) (s .0)))))
+    (λ s. some-holds overlong (s .3) (lt-ltb keyLimit (length (listedIn (unite (r .0) (s .0)))) (omega (arith, ltb-true keyLimit (length (listedIn (r .0))) (r .2), united-longer (r .0) (s .0)))))
     (unite-left (a .rising) (b .rising) (r .1))
 
 pub unite-few : (l : List Removal) (r : Removal) → length (uniteInto l r) ≤ length l + 1
@@ -86,8 +86,8 @@ pub remnant-in : (l : List Removal) (w : Removal) → w ∈ waitingOf (remnantOf
 remnant-in l w i = go (some overlong l) refl
   where
     go : (b : Bool) → some overlong l ≡ b → w ∈ l
-    go true t = absurd (List·Memᴰ·not-nil (rw (waiting-of [] (ap (λ h. h .waiting) (held-long l t))) at i))
-    go false t = rw (waiting-of l (ap (λ h. h .waiting) (held-short l t))) at i
+    go true t = absurd (List·Memᴰ·not-nil (rw (waiting-from [] (ap (λ h. h .waiting) (held-long l t))) at i))
+    go false t = rw (waiting-from l (ap (λ h. h .waiting) (held-short l t))) at i
 
 -- i of the n waiting removals are cut and united
 pub record Uniting (c : List Dot) (xs : List Removal) (n i : ℕ) (h : Remnant) : Type 0 where

@@ -23,17 +23,15 @@ use Rattle.parts.specs.Model.{dotsIn, valuesIn, entryAs, Laid, underOf, 
 use Rattle.parts.specs.Entries.{cutEntry, listed, removeFrom, putEntry, alone, keepDots, together}
 use Rattle.parts.specs.Valid.{ValidValue, ValidEntry}
 use Rattle.parts.proofs.Pieces.{dots-in, values-in}
+use Rattle.parts.proofs.Packs.{laid-as}
 use Rattle.parts.proofs.Cuts.{valid-cut-values}
 use Rattle.parts.proofs.Wholes.{lawful-keep}
 use Rattle.parts.proofs.Fits.{keep-covered}
 
 module _ (k : ℕ) (c : List Dot) (l : List Value) where
-  pub laid-as : Laid (entryAs k c l)
-  laid-as = ap₂ (λ d m. entryAs k d m) (sym (dots-in k c l)) (sym (values-in k c l))
-
   pub valid-as : {seen : List Dot} → Lawful c → isEmpty c ≡ false → covers seen c ≡ true → ((v : Value) → v ∈ l → ValidValue v) → ValidEntry seen (entryAs k c l)
   valid-as h n t f = record {
-    laid = laid-as;
+    laid = laid-as k c l;
     clock = rw (dots-in k c l) h;
     some = rw (dots-in k c l) n;
     covered = rw (dots-in k c l) t;

@@ -5,8 +5,7 @@ use mathlib.Core.Bool.{Bool, true, false, cond}
 use mathlib.Core.List.{List, [], _∷_, _++_}
 use Prim.Native.Nat.{ℕ, _+_, _≤_, _<_}
 use lib.ListN.{length, set}
-use Rattle.lists.specs.Fold.{fold}
-use Rattle.lists.proofs.Pads.{take-pad, push-pad, length-snoc}
+use Rattle.lists.proofs.Pads.{push-pad, length-snoc}
 use Rattle.lists.proofs.Sifts.{length-sift}
 use Rattle.clock.specs.declared.Dot.{Dot}
 use Rattle.clock.specs.Dots.{noDot, dotLimit, clockOf, covers, cutDots}
@@ -19,7 +18,8 @@ use Rattle.parts.specs.declared.Removal.{Removal}
 use Rattle.parts.specs.declared.Waiting.{Waiting}
 use Rattle.parts.specs.declared.Update.{Update}
 use Rattle.parts.specs.Model.{entryLimit, waitingLimit, noEntry, noRemoval, dotsIn, valuesIn, entryAs, underOf, listedIn, entriesOf, entriesAs, waitingOf, waitingAs, handOf, Laid}
-use Rattle.parts.specs.Entries.{stays, cutEntry, listed, removeFrom, removeEntries, run, putEntry, alone, together}
+use Rattle.parts.specs.Entries.{stays, removeFrom, removeEntries, putEntry, alone, together}
+use Rattle.parts.proofs.Pieces.{dots-in, values-in, waiting-of}
 
 -- what the logic reads past the end of an array of entries, or of removals
 abbrev pub noneRead : Entry
@@ -29,24 +29,16 @@ abbrev pub noRemovalRead : Removal
 noRemovalRead = record { clock = record { dots = []; len = 0 }; keys = record { items = []; len = 0 } }
 
 module _ (k : ℕ) (c : List Dot) (l : List Value) where
-  pub dots-as : dotsIn (entryAs k c l) ≡ c
-  dots-as = take-pad noDot dotLimit c
-
-  pub values-as : valuesIn (entryAs k c l) ≡ l
-  values-as = take-pad noValue valueLimit l
-
   -- an entry in hand, by its parts
   pub hand-as : handOf (entryAs k c l) ≡ record { key = k; clock = clockOf c; wide = wideOf l }
-  hand-as = rw values-as
+  hand-as = rw (values-in k c l)
 
   pub laid-as : Laid (entryAs k c l)
-  laid-as = rw (dots-as, values-as)
+  laid-as = rw (dots-in k c l, values-in k c l)
 
-pub entries-of : {e : Entries} (l : List Entry) → e ≡ entriesAs l → entriesOf e ≡ l
-entries-of l e = rw e (take-pad noEntry entryLimit l)
-
-pub waiting-of : {w : Waiting} (l : List Removal) → w ≡ waitingAs l → waitingOf w ≡ l
-waiting-of l e = rw e (take-pad noRemoval waitingLimit l)
+-- the removals of what was laid down from a list
+pub waiting-from : {w : Waiting} (l : List Removal) → w ≡ waitingAs l → waitingOf w ≡ l
+waiting-from l e = ap waitingOf e ∙ waiting-of l
 
 -- one stored behind the last
 pub entry-pushed : {e : Entries} (l : List Entry) (x : Entry) → e ≡ entriesAs l → length l < entryLimit → _≡_ {A = Entries} (record { items = set (e .items) (e .len) x; len = e .len + 1 }) (entriesAs (l ++ (x ∷ [])))
@@ -58,20 +50,6 @@ removal-pushed l x e h = rw (e, push-pad noRemoval waitingLimit l x h, length-sn
 pub remove-length : (r : Removal) (l : List Entry) → length (removeEntries r l) ≤ length l
 unfolding removeEntries
 remove-length r l = length-sift stays (removeFrom r) l
-
--- removals leave an entry laid down
-laid-from : (r : Removal) (e : Entry) → Laid e → Laid (removeFrom r e)
-unfolding removeFrom cutEntry
-laid-from r e h = go (listed (listedIn r) (e .key))
-  where
-    go : (b : Bool) → Laid (cond b (entryAs (e .key) (cutDots (underOf r) (dotsIn e)) (cutValues (underOf r) (valuesIn e))) e)
-    go true = laid-as _ _ _
-    go false = h
-
-pub laid-run : (l : List Removal) (e : Entry) → Laid e → Laid (run l e)
-unfolding fold
-laid-run [] e h = h
-laid-run (r ∷ l) e h = laid-run l (removeFrom r e) (laid-from r e h)
 
 pub laid-alone : (other : List Dot) (e : Entry) → Laid (alone other e)
 unfolding alone

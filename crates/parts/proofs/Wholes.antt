@@ -24,7 +24,7 @@ use Rattle.clock.proofs.Joins.{lawful-nil, lawful-join, counter-add}
 use Rattle.clock.proofs.Empties.{counter-some}
 use Rattle.register.specs.declared.Value.{Value}
 use Rattle.register.specs.Values.{putValues, cutValues, mergeValues}
-use Rattle.register.proofs.Merges.{merge-means}
+use Rattle.register.proofs.Kept.{merge-each}
 use Rattle.parts.specs.declared.Entry.{Entry}
 use Rattle.parts.specs.declared.Update.{Update}
 use Rattle.parts.specs.Model.{dotsIn, valuesIn, entryAs}
@@ -59,7 +59,7 @@ pub whole-together : (ours theirs : List Dot) {e f : Entry} → Whole e → Whol
 unfolding together
 whole-together ours theirs {e} {f} h k =
     whole-as (e .key) (lawful-keep ours theirs (h .clock) (k .clock))
-    (valid-cut-values _ (mergeValues (valuesIn e) (valuesIn f)) (λ v i. ⊎-elim (λ j. h .values v j) (λ j. k .values v j) (merge-means (valuesIn e) (valuesIn f) i)))
+    (valid-cut-values _ (mergeValues (valuesIn e) (valuesIn f)) (merge-each ValidValue (valuesIn e) (valuesIn f) (h .values) (k .values)))
 
 -- the entries of two maps, woven
 abbrev pub wovenEntries : List Dot → List Dot → List Entry → List Entry → List Entry

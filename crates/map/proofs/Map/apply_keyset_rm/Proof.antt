@@ -8,7 +8,7 @@ use Rattle.lists.specs.First.{some}
 use Rattle.parts.specs.declared.Removal.{Removal}
 use Rattle.parts.specs.Model.{waitingLimit, overlong, gathered}
 use Rattle.parts.specs.Waits.{waits, uniteInto}
-use Rattle.parts.proofs.Packs.{waiting-of}
+use Rattle.parts.proofs.Packs.{waiting-from}
 use Rattle.parts.proofs.Gather.{gather-count, gather-long, gather-open}
 use Rattle.map.specs.Model.{seenBy, waitingIn}
 use Rattle.map.proofs.Kept.{heldAfter}
@@ -38,7 +38,7 @@ push-requires c κs = omega (arith, ap (λ k. k .len) (c .new .ensures))
 join-requires : tie.Need-join-requires
 join-requires c κs =
     let z = c .before .before .before .before .before .before in
-    let e = waiting-of _ (c .push .ensures .1 [] (c .before .new .ensures)) in
+    let e = waiting-from _ (c .push .ensures .1 [] (c .before .new .ensures)) in
     (λ r i. ap (λ x. x .keys) (z .pre .0 .valid .waiting .each r i .laid), λ r i. rw (List·Memᴰ·eq-of-singleton (rw e at i)) (ap (λ x. x .keys) (z .pre .1 .valid .laid)))
 
 -- what waits then
@@ -49,7 +49,7 @@ held c =
     let p = c .before in
     let i = p .before .before in
     let t = sym (i .before .waits .ensures) ∙ not-false _ (i .if1 .left) in
-    c .join .ensures ∙ rw (waiting-of _ (p .push .ensures .1 [] (p .before .new .ensures)), t)
+    c .join .ensures ∙ rw (waiting-from _ (p .push .ensures .1 [] (p .before .new .ensures)), t)
 
 returns-2 : tie.Need-returns-2
 returns-2 c =

@@ -14,7 +14,8 @@ use Rattle.parts.specs.declared.Entry.{Entry}
 use Rattle.parts.specs.Model.{entryLimit, Laid, finished, waitingAs}
 use Rattle.parts.specs.Waits.{waits}
 use Rattle.parts.specs.Entries.{stays, run, aside, putEntry, entryAt, putEntries}
-use Rattle.parts.proofs.Packs.{laid-run, laid-put}
+use Rattle.parts.proofs.Runs.{run-laid}
+use Rattle.parts.proofs.Packs.{laid-put}
 use Rattle.parts.proofs.Finish.{finish-none, finish-count, finish-wide, finish-open}
 use Rattle.map.specs.Model.{seenBy, entriesIn, waitingIn}
 use Rattle.map.specs.Updating.{update}
@@ -82,7 +83,7 @@ all c =
     let ws = waitingIn m in
     let laid : (e : Entry) → e ∈ entriesIn m → Laid e = λ e i. z .pre .0 .valid .entries .each e i .laid in
     let below = s .side .ensures .1 [] laid (n .new .ensures) in
-    let with = a .add2 .ensures .1 _ (run ws (putEntry u (entryAt (u .key) (entriesIn m)))) (laid-run ws _ (laid-put u _)) below (r .run .ensures _ (p .put .ensures ∙ rw (t .at .ensures))) in
+    let with = a .add2 .ensures .1 _ (run ws (putEntry u (entryAt (u .key) (entriesIn m)))) (run-laid ws (laid-put u _)) below (r .run .ensures _ (p .put .ensures ∙ rw (t .at .ensures))) in
     c .side2 .ensures .1 _ laid with
     ∙ ap finished (append-assoc (sift stays (run ws) (those (aside true (u .key)) (entriesIn m))) _ _ ∙ sym (sift-append stays (run ws) (those (aside true (u .key)) (entriesIn m)) _ ∙ ap (λ x. sift stays (run ws) (those (aside true (u .key)) (entriesIn m)) ++ x) (sift-one stays (run ws) (putEntry u (entryAt (u .key) (entriesIn m))) (those (aside false (u .key)) (entriesIn m)))))
 

@@ -12,7 +12,7 @@ use Rattle.clock.proofs.Packs.{over-means, within-means, within-clock, dots-of}
 use Rattle.parts.specs.declared.Removal.{Removal}
 use Rattle.parts.specs.Model.{listedIn, keysAs, gathered}
 use Rattle.parts.specs.Waits.{waits, uniteAll}
-use Rattle.parts.proofs.Packs.{waiting-of}
+use Rattle.parts.proofs.Packs.{waiting-from}
 use Rattle.parts.proofs.Fits.{both-fit, keep-fits}
 use Rattle.parts.proofs.Finish.{finish-count, finish-wide, finish-open}
 use Rattle.parts.proofs.Gather.{gather-count, gather-long, gather-open}
@@ -74,7 +74,7 @@ join-requires-2 c κs =
     let u = c .before in
     let i = u .before .before .before .before .before .before .before .before in
     let z = i .before .before .before .before in
-    (λ r k. laid (z .pre .0) _ r (rw (waiting-of _ (u .uncovered .ensures)) at k), λ r k. laid (z .pre .1) _ r (rw (waiting-of _ (c .uncovered2 .ensures)) at k))
+    (λ r k. laid (z .pre .0) _ r (rw (waiting-from _ (u .uncovered .ensures)) at k), λ r k. laid (z .pre .1) _ r (rw (waiting-from _ (c .uncovered2 .ensures)) at k))
 
 -- what waits still
 held : (c : tie.After-join2) → let z = c .before .before .before .before .before .before .before .before .before .before .before .before .before .before in
@@ -83,7 +83,7 @@ held c =
     let v = c .before in
     let u = v .before in
     let i = u .before .before .before .before .before .before .before .before in
-    c .join2 .ensures ∙ rw (waiting-of _ (u .uncovered .ensures), waiting-of _ (v .uncovered2 .ensures), clock i)
+    c .join2 .ensures ∙ rw (waiting-from _ (u .uncovered .ensures), waiting-from _ (v .uncovered2 .ensures), clock i)
 
 returns-4 : tie.Need-returns-4
 returns-4 c =

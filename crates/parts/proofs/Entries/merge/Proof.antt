@@ -19,7 +19,8 @@ use Rattle.parts.specs.declared.Entry.{Entry}
 use Rattle.parts.specs.declared.Removal.{Removal}
 use Rattle.parts.specs.Model.{entriesOf, waitingOf, finished, Counted}
 use Rattle.parts.specs.Entries.{stays, run, alone, together, weaveEntries}
-use Rattle.parts.proofs.Packs.{noneRead, laid-run, laid-alone, laid-together}
+use Rattle.parts.proofs.Runs.{run-laid}
+use Rattle.parts.proofs.Packs.{noneRead, laid-alone, laid-together}
 use borrow.Author.Needs.{needs}
 use native.Mathlib.Omega.{arith}
 use Rattle.parts.proofs.Entries.merge.Statement.{statement}
@@ -87,7 +88,7 @@ loop-again c =
       omega (arith, c .add .ensures .0, s .loop .inv),
       grow-more (those stays (f e ∷ [])) (s .loop .inv .3)
           (ap (sift stays f) (weave-first (by (λ e. e .key)) (alone (dotsOf (a .yours))) (alone (dotsOf (a .mine))) (together (dotsOf (a .mine)) (dotsOf (a .yours))) (a .t1 .items) (a .t1 .len) (s .loop .i) (a .t2 .items) (a .t2 .len) (s .loop .j) noneRead (level y .0) (level y .1) (lt-ltb _ _ (i .if2 .taken))) ∙ sift-one stays f e _)
-          (λ l p. c .add .ensures .1 l (f e) (laid-run (waitingOf (a .ours)) _ (laid-run (waitingOf (a .theirs)) e (laid-alone _ x))) p (c .before .run2 .ensures _ (c .before .before .run .ensures _ (c .before .before .before .alone .ensures)))),
+          (λ l p. c .add .ensures .1 l (f e) (run-laid (waitingOf (a .ours)) (run-laid (waitingOf (a .theirs)) (laid-alone _ x))) p (c .before .run2 .ensures _ (c .before .before .run .ensures _ (c .before .before .before .alone .ensures)))),
     )
 
 loop-again-2 : tie.Need-loop-again-2 Inv-loop μ-loop
@@ -105,7 +106,7 @@ loop-again-2 c =
       omega (arith, c .add2 .ensures .0, s .loop .inv),
       grow-more (those stays (f e ∷ [])) (s .loop .inv .3)
           (ap (sift stays f) (weave-second (by (λ e. e .key)) (alone (dotsOf (a .yours))) (alone (dotsOf (a .mine))) (together (dotsOf (a .mine)) (dotsOf (a .yours))) (a .t1 .items) (a .t1 .len) (s .loop .i) (a .t2 .items) (a .t2 .len) (s .loop .j) noneRead (level y .0) (level y .1) (le-ltb _ _ (i .if2 .left)) (lt-ltb _ _ (k .if3 .taken))) ∙ sift-one stays f e _)
-          (λ l p. c .add2 .ensures .1 l (f e) (laid-run (waitingOf (a .ours)) _ (laid-run (waitingOf (a .theirs)) e (laid-alone _ x))) p (c .before .run4 .ensures _ (c .before .before .run3 .ensures _ (c .before .before .before .alone2 .ensures)))),
+          (λ l p. c .add2 .ensures .1 l (f e) (run-laid (waitingOf (a .ours)) (run-laid (waitingOf (a .theirs)) (laid-alone _ x))) p (c .before .run4 .ensures _ (c .before .before .run3 .ensures _ (c .before .before .before .alone2 .ensures)))),
     )
 
 together-requires : tie.Need-together-requires Inv-loop μ-loop
@@ -132,7 +133,7 @@ loop-again-3 c =
       omega (arith, c .add3 .ensures .0, s .loop .inv),
       grow-more (those stays (f e ∷ [])) (s .loop .inv .3)
           (ap (sift stays f) (weave-both (by (λ e. e .key)) (alone (dotsOf (a .yours))) (alone (dotsOf (a .mine))) (together (dotsOf (a .mine)) (dotsOf (a .yours))) (a .t1 .items) (a .t1 .len) (s .loop .i) (a .t2 .items) (a .t2 .len) (s .loop .j) noneRead (level y .0) (level y .1) (le-ltb _ _ (i .if2 .left)) (le-ltb _ _ (k .if3 .left))) ∙ sift-one stays f e _)
-          (λ l p. c .add3 .ensures .1 l (f e) (laid-run (waitingOf (a .ours)) _ (laid-run (waitingOf (a .theirs)) e (laid-together _ _ x z))) p (c .before .run6 .ensures _ (c .before .before .run5 .ensures _ (c .before .before .before .together .ensures)))),
+          (λ l p. c .add3 .ensures .1 l (f e) (run-laid (waitingOf (a .ours)) (run-laid (waitingOf (a .theirs)) (laid-together _ _ x z))) p (c .before .run6 .ensures _ (c .before .before .run5 .ensures _ (c .before .before .before .together .ensures)))),
     )
 
 add-i : tie.Need-add-i Inv-loop μ-loop

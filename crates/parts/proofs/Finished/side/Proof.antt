@@ -11,7 +11,8 @@ use Rattle.lists.proofs.Sifts.{sift-one}
 use Rattle.parts.specs.declared.Entry.{Entry}
 use Rattle.parts.specs.Model.{entriesOf, waitingOf, Laid, finished, Counted}
 use Rattle.parts.specs.Entries.{stays, run, aside}
-use Rattle.parts.proofs.Packs.{noneRead, laid-run}
+use Rattle.parts.proofs.Runs.{run-laid}
+use Rattle.parts.proofs.Packs.{noneRead}
 use borrow.Author.Needs.{needs}
 use native.Mathlib.Omega.{arith}
 use Rattle.parts.proofs.Finished.side.Statement.{statement}
@@ -44,7 +45,7 @@ loop-again c =
       λ l laid q.
           grow-more (those stays (run ws x ∷ [])) (s .loop .inv .2 l laid q)
           (ap (sift stays (run ws)) (sift-yes (a .t2 .items) (a .t2 .len) (s .loop .i) noneRead h (aside (a .below) (a .key)) (λ e. e) t) ∙ sift-one stays (run ws) x _)
-          (λ m p. c .add .ensures .1 m (run ws x) (laid-run ws x (laid x (in-list (a .t2 .items) (a .t2 .len) (s .loop .i) noneRead h))) p (r .run .ensures x (r .before .hand .ensures))),
+          (λ m p. c .add .ensures .1 m (run ws x) (run-laid ws (laid x (in-list (a .t2 .items) (a .t2 .len) (s .loop .i) noneRead h))) p (r .run .ensures x (r .before .hand .ensures))),
     )
 
 loop-again-2 : tie.Need-loop-again-2 Inv-loop μ-loop

@@ -11,7 +11,8 @@ use Rattle.clock.specs.Dots.{dotsOf}
 use Rattle.parts.specs.declared.Entry.{Entry}
 use Rattle.parts.specs.Model.{entriesOf, waitingOf, finished}
 use Rattle.parts.specs.Entries.{stays, run, alone}
-use Rattle.parts.proofs.Packs.{noneRead, laid-run, laid-alone}
+use Rattle.parts.proofs.Runs.{run-laid}
+use Rattle.parts.proofs.Packs.{noneRead, laid-alone}
 use borrow.Author.Needs.{needs}
 use native.Mathlib.Omega.{arith}
 use Rattle.parts.proofs.Finished.trail.Statement.{statement}
@@ -42,7 +43,7 @@ loop-again c =
       λ l q.
           grow-more (those stays (g e ∷ [])) (s .loop .inv .2 l q)
           (ap (sift stays g) (map-on (a .t2 .items) (a .t2 .len) (s .loop .i) noneRead h (alone (dotsOf (a .other)))) ∙ sift-one stays g e _)
-          (λ m p. c .add .ensures .1 m (g e) (laid-run (waitingOf (a .then)) _ (laid-run (waitingOf (a .first)) e (laid-alone _ x))) p (c .before .run2 .ensures _ (c .before .before .run .ensures _ (c .before .before .before .alone .ensures)))),
+          (λ m p. c .add .ensures .1 m (g e) (run-laid (waitingOf (a .then)) (run-laid (waitingOf (a .first)) (laid-alone _ x))) p (c .before .run2 .ensures _ (c .before .before .run .ensures _ (c .before .before .before .alone .ensures)))),
     )
 
 returns : tie.Need-returns Inv-loop μ-loop

@@ -5,7 +5,7 @@ use Rattle.lists.specs.Order.{_∈_}
 use Rattle.parts.specs.declared.Removal.{Removal}
 use Rattle.parts.specs.Model.{keysAs, listedIn, waitingOf, gathered, remnantOf}
 use Rattle.parts.specs.Waits.{uniteAll, uniteInto}
-use Rattle.parts.proofs.Packs.{waiting-of}
+use Rattle.parts.proofs.Packs.{waiting-from}
 use Rattle.parts.proofs.Hold.{held-long, held-short, held-over, long-stays, unite-few}
 use Rattle.parts.proofs.Gather.{gather-long, gather-open}
 use borrow.Author.Needs.{needs}
@@ -24,7 +24,7 @@ push-requires c κs = omega (arith, ap (λ k. k .len) (c .new .ensures))
 join-requires : tie.Need-join-requires
 join-requires c κs =
     let z = c .before .before .before in
-    let e = waiting-of _ (c .push .ensures .1 [] (c .before .new .ensures)) in
+    let e = waiting-from _ (c .push .ensures .1 [] (c .before .new .ensures)) in
     (z .pre .1, λ r i. rw (List·Memᴰ·eq-of-singleton (rw e at i)) (z .pre .2))
 
 -- what is joined, where nothing was too long
@@ -35,8 +35,8 @@ joined c l q =
     let i = p .before .before in
     let z = i .before in
     let t = sym (ap (λ h. h .over) q ∙ held-over l) ∙ i .if1 .left in
-    let w = waiting-of l (ap (λ h. h .waiting) (q ∙ held-short l t)) in
-    (c .join .ensures ∙ rw (w, waiting-of _ (p .push .ensures .1 [] (p .before .new .ensures))), w)
+    let w = waiting-from l (ap (λ h. h .waiting) (q ∙ held-short l t)) in
+    (c .join .ensures ∙ rw (w, waiting-from _ (p .push .ensures .1 [] (p .before .new .ensures))), w)
 
 returns-2 : tie.Need-returns-2
 returns-2 c = λ l v w q.
