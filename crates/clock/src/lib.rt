@@ -90,7 +90,7 @@ impl Clock {
     }
 
     // The clock with a dot behind its last.
-    fn push(self, d: Dot) -> Clock
+    pub fn push(self, d: Dot) -> Clock
         requires { ⌜ self .len < dotLimit ⌝ }
         ensures { λ r. ⌜ ((l : List Dot) → self ≡ clockOf l → r ≡ clockOf (l ++ (d ∷ []))) ⌝ }
     {

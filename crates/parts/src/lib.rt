@@ -1,7 +1,7 @@
 // The parts of a map: sets of keys, removals, entries; on arrays with a count, by value.
 mod fates;
 mod keyset;
-mod queue;
+pub mod queue;
 
 use clock::Clock;
 use clock::Dot;

@@ -1,0 +1,14 @@
+-- The longest clock, computed: every place in use.
+-- Assumes nothing.
+use mathlib.Core.Path.{_≡_, refl}
+use mathlib.Core.List.{List}
+use Prim.Native.Nat.{ℕ, _*_}
+use lib.ListN.{length, replicate}
+use Rattle.clock.specs.Dots.{noDot}
+use Rattle.clockimage.specs.ClockImage.{clockLongest, clockRecords}
+
+full-longest : length (clockRecords (replicate 8 noDot)) * 16 ≡ clockLongest
+full-longest = refl
+
+longest : clockLongest ≡ 128
+longest = refl

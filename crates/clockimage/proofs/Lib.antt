@@ -1,0 +1,4 @@
+pub mod Dots
+pub mod Clocks
+pub mod RoundTrip
+pub mod Examples

@@ -1,0 +1,33 @@
+-- What every image has: dots in records, and the order in which an image is judged.
+-- Assumes nothing.
+use Prim.Native.Nat.{ℕ, _%_}
+use mathlib.Core.Bool.{Bool, cond}
+use mathlib.Core.List.{List, map}
+use lib.Dec.{eqb, ltb}
+use lib.ListN.{length}
+use Rattle.lists.specs.Sift.{those}
+use Rattle.clock.specs.declared.Dot.{Dot}
+use Rattle.records.specs.declared.Record.{Record}
+use Rattle.records.specs.Records.{recordsOf}
+
+abbrev pub isKind : ℕ → Record → Bool
+isKind kind r = eqb (r .kind) kind
+
+-- a dot in a record of a kind, under an index and a key where the kind has them
+abbrev pub dotRecord : ℕ → ℕ → ℕ → Dot → Record
+dotRecord kind index key d = record { kind = kind; index = index; actor = d .actor; key = key; number = d .counter }
+
+abbrev pub dotRecords : ℕ → ℕ → ℕ → List Dot → List Record
+dotRecords kind index key l = map (dotRecord kind index key) l
+
+abbrev pub dotOf : Record → Dot
+dotOf r = record { actor = r .actor; counter = r .number }
+
+-- the dots in those records that pass a test
+abbrev pub dotsIn : (Record → Bool) → List Record → List Dot
+dotsIn test l = map dotOf (those test l)
+
+-- "length above longest is 2 at once", then a bad length is 1, then the records are judged
+abbrev pub imageOf : {R : Type 0} → ℕ → (ℕ → R) → (List Record → R) → List ℕ → R
+imageOf longest refused judged s =
+    cond (ltb longest (length s)) (refused 2) (cond (eqb (length s % 16) 0) (judged (recordsOf s)) (refused 1))

@@ -1,0 +1,16 @@
+-- `lesser` meets its contract. Assumes nothing.
+use Rattle.mapimage.proofs.lesser.Statement.{statement}
+use Rattle.mapimage.proofs.lesser.Tie as tie
+
+returns : tie.Need-returns
+returns c = rw (c .if1 .taken)
+
+returns-2 : tie.Need-returns-2
+returns-2 c = rw (c .if1 .left)
+
+pub lesser-spec : {M : Type 1} → statement M
+lesser-spec =
+    tie.close
+    (tie.spec
+    returns
+    returns-2)

@@ -1,0 +1,64 @@
+-- `write_entries` meets its contract: one entry after the other. Assumes nothing.
+use mathlib.Core.Path.{_≡_, refl, ap, sym, _∙_}
+use mathlib.Core.List.{List, [], _∷_, _++_, map}
+use Prim.Native.Nat.{_≤_, _<_, _-_, _*_}
+use lib.ListN.{length, take, drop, getD, length-map}
+use Rattle.records.proofs.Writing.{Writing, write-start, write-room, write-on, write-end}
+use Rattle.mapimage.specs.MapImage.{flatFrom}
+use Rattle.parts.specs.Model.{entriesOf}
+use Rattle.mapimage.specs.MapImage.{entryRecords}
+use Rattle.mapimage.proofs.Flats.{flat-on, flat-end, noEntryRead}
+use borrow.Author.Needs.{needs}
+use native.Mathlib.Omega.{arith}
+use Rattle.mapimage.proofs.write_entries.Statement.{statement}
+use Rattle.mapimage.proofs.write_entries.Tie as tie
+
+abbrev Inv-loop : tie.InvT-loop
+Inv-loop out₀ at kind entries n next₀ i₀ out next i = (i ≤ n) × Writing (flatFrom (entryRecords kind) 0 (entriesOf entries)) (flatFrom (entryRecords kind) i (drop i (entriesOf entries))) at out₀ out next
+
+abbrev μ-loop : tie.MeasureT-loop
+μ-loop out₀ at kind entries n next₀ i₀ out next i = n - i
+
+loop-holds : tie.Need-loop-holds Inv-loop μ-loop
+loop-holds c = (omega arith, write-start _ _ _ (c .before .before .pre))
+
+write-entry-requires : tie.Need-write-entry-requires Inv-loop μ-loop
+write-entry-requires c κs =
+    let s = c .before .before .before in
+    let a = s .before .before .before .args in
+    let f = entryRecords (a .kind) in
+    let e = flat-on f (a .t4 .items) (a .t4 .len) (s .loop .i) noEntryRead (omega arith) in
+    omega (arith, write-room _ _ _ (f (s .loop .i) (getD (a .t4 .items) (s .loop .i) noEntryRead)) _ (s .loop .inv .1) e .0)
+
+loop-again : tie.Need-loop-again Inv-loop μ-loop
+loop-again c =
+    let s = c .before .before .before .before .before .before in
+    let a = s .before .before .before .args in
+    let f = entryRecords (a .kind) in
+    let e = flat-on f (a .t4 .items) (a .t4 .len) (s .loop .i) noEntryRead (omega arith) in
+    (omega arith, write-on _ _ _ (f (s .loop .i) (getD (a .t4 .items) (s .loop .i) noEntryRead)) (s .loop .inv .1) e (c .before .before .write-entry .ensures))
+
+same-length : tie.Need-same-length Inv-loop μ-loop
+same-length c = write-room _ _ _ [] _ (c .before .loop .inv .1) refl .1
+
+returns : tie.Need-returns Inv-loop μ-loop
+returns c =
+    let a = c .before .before .before .before .args in
+    write-end _ _ _ (c .before .loop .inv .1) (flat-end (entryRecords (a .kind)) (entriesOf (a .t4)) (c .before .loop .i) (omega arith))
+
+pub write-entries-spec : {M : Type 1} → statement M
+write-entries-spec =
+    tie.close
+    (tie.spec
+    Inv-loop
+    μ-loop
+    (λ c κs. search needs)
+    loop-holds
+    (λ c. search needs)
+    (λ c. search needs)
+    (λ c. search needs)
+    write-entry-requires
+    (λ c. search needs)
+    loop-again
+    same-length
+    returns)

@@ -1,0 +1,92 @@
+-- The entry of a record's key among the entries that the records before it stand for.
+-- Assumes nothing.
+use mathlib.Core.Path.{_≡_, refl, ap, sym, _∙_}
+use mathlib.Core.Bool.{Bool, true, false, cond, not, _&&_}
+use mathlib.Core.List.{List, [], _∷_, _++_, map, Memᴰ·of-map}
+use Prim.Native.Nat.{ℕ, _+_, _≤_, _<_}
+use native.Mathlib.Omega.{arith}
+use lib.Dec.{eqb}
+use lib.ListN.{length, getD, set, length-map}
+use borrow.Author.Tests.{eq-eqb, ne-eqb, eqb-true, eqb-false}
+use Rattle.lists.specs.Order.{_∈_}
+use Rattle.lists.specs.First.{some}
+use Rattle.lists.proofs.Orders.{apart}
+use Rattle.parts.specs.declared.Entry.{Entry}
+use Rattle.parts.specs.declared.Entries.{Entries}
+use Rattle.parts.specs.Model.{noEntry, entriesOf, entriesAs}
+use Rattle.records.specs.declared.Record.{Record}
+use Rattle.scan.proofs.Eachs.{decide, both, some-of, some-none}
+use Rattle.mapreader.specs.Reading.{entryIn, entryKeys, entriesFor}
+use Rattle.mapreader.specs.SoFar.{placeOf}
+use Rattle.mapreader.proofs.Packs.{entries-of, entry-read, same-default}
+use Rattle.mapreader.proofs.Places.{place-passes, place-none}
+use Rattle.mapreader.proofs.Keys.{some-at, get-map, map-changed}
+use Rattle.mapreader.proofs.Entries.{keys-unique, entry-other}
+
+module _ (l : List Record) (r : Record) where
+  abbrev keyed : Entry → Bool
+  keyed e = eqb (e .key) (r .key)
+
+  -- an entry of the key is the one that the records stand for
+  same-entry : (e : Entry) → e ∈ entriesFor l → keyed e ≡ true → e ≡ entryIn l (r .key)
+  same-entry e i t =
+      let m = Memᴰ·of-map (entryIn l) (entryKeys l) i in
+      sym (m .2) ∙ ap (entryIn l) (eqb-true (m .0) (r .key) (ap keyed (m .2) ∙ t))
+
+  module _ (entries : Entries) (held : entries ≡ entriesAs (entriesFor l)) (j : ℕ) (at : j ≡ placeOf keyed (entriesOf entries)) where
+    place-is : j ≡ placeOf keyed (entriesFor l)
+    place-is = at ∙ ap (placeOf keyed) (entries-of (entriesFor l) held)
+
+    pub same-length : length (entriesOf entries) ≡ length (entryKeys l)
+    same-length = ap length (entries-of (entriesFor l) held) ∙ length-map (entryKeys l) (entryIn l)
+
+    module _ (h : j < length (entriesOf entries)) where
+      in-keys : j < length (entryKeys l)
+      in-keys = omega (arith, same-length)
+
+      pub in-entries : j < length (entriesFor l)
+      in-entries = omega (arith, ap length (entries-of (entriesFor l) held))
+
+      key-at : getD (entryKeys l) j 0 ≡ r .key
+      key-at =
+          let p = place-passes keyed (entriesFor l) noEntry (rw place-is at in-entries) in
+          let q = ap (λ k. keyed (getD (entriesFor l) k noEntry)) place-is ∙ p in
+          sym (ap (λ e. e .key) (get-map (entryIn l) (entryKeys l) j noEntry in-keys)) ∙ eqb-true (getD (entriesFor l) j noEntry .key) (r .key) q
+
+      pub entry-at : (d : Entry) → getD (entries .items) j d ≡ entryIn l (r .key)
+      entry-at d = entry-read (entriesFor l) j d held in-entries ∙ get-map (entryIn l) (entryKeys l) j noEntry in-keys ∙ ap (entryIn l) key-at
+
+      pub key-known : some (λ x. eqb x (r .key)) (entryKeys l) ≡ true
+      key-known = some-at (λ x. eqb x (r .key)) (entryKeys l) j 0 in-keys (eq-eqb (getD (entryKeys l) j 0) (r .key) key-at)
+
+      -- the entry changes, and no other
+      pub entries-changed : entryKeys (l ++ (r ∷ [])) ≡ entryKeys l → set (entriesFor l) j (entryIn (l ++ (r ∷ [])) (r .key)) ≡ entriesFor (l ++ (r ∷ []))
+      entries-changed same =
+          sym (ap (map (entryIn (l ++ (r ∷ [])))) same
+          ∙ map-changed noEntry (entryIn l) (entryIn (l ++ (r ∷ []))) (entryKeys l) j (keys-unique l) in-keys (λ k n. entry-other l r k (λ e. n (sym e ∙ sym key-at)))
+          ∙ ap (λ k. set (entriesFor l) j (entryIn (l ++ (r ∷ [])) k)) key-at)
+
+      -- a test of the entry of the key
+      pub fits-at : (test : Entry → Bool) → some (λ e. keyed e && test e) (entriesFor l) ≡ test (entryIn l (r .key))
+      fits-at test =
+          decide (test (entryIn l (r .key)))
+          (λ t. some-at (λ e. keyed e && test e) (entriesFor l) j noEntry in-entries
+          (rw (get-map (entryIn l) (entryKeys l) j noEntry in-keys ∙ ap (entryIn l) key-at) (both (eqb (r .key) (r .key)) (test (entryIn l (r .key))) (eq-eqb (r .key) (r .key) refl) t)) ∙ sym t)
+          (λ f. some-none (λ e. keyed e && test e) (entriesFor l) (λ e i. fails e i f) ∙ sym f)
+        where
+          fails : (e : Entry) → e ∈ entriesFor l → test (entryIn l (r .key)) ≡ false → (keyed e && test e) ≡ false
+          fails e i f = decide (keyed e) (λ t. rw t (ap test (same-entry e i t) ∙ f)) (λ n. rw n)
+
+    module _ (h : length (entriesOf entries) ≤ j) where
+      none-keyed : some keyed (entriesFor l) ≡ false
+      none-keyed = place-none keyed (entriesFor l) (let k = ap length (entries-of (entriesFor l) held) in let q = place-is in omega arith)
+
+      pub key-new : some (λ x. eqb x (r .key)) (entryKeys l) ≡ false
+      key-new =
+          some-none (λ x. eqb x (r .key)) (entryKeys l)
+          (λ x i. decide (eqb x (r .key)) (λ t. apart (sym (some-of keyed (entriesFor l) (entryIn l x) (mathlib.Core.List.Memᴰ·map (entryIn l) i) t) ∙ none-keyed)) (λ n. n))
+
+      pub fits-none : (test : Entry → Bool) → some (λ e. keyed e && test e) (entriesFor l) ≡ false
+      fits-none test =
+          some-none (λ e. keyed e && test e) (entriesFor l)
+          (λ e i. decide (keyed e) (λ t. apart (sym (some-of keyed (entriesFor l) e i t) ∙ none-keyed)) (λ n. rw n))

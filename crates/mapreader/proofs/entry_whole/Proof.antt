@@ -1,0 +1,15 @@
+-- `entry_whole` meets its contract. Assumes nothing.
+use borrow.Author.Needs.{needs}
+use Rattle.mapreader.proofs.entry_whole.Statement.{statement}
+use Rattle.mapreader.proofs.entry_whole.Tie as tie
+
+returns : tie.Need-returns
+returns c = rw (c .before .covers .ensures, c .dotted .ensures)
+
+pub entry-whole-spec : {M : Type 1} → statement M
+entry-whole-spec =
+    tie.close
+    (tie.spec
+    (λ c κs. search needs)
+    (λ c κs. search needs)
+    returns)

@@ -1,0 +1,3 @@
+pub mod Reading
+pub mod Related
+pub mod SoFar

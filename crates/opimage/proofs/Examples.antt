@@ -1,0 +1,17 @@
+-- The longest operation, computed: a removal with every place in use.
+-- Assumes nothing.
+use mathlib.Core.Path.{_≡_, refl}
+use mathlib.Core.List.{List, [], _∷_}
+use Prim.Native.Nat.{ℕ, _*_}
+use lib.ListN.{length, replicate}
+use Rattle.lists.specs.Pad.{pad}
+use Rattle.clock.specs.Dots.{noDot}
+use Rattle.parts.specs.Model.{removalAs}
+use Rattle.opimage.specs.OpImage.{opLongest, removalRecords}
+
+full-longest : length (removalRecords (removalAs (replicate 8 noDot) (replicate 16 0))) * 16 ≡ opLongest
+unfolding pad
+full-longest = refl
+
+longest : opLongest ≡ 400
+longest = refl

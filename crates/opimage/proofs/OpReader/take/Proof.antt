@@ -1,0 +1,34 @@
+-- `OpReader::take` meets its contract. Assumes nothing.
+use mathlib.Core.Path.{_≡_, sym, _∙_}
+use Rattle.scan.proofs.Scanning.{scan-before}
+use Rattle.opimage.proofs.OpReader.take.Statement.{statement}
+use Rattle.opimage.proofs.OpReader.take.Tie as tie
+
+take-requires : tie.Need-take-requires
+take-requires c κs = let p = c .before .pre in (p .0, p .1 .scanned)
+
+with-requires : tie.Need-with-requires
+with-requires c κs =
+    let p = c .before .before .before .before .pre in
+    let now = c .before .before .take .ensures (p .0) (p .1 .scanned) in
+    let z = c .if1 .taken in
+    (z, (p .0, (p .1 .parts (p .1 .scanned .number ∙ scan-before 7 12 (p .0) _ (sym (now .number) ∙ z)), now)))
+
+returns : tie.Need-returns
+returns c l s =
+    let now = c .before .before .before .take .ensures l (s .scanned) in
+    let z = c .before .if1 .taken in
+    c .with .ensures l (s .parts (s .scanned .number ∙ scan-before 7 12 l _ (sym (now .number) ∙ z))) now
+
+returns-2 : tie.Need-returns-2
+returns-2 c l s =
+    record { scanned = c .before .before .take .ensures l (s .scanned); parts = λ z. absurd (c .if1 .left z) }
+
+pub take-spec : {M : Type 1} → statement M
+take-spec =
+    tie.close
+    (tie.spec
+    take-requires
+    with-requires
+    returns
+    returns-2)

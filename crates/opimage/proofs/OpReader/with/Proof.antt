@@ -1,0 +1,76 @@
+-- `OpReader::with` meets its contract: each part goes on by what its kind says. Assumes nothing.
+use mathlib.Core.Path.{_≡_, refl, ap, sym, _∙_}
+use mathlib.Core.List.{List}
+use Prim.Native.Nat.{_<_}
+use lib.ListN.{length}
+use borrow.Author.Tests.{eqb-true}
+use Rattle.clock.specs.Dots.{clockOf}
+use Rattle.parts.specs.Model.{keysAs}
+use Rattle.records.specs.declared.Record.{Record}
+use Rattle.scan.specs.Scanned.{Scanned, scanNumber}
+use Rattle.clockimage.specs.Image.{isKind}
+use Rattle.clockimage.proofs.Dots.{dots-room, dots-snoc}
+use Rattle.opimage.specs.OpImage.{OpParts}
+use Rattle.opimage.proofs.Parts.{keys-snoc, record-snoc, number-snoc, counts-snoc, keys-room, kind-known}
+use borrow.Author.Needs.{needs}
+use native.Mathlib.Omega.{arith}
+use Rattle.opimage.proofs.OpReader.with.Statement.{statement}
+use Rattle.opimage.proofs.OpReader.with.Tie as tie
+
+-- the array has a place for every kind
+in-counts : (start : tie.Start) → start .args .r .kind < 13 → start .args .r .kind < length (start .args .self .counts)
+in-counts start h = search needs
+
+counted-requires : tie.Need-counted-requires
+counted-requires c κs = let p = c .before .before .before .before .before .pre in kind-known (p .1 .0) _ (sym (p .1 .1 .1 .number) ∙ p .0)
+
+clock-with-requires : tie.Need-clock-with-requires
+clock-with-requires c κs t =
+    let p = c .before .before .before .before .before .before .before .before .before .before .before .pre in
+    let e = p .1 .1 .0 .under in
+    omega (arith, ap (λ k. k .len) e, dots-room 7 12 (p .1 .0) _ (sym (p .1 .1 .1 .number) ∙ p .0) 8 (eqb-true _ 8 t) (λ b. omega arith) refl refl)
+
+keys-with-requires : tie.Need-keys-with-requires
+keys-with-requires c κs t =
+    let p = c .before .before .before .before .before .before .before .before .before .before .before .before .before .pre in
+    let e = p .1 .1 .0 .keys in
+    omega (arith, ap (λ k. k .len) e, keys-room (p .1 .0) _ (sym (p .1 .1 .1 .number) ∙ p .0) t)
+
+clock-with-requires-2 : tie.Need-clock-with-requires-2
+clock-with-requires-2 c κs t =
+    let p = c .before .before .before .before .before .before .before .before .before .before .before .before .before .before .before .pre in
+    let e = p .1 .1 .0 .put in
+    omega (arith, ap (λ k. k .len) e, dots-room 7 12 (p .1 .0) _ (sym (p .1 .1 .1 .number) ∙ p .0) 12 (eqb-true _ 12 t) (λ b. omega arith) refl refl)
+
+returns : tie.Need-returns
+returns c l p s =
+    let at-keys = c .before .before in
+    let at-under = at-keys .before .before in
+    let at-value = at-under .before .before in
+    let at-head = at-value .before .before in
+    let at-counts = at-head .before .before in
+    let start = at-counts .before .before .before .before .before .before in
+    let z = sym (s .number) ∙ start .pre .0 in
+    record {
+      scanned = s;
+      parts = λ _. record {
+        counts = rw (at-counts .counted .ensures) (counts-snoc (start .args .self .counts) l _ (in-counts start (kind-known l _ z)) (p .counts));
+        head = at-head .latest .ensures ∙ rw (p .head) (sym (record-snoc 10 l _));
+        value = at-value .latest-number .ensures ∙ rw (p .value) (sym (number-snoc 11 l _));
+        under = at-under .clock-with .ensures _ (p .under) ∙ ap clockOf (sym (dots-snoc (isKind 8) l _));
+        keys = at-keys .keys-with .ensures _ (p .keys) ∙ ap keysAs (sym (keys-snoc (isKind 9) l _));
+        put = c .clock-with2 .ensures _ (p .put) ∙ ap clockOf (sym (dots-snoc (isKind 12) l _));
+      };
+    }
+
+pub with-spec : {M : Type 1} → statement M
+with-spec =
+    tie.close
+    (tie.spec
+    counted-requires
+    (λ c κs. search needs)
+    (λ c κs. search needs)
+    clock-with-requires
+    keys-with-requires
+    clock-with-requires-2
+    returns)

@@ -1,0 +1,26 @@
+-- `counted` meets its contract. Assumes nothing.
+use mathlib.Core.Path.{_≡_, ap}
+use lib.ListN.{set}
+use Prim.Native.Nat.{min}
+use borrow.Author.Needs.{needs}
+use native.Mathlib.Omega.{arith}
+use Rattle.opimage.proofs.counted.Statement.{statement}
+use Rattle.opimage.proofs.counted.Tie as tie
+
+returns : tie.Need-returns
+returns c = ap (set (c .before .args .t1) (c .before .args .kind)) (omega arith)
+
+returns-2 : tie.Need-returns-2
+returns-2 c = ap (set (c .before .args .t1) (c .before .args .kind)) (omega arith)
+
+pub counted-spec : {M : Type 1} → statement M
+counted-spec =
+    tie.close
+    (tie.spec
+    (λ c. search needs)
+    (λ c. search needs)
+    (λ c. search needs)
+    (λ c. search needs)
+    (λ c. search needs)
+    returns
+    returns-2)

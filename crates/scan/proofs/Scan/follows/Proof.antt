@@ -1,0 +1,17 @@
+-- `Scan::follows` meets its contract. Assumes nothing.
+use Rattle.scan.proofs.Scans.{follows-last}
+use borrow.Author.Needs.{needs}
+use Rattle.scan.proofs.Scan.follows.Statement.{statement}
+use Rattle.scan.proofs.Scan.follows.Tie as tie
+
+returns : tie.Need-returns
+returns c l w e =
+    rw (c .before .before .record-ok .ensures, c .before2 .ensures) (follows-last _ _ l _ _ _ w e)
+
+pub follows-spec : {M : Type 1} → statement M
+follows-spec =
+    tie.close
+    (tie.spec
+    (λ c κs. search needs)
+    (λ c κs. search needs)
+    returns)

@@ -1,0 +1,18 @@
+-- `Scan::judged` meets its contract. Assumes nothing.
+use borrow.Author.Needs.{needs}
+use Rattle.scan.proofs.Scan.judged.Statement.{statement}
+use Rattle.scan.proofs.Scan.judged.Tie as tie
+
+returns : tie.Need-returns
+returns c = rw (← c .before .within .ensures, c .if1 .taken)
+
+returns-2 : tie.Need-returns-2
+returns-2 c = rw (← c .before .within .ensures, c .if1 .left)
+
+pub judged-spec : {M : Type 1} → statement M
+judged-spec =
+    tie.close
+    (tie.spec
+    (λ c κs. search needs)
+    returns
+    returns-2)

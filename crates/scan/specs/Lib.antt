@@ -1,0 +1,4 @@
+pub mod Each
+pub mod Formed
+pub mod Limits
+pub mod Scanned

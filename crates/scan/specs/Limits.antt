@@ -1,0 +1,73 @@
+-- When the records of an image are within the limits: "distinct keys, indexes, actors present are counted, one kind at a time".
+-- Assumes nothing.
+use Prim.Native.Nat.{ℕ, _+_}
+use mathlib.Core.Bool.{Bool, true, false, not, cond, _&&_}
+use mathlib.Core.List.{List, [], _∷_, _++_}
+use lib.Dec.{eqb, leb}
+use lib.ListN.{getD}
+use Rattle.lists.specs.First.{some}
+use Rattle.clock.specs.Dots.{dotLimit}
+use Rattle.register.specs.Values.{valueLimit}
+use Rattle.parts.specs.Model.{entryLimit, waitingLimit, keyLimit}
+use Rattle.records.specs.declared.Record.{Record}
+use Rattle.scan.specs.Each.{count, each}
+
+-- what is counted in a kind, under that, and under both: keys, indexes, actors; and for a waiting key, of a kind by which indexes hold keys: indexes, keys
+abbrev pub outer : Record → ℕ
+outer r = cond (eqb (r .kind) 6) (r .index) (r .key)
+
+abbrev pub middle : Record → ℕ
+middle r = cond (eqb (r .kind) 6) (r .key) (r .index)
+
+abbrev pub inner : Record → ℕ
+inner r = r .actor
+
+-- by kind, from kind 0, which is none; a level that a kind does not use has one thing; update heads have no limit, and no operation has so many records
+abbrev pub outerLimits : List ℕ
+outerLimits = 0 ∷ 1 ∷ entryLimit ∷ entryLimit ∷ entryLimit ∷ 1 ∷ waitingLimit ∷ 1 ∷ 1 ∷ keyLimit ∷ 255 ∷ 1 ∷ 1 ∷ []
+
+abbrev pub middleLimits : List ℕ
+middleLimits = 0 ∷ 1 ∷ 1 ∷ valueLimit ∷ valueLimit ∷ waitingLimit ∷ keyLimit ∷ 1 ∷ 1 ∷ 1 ∷ 255 ∷ 1 ∷ 1 ∷ []
+
+abbrev pub innerLimits : List ℕ
+innerLimits = 0 ∷ dotLimit ∷ dotLimit ∷ 1 ∷ dotLimit ∷ dotLimit ∷ 1 ∷ 1 ∷ dotLimit ∷ 1 ∷ 255 ∷ 1 ∷ dotLimit ∷ []
+
+abbrev pub limitAt : List ℕ → ℕ → ℕ
+limitAt limits kind = getD limits kind 0
+
+-- records of one kind, of one kind and outer thing, of one kind, outer and middle thing
+abbrev pub sameKind : Record → Record → Bool
+sameKind r s = eqb (s .kind) (r .kind)
+
+abbrev pub sameOuter : Record → Record → Bool
+sameOuter r s = sameKind r s && eqb (outer s) (outer r)
+
+abbrev pub sameMiddle : Record → Record → Bool
+sameMiddle r s = sameOuter r s && eqb (middle s) (middle r)
+
+-- x is in the group, and what f gives of it is given by none of the group before it
+abbrev pub fresh : (Record → Bool) → (Record → ℕ) → List Record → Record → Bool
+fresh group f seen x = group x && not (some (λ s. group s && eqb (f s) (f x)) seen)
+
+-- how many distinct numbers f gives in a group: each is counted where it first stands
+unfoldable pub tally : (Record → Bool) → (Record → ℕ) → List Record → ℕ
+tally group f l = count (fresh group f) l
+
+-- the counts of one kind within its limits
+abbrev pub withinLimits : ℕ → ℕ → ℕ → ℕ → Bool
+withinLimits kind o m i = leb o (limitAt outerLimits kind) && (leb m (limitAt middleLimits kind) && leb i (limitAt innerLimits kind))
+
+-- the records up to r, r included, keep the limits of its kind
+abbrev pub room : List Record → Record → Bool
+room seen r =
+    withinLimits (r .kind) (tally (sameKind r) outer (seen ++ (r ∷ [])))
+    (tally (sameOuter r) middle (seen ++ (r ∷ []))) (tally (sameMiddle r) inner (seen ++ (r ∷ [])))
+
+unfoldable pub within : List Record → Bool
+within l = each room l
+
+-- a count after one more record: of another group, of the same group and thing, of the same group and another thing
+abbrev pub tallyOn : ℕ → Bool → Bool → ℕ
+tallyOn n false same = 1
+tallyOn n true false = n + 1
+tallyOn n true true = n

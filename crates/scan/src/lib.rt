@@ -1,0 +1,179 @@
+// What the records of an image show one after the other, before any is given a meaning: bad order (1), an excess (2).
+ghost use mathlib.Core.Path.{_≡_};
+ghost use mathlib.Core.List.{List, [], _∷_, _++_};
+ghost use mathlib.Core.Bool.{true, cond};
+ghost use lib.Dec.{eqb};
+ghost use Prim.Native.Nat.{ℕ, _≤_, _<_};
+ghost use lib.ListN.{length, getD};
+ghost use Rattle.records.specs.declared.Record.{Record};
+ghost use Rattle.scan.specs.Limits.{limitAt, outerLimits, middleLimits, innerLimits, tallyOn, withinLimits};
+ghost use Rattle.scan.specs.Formed.{wellFormed, follows};
+ghost use Rattle.scan.specs.Scanned.{Scanned, Tallied, Ends, byKey, byIndex, judged, countedOn};
+use records::Record;
+
+// By kind, from kind 0, which is none: the most distinct things of each level.
+const OUTER: [u8; 13] = [0, 1, 16, 16, 16, 1, 8, 1, 1, 16, 255, 1, 1];
+
+const MIDDLE: [u8; 13] = [0, 1, 1, 4, 4, 8, 16, 1, 1, 1, 255, 1, 1];
+
+const INNER: [u8; 13] = [0, 8, 8, 1, 8, 8, 1, 1, 8, 1, 255, 1, 8];
+
+pub struct Scan {
+    pub number: u8,
+    pub any: bool,
+    pub last: Record,
+    pub outer: usize,
+    pub middle: usize,
+    pub inner: usize,
+    // for each index, how many waiting keys it has: they do not stand side by side
+    pub under: [u8; 256],
+}
+
+// A count after one more record: of another group, of the same group and thing, or of the same group and another thing.
+fn tally(n: usize, group: bool, same: bool) -> usize
+    requires { ⌜ n ≤ 255 ⌝ }
+    ensures { λ r. ⌜ (r ≡ tallyOn n group same) × (r ≤ 256) ⌝ }
+{
+    if group {
+        if same { n } else { n + 1 }
+    } else {
+        1
+    }
+}
+
+fn limit(limits: [u8; 13], kind: u8) -> usize
+    ensures { λ r. ⌜ r ≡ limitAt limits kind ⌝ }
+{
+    if kind < 13 {
+        limits[kind as usize] as usize
+    } else {
+        0
+    }
+}
+
+fn within(kind: u8, outer: usize, middle: usize, inner: usize) -> bool
+    ensures { λ r. ⌜ r ≡ withinLimits kind outer middle inner ⌝ }
+{
+    (outer <= limit(OUTER, kind))
+        & ((middle <= limit(MIDDLE, kind)) & (inner <= limit(INNER, kind)))
+}
+
+impl Scan {
+    pub fn new() -> Scan
+        ensures { λ s. ⌜ ((low high : ℕ) → Scanned low high [] s) ⌝ }
+    {
+        let none = Record {
+            kind: 0,
+            index: 0,
+            actor: 0,
+            key: 0,
+            number: 0,
+        };
+        Scan {
+            number: 0,
+            any: false,
+            last: none,
+            outer: 0,
+            middle: 0,
+            inner: 0,
+            under: [0; 256],
+        }
+    }
+
+    // Whether a record is good by itself and stands behind the last.
+    fn follows(self, low: u8, high: u8, r: Record) -> bool
+        ensures { λ b. ⌜ ((l : List Record) → wellFormed low high l ≡ true → Ends l (self .any) (self .last) → b ≡ follows low high l r) ⌝ }
+    {
+        let ok = records::record_ok(low, high, r);
+        ok & (!self.any | records::before(self.last, r))
+    }
+
+    // The counts with a record that is no waiting key.
+    fn by_key(self, r: Record) -> Scan
+        requires { ⌜ (self .outer ≤ 255) × ((self .middle ≤ 255) × (self .inner ≤ 255)) ⌝ }
+        ensures { λ s. ⌜ s ≡ byKey self r ⌝ }
+    {
+        let last = self.last;
+        let kind = self.any & (last.kind == r.kind);
+        let key = kind & (last.key == r.key);
+        let index = key & (last.index == r.index);
+        let mut next = self;
+        next.outer = tally(self.outer, kind, key);
+        next.middle = tally(self.middle, key, index);
+        next.inner = tally(self.inner, index, false);
+        next
+    }
+
+    // The counts with a waiting key.
+    fn by_index(self, r: Record) -> Scan
+        requires { ⌜ (self .outer ≤ 255) × ((i : ℕ) → getD (self .under) i 0 ≤ 254) ⌝ }
+        ensures { λ s. ⌜ s ≡ byIndex self r ⌝ }
+    {
+        let i = r.index as usize;
+        let last = self.last;
+        let kind = self.any & (last.kind == r.kind);
+        let n = self.under[i];
+        let mut next = self;
+        next.outer = tally(self.outer, kind, 0 < n);
+        next.middle = n as usize + 1;
+        next.inner = 1;
+        next.under[i] = n + 1;
+        next
+    }
+
+    // The counts with a record.
+    fn tallied(self, r: Record) -> Scan
+        requires { ⌜ ((l : List Record) × Tallied l self) ⌝ }
+        ensures { λ s. ⌜ s ≡ cond (eqb (r .kind) 6) (byIndex self r) (byKey self r) ⌝ }
+    {
+        if r.kind == 6 {
+            self.by_index(r)
+        } else {
+            self.by_key(r)
+        }
+    }
+
+    // The counts held against the limits of a record's kind; the record becomes the last.
+    fn judged(self, r: Record) -> Scan
+        ensures { λ s. ⌜ s ≡ judged self r ⌝ }
+    {
+        let mut next = self;
+        next.any = true;
+        next.last = r;
+        if within(r.kind, self.outer, self.middle, self.inner) {
+            return next;
+        }
+        next.number = 2;
+        next
+    }
+
+    // The scan with a record that follows the last.
+    fn counted(self, r: Record) -> Scan
+        requires { ⌜ (self .number ≡ 0 → (l : List Record) × Tallied l self) ⌝ }
+        ensures { λ s. ⌜ (s ≡ countedOn self r) × (r .index < length (self .under)) ⌝ }
+    {
+        if self.number == 0 {
+            return self.tallied(r).judged(r);
+        }
+        let mut next = self;
+        next.any = true;
+        next.last = r;
+        next
+    }
+
+    // One record more.
+    pub fn take(self, low: u8, high: u8, r: Record) -> Scan
+        requires { ⌜ ((l : List Record) × Scanned low high l self) ⌝ }
+        ensures { λ s. ⌜ ((l : List Record) → Scanned low high l self → Scanned low high (l ++ (r ∷ [])) s) ⌝ }
+    {
+        if self.number == 1 {
+            return self;
+        }
+        if self.follows(low, high, r) {
+            return self.counted(r);
+        }
+        let mut bad = self;
+        bad.number = 1;
+        bad
+    }
+}
