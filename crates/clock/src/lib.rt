@@ -9,11 +9,13 @@ ghost use Rattle.clock.specs.Dots.{dotLimit, dotsOf, clockOf, fitted, co
 // The most dots that a clock can hold.
 pub const DOTS: usize = 8;
 
+#[repr(C)]
 pub struct Dot {
     pub actor: u16,
     pub counter: u64,
 }
 
+#[repr(C)]
 pub struct Clock {
     pub dots: [Dot; DOTS],
     pub len: usize,

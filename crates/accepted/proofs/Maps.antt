@@ -1,0 +1,75 @@
+-- What the readers promise of the map and the operation that they give: valid, and within every limit; also of a refused image.
+-- Assumes nothing.
+use mathlib.Core.Path.{_≡_, refl, ap, sym, _∙_}
+use mathlib.Core.Bool.{Bool, true, false, cond, _&&_}
+use mathlib.Core.List.{List, [], _∷_, List·Memᴰ·not-nil}
+use Prim.Native.Nat.{ℕ, _≤_, _<_, _%_}
+use native.Mathlib.Omega.{arith}
+use lib.Dec.{eqb, ltb}
+use lib.ListN.{length}
+use borrow.Author.Tests.{eqb-true}
+use Rattle.lists.specs.Order.{_∈_, nil}
+use Rattle.lists.specs.First.{firstIn}
+use Rattle.clock.specs.Dots.{dotsOf}
+use Rattle.clock.specs.Lawful.{Lawful}
+use Rattle.clock.proofs.Packs.{dots-of}
+use Rattle.parts.specs.Valid.{ValidEntries, ValidWaiting}
+use Rattle.parts.proofs.Pieces.{entries-of, waiting-of}
+use Rattle.map.specs.declared.Map.{Map}
+use Rattle.map.specs.Model.{seenBy, entriesIn, waitingIn, mapAs, noMap}
+use Rattle.map.specs.Judging.{overNumber, overDots, overEntries, overValues, overWaiting, overKeys}
+use Rattle.map.specs.Valid.{Within}
+use Rattle.map.proofs.Kept.{valid-as}
+use Rattle.map.proofs.Accepts.{Fits, fits-holds}
+use Rattle.records.specs.declared.Record.{Record}
+use Rattle.records.specs.Records.{recordsOf}
+use Rattle.scan.specs.Each.{every, each}
+use Rattle.scan.specs.Scanned.{scanNumber}
+use Rattle.scan.proofs.Eachs.{decide, both-left, both-right}
+use Rattle.clockimage.specs.Image.{imageOf}
+use Rattle.mapimage.specs.MapImage.{mapLongest}
+use Rattle.mapreader.specs.Reading.{clockIn, entriesFor, waitingFor, mapIn}
+use Rattle.mapreader.specs.Related.{placed, entryWhole, ascend, related, refusedMap, judgedMap, readMap}
+use Rattle.mapreader.specs.declared.ReadMap.{ReadMap}
+use Rattle.accepted.proofs.Limited.{clock-few}
+use Rattle.accepted.proofs.Entered.{clock-lawful, entries-valid, entries-fit, entries-count}
+use Rattle.accepted.proofs.Waited.{waiting-valid, waiting-fit, waiting-few}
+
+-- the map of related records
+pub related-within : (l : List Record) → scanNumber 1 6 l ≡ 0 → related l ≡ true → Within (mapIn l)
+unfolding related
+related-within l z t =
+    let p = both-left (each placed l) _ t in
+    let u = both-right (each placed l) _ t in
+    let whole = both-left (every (entryWhole (clockIn l)) (entriesFor l)) (ascend (waitingFor l)) u in
+    let rise = both-right (every (entryWhole (clockIn l)) (entriesFor l)) (ascend (waitingFor l)) u in
+    record {
+      valid = valid-as (clock-lawful l z) (entries-valid l z whole) (waiting-valid l z p rise);
+      limits = fits-holds (record {
+        clock = rw (dots-of (clockIn l) refl) (clock-few l z);
+        count = rw (entries-of (entriesFor l)) (entries-count l z whole);
+        entries = rw (entries-of (entriesFor l)) (entries-fit l z whole);
+        number = rw (waiting-of (waitingFor l)) (waiting-few l z p rise);
+        waiting = rw (waiting-of (waitingFor l)) (waiting-fit l z p rise);
+      });
+    }
+
+pub no-map-within : Within noMap
+unfolding overNumber overDots overEntries overValues overWaiting overKeys firstIn
+no-map-within = record {
+  valid = valid-as (record { rising = nil; positive = λ d i. absurd (List·Memᴰ·not-nil i) }) (record { rising = nil; each = λ e i. absurd (List·Memᴰ·not-nil i) })
+      (record { rising = nil; each = λ r i. absurd (List·Memᴰ·not-nil i); some = λ r i. absurd (List·Memᴰ·not-nil i) });
+  limits = refl;
+}
+
+judged-within : (l : List Record) → Within (judgedMap l .map)
+judged-within l =
+    decide (eqb (scanNumber 1 6 l) 0)
+    (λ t. let z = eqb-true (scanNumber 1 6 l) 0 t in decide (related l) (λ r. rw (t, r) (related-within l z r)) (λ n. rw (t, n) no-map-within))
+    (λ f. rw f no-map-within)
+
+pub map-within : (s : List ℕ) → Within (readMap s .map)
+unfolding readMap
+map-within s =
+    decide (ltb mapLongest (length s)) (λ t. rw t no-map-within)
+    (λ f. decide (eqb (length s % 16) 0) (λ t. rw (f, t) (judged-within (recordsOf s))) (λ n. rw (f, n) no-map-within))

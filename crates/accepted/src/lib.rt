@@ -1,0 +1,1 @@
+// Laws only: what the readers promise of an accepted image.

@@ -1,0 +1,75 @@
+-- How each way out of `advance` answers.
+-- Assumes nothing.
+use mathlib.Core.Path.{_≡_, refl, ap, sym, _∙_}
+use mathlib.Core.Bool.{Bool, true, false, cond, _&&_}
+use mathlib.Core.List.{List, []}
+use Prim.Native.Nat.{ℕ, _*_, _^_, _≤_, _<_}
+use native.Mathlib.Omega.{arith}
+use lib.Dec.{leb, ltb, eqb}
+use lib.ListN.{length, length-take}
+use borrow.Author.Tests.{eq-eqb, ne-eqb, lt-ltb, le-ltb, leb-true, leb-false, ltb-true, ltb-false}
+use Rattle.lists.specs.Limit.{within}
+use Rattle.lists.proofs.Orders.{apart}
+use Rattle.lists.proofs.Limits.{within-fits, within-exceeds}
+use Rattle.scan.proofs.Eachs.{decide}
+use Rattle.clock.specs.declared.Dot.{Dot}
+use Rattle.clock.specs.declared.Clock.{Clock}
+use Rattle.clock.specs.declared.Joined.{Joined}
+use Rattle.clock.specs.Dots.{dotLimit, dotsOf, clockOf, fitted, counterIn, addDot}
+use Rattle.answers.specs.Answer.{numberOf, wordOf}
+use Rattle.answers.proofs.Answers.{number-first, number-own, number-done, bare}
+use Rattle.advance.specs.declared.Advanced.{Advanced}
+use Rattle.advance.specs.Advancing.{lentNumber, grownNumber, dotGiven, advanceAnswer, advancedClock, advancedOf}
+use Rattle.advance.proofs.Risings.{none-added}
+
+over-long : (l : List Dot) → fitted l .over ≡ true → dotLimit < length l
+over-long l h = decide (leb (length l) dotLimit) (λ t. apart (sym h ∙ ap (λ (j : Joined). j .over) (within-fits dotLimit _ _ l (leb-true (length l) dotLimit t)))) (λ f. omega (arith, leb-false (length l) dotLimit f))
+
+within-long : (l : List Dot) → fitted l .over ≡ false → length l ≤ dotLimit
+within-long l h = decide (leb (length l) dotLimit) (λ t. leb-true (length l) dotLimit t) (λ f. apart (sym (ap (λ (j : Joined). j .over) (within-exceeds dotLimit _ _ l (omega (arith, leb-false (length l) dotLimit f)))) ∙ h))
+
+module _ (c : Clock) (actor counter : ℕ) where
+  stays : {n : ℕ} → numberOf (advanceAnswer c actor counter) [] ≡ n → (n ≡ 0 → ⊥) → record { word = n * 2 ^ 32; clock = c } ≡ advancedOf c actor counter
+  unfolding advancedClock
+  stays {n} e h =
+      let w = bare (advanceAnswer c actor counter) n e refl in
+      let k : c ≡ advancedClock c actor counter = rw (e, ne-eqb n 0 h) in
+      λ i. record { word = w i; clock = k i }
+
+  pub refused-stays : {n : ℕ} → n ≡ lentNumber c → (n ≡ 0 → ⊥) → record { word = n * 2 ^ 32; clock = c } ≡ advancedOf c actor counter
+  refused-stays e h = stays (number-first (advanceAnswer c actor counter) [] e h) h
+
+  lent-few : lentNumber c ≡ 0 → length (dotsOf c) ≤ dotLimit
+  unfolding lentNumber
+  lent-few e =
+      decide (ltb dotLimit (c .len))
+      (λ t. let z : _≡_ {A = ℕ} 2 0 = rw t at e in omega arith)
+      (λ f. let h = ltb-false dotLimit (c .len) f in omega (arith, length-take (c .len) (c .dots)))
+
+  module _ (good : lentNumber c ≡ 0) where
+    pub full-stays : fitted (addDot (dotsOf c) (dotGiven c actor counter)) .over ≡ true → record { word = 4 * 2 ^ 32; clock = c } ≡ advancedOf c actor counter
+    full-stays o =
+        let l = over-long (addDot (dotsOf c) (dotGiven c actor counter)) o in
+        stays {n = 4} (number-own (advanceAnswer c actor counter) [] good refl (rw (lt-ltb _ _ l)) (omega arith)) (omega arith)
+
+    done : length (addDot (dotsOf c) (dotGiven c actor counter)) ≤ dotLimit → numberOf (advanceAnswer c actor counter) [] ≡ 0
+    done l = number-done (advanceAnswer c actor counter) [] good refl (rw (le-ltb _ _ l)) (omega arith)
+
+    pub grows : counterIn (dotsOf c) actor < counter → {j : Joined} → j ≡ fitted (addDot (dotsOf c) (dotGiven c actor counter)) → j .over ≡ false
+        → record { word = 0; clock = j .clock } ≡ advancedOf c actor counter
+    unfolding advancedClock
+    grows b {j} e o =
+        let l = within-long (addDot (dotsOf c) (dotGiven c actor counter)) (sym (ap (λ (x : Joined). x .over) e) ∙ o) in
+        let w = bare (advanceAnswer c actor counter) 0 (done l) refl in
+        let f : j .clock ≡ clockOf (addDot (dotsOf c) (dotGiven c actor counter)) = ap (λ (x : Joined). x .clock) (e ∙ within-fits dotLimit _ _ _ l) in
+        let k : j .clock ≡ advancedClock c actor counter = rw (done l, lt-ltb _ _ b) f in
+        λ i. record { word = w i; clock = k i }
+
+    pub seen-stays : counter ≤ counterIn (dotsOf c) actor → record { word = 0; clock = c } ≡ advancedOf c actor counter
+    unfolding advancedClock
+    seen-stays b =
+        let few = lent-few good in
+        let l = none-added (dotsOf c) (dotGiven c actor counter) b in
+        let w = bare (advanceAnswer c actor counter) 0 (done (omega arith)) refl in
+        let k : c ≡ advancedClock c actor counter = rw (done (omega arith), le-ltb _ _ b) in
+        λ i. record { word = w i; clock = k i }

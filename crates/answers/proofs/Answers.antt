@@ -1,0 +1,80 @@
+-- How each way out of a call answers, and that an answer leaves nothing open. Every call's proof cites these.
+-- Assumes nothing.
+use mathlib.Core.Path.{_≡_, refl, sym, ap, _∙_}
+use mathlib.Core.Bool.{Bool, true, false, cond}
+use mathlib.Core.List.{List, [], _∷_, _++_}
+use Prim.Native.Nat.{ℕ, _+_, _*_, _^_, _≤_, _<_}
+use native.Mathlib.Omega.{arith}
+use lib.Dec.{eqb}
+use lib.ListN.{length, drop}
+use borrow.Author.Tests.{eq-eqb, ne-eqb, lt-ltb, le-ltb}
+use Rattle.scan.proofs.Eachs.{decide}
+use Rattle.records.specs.Records.{Wrote}
+use Rattle.records.proofs.Placing.{placed-first}
+use Rattle.answers.specs.Answer.{Answer, firstOf, numberOf, wordOf, outOf, Answered}
+
+-- the number, by the first that is not 0: each takes the n that the code found, with what says that it is the answer's
+module _ (a : Answer) (o : List ℕ) {n : ℕ} where
+  pub number-first : n ≡ a .first → (n ≡ 0 → ⊥) → numberOf a o ≡ n
+  unfolding numberOf firstOf
+  number-first e h = rw (← e, ne-eqb n 0 h)
+
+  pub number-second : a .first ≡ 0 → n ≡ a .second → (n ≡ 0 → ⊥) → numberOf a o ≡ n
+  unfolding numberOf firstOf
+  number-second p e h = rw (p, ← e, ne-eqb n 0 h)
+
+  pub number-own : a .first ≡ 0 → a .second ≡ 0 → n ≡ a .own → (n ≡ 0 → ⊥) → numberOf a o ≡ n
+  unfolding numberOf firstOf
+  number-own p q e h = rw (p, q, ← e, ne-eqb n 0 h)
+
+module _ (a : Answer) (o : List ℕ) (p : a .first ≡ 0) (q : a .second ≡ 0) (s : a .own ≡ 0) where
+  pub number-short : length o < length (a .bytes) → numberOf a o ≡ 10
+  unfolding numberOf firstOf
+  number-short l = rw (p, q, s, lt-ltb _ _ l)
+
+  pub number-done : length (a .bytes) ≤ length o → numberOf a o ≡ 0
+  unfolding numberOf firstOf
+  number-done l = rw (p, q, s, le-ltb _ _ l)
+
+pub refuses : (a : Answer) (o : List ℕ) {n : ℕ} → numberOf a o ≡ n → (n ≡ 0 → ⊥) → Answered a o o (n * 2 ^ 32)
+unfolding wordOf outOf
+refuses a o {n} e h = record { packed = rw (e, ne-eqb n 0 h) (omega arith); left = rw (e, ne-eqb n 0 h) }
+
+pub writes : (a : Answer) (o : List ℕ) {d : List ℕ} {r : ℕ} → numberOf a o ≡ 0 → Wrote 0 (a .bytes) o d r → Answered a o d r
+unfolding wordOf outOf
+writes a o e w = record { packed = rw e (omega (arith, w .ends)); left = rw e (w .left ∙ placed-first (a .bytes) o) }
+
+-- what is answered of the call's own work, once both images have passed
+pub passes : (a : Answer) {o d : List ℕ} {r : ℕ} → a .first ≡ 0 → a .second ≡ 0
+    → Answered (record { first = 0; second = 0; own = a .own; bytes = a .bytes }) o d r → Answered a o d r
+unfolding wordOf outOf numberOf firstOf
+passes a p q w = record { packed = w .packed ∙ rw (p, q); left = w .left ∙ rw (p, q) }
+
+-- the word of an answer with no bytes
+pub bare : (a : Answer) (n : ℕ) → numberOf a [] ≡ n → length (a .bytes) ≡ 0 → n * 2 ^ 32 ≡ wordOf a []
+unfolding wordOf
+bare a n e z = rw e (decide (eqb n 0) (λ t. rw (t, z) (omega arith)) (λ f. rw f (omega arith)))
+
+-- both images pass, or the first number is that of one
+pub both-pass : (m o : ℕ) → m ≡ 0 → o ≡ 0 → eqb (firstOf (m ∷ o ∷ [])) 0 ≡ true
+unfolding firstOf
+both-pass m o p q = rw (p, q)
+
+pub one-fails : (m o : ℕ) → (m ≡ 0 → ⊥) → eqb (firstOf (m ∷ o ∷ [])) 0 ≡ false
+unfolding firstOf
+one-fails m o h = rw (ne-eqb m 0 h) (ne-eqb m 0 h)
+
+pub other-fails : (m o : ℕ) → m ≡ 0 → (o ≡ 0 → ⊥) → eqb (firstOf (m ∷ o ∷ [])) 0 ≡ false
+unfolding firstOf
+other-fails m o p h = rw (p, ne-eqb o 0 h) (ne-eqb o 0 h)
+
+-- the one law: two results that meet a contract are identical
+pub same : {A : Type 0} {x y z : A} → x ≡ z → y ≡ z → x ≡ y
+same p q = p ∙ sym q
+
+pub record Same (d e : List ℕ) (r s : ℕ) : Type 0 where
+  pub words : r ≡ s
+  pub outputs : d ≡ e
+
+pub same-answer : {a : Answer} {o d e : List ℕ} {r s : ℕ} → Answered a o d r → Answered a o e s → Same d e r s
+same-answer p q = record { words = same (p .packed) (q .packed); outputs = same (p .left) (q .left) }

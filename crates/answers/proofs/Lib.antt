@@ -1,0 +1,4 @@
+pub mod Answers
+pub mod Totals
+pub mod Distinct
+pub mod Lengths

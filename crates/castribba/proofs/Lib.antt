@@ -1,0 +1,3 @@
+pub mod Carrying
+pub mod Ways
+pub mod Determined

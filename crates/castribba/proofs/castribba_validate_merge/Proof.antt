@@ -1,0 +1,19 @@
+-- `castribba_validate_merge` meets its contract. Assumes nothing.
+use mathlib.Core.Path.{_≡_, refl, ap, ap₂, sym, _∙_}
+use Prim.Native.Nat.{_*_, _^_}
+use Rattle.castribba.specs.declared.MergeVerdict.{MergeVerdict}
+use Rattle.answers.proofs.Answers.{bare}
+use borrow.Author.Needs.{needs}
+use Rattle.castribba.proofs.castribba_validate_merge.Statement.{statement}
+use Rattle.castribba.proofs.castribba_validate_merge.Tie as tie
+
+returns : tie.Need-returns
+returns c = c .word .ensures ∙ ap (λ (v : MergeVerdict). v .number * 2 ^ 32) (c .before .merge .ensures) ∙ bare _ _ refl refl
+
+pub castribba-validate-merge-spec : {M : Type 1} → statement M
+castribba-validate-merge-spec =
+    tie.close
+    (tie.spec
+    (λ c κs. search needs)
+    (λ c κs. search needs)
+    returns)

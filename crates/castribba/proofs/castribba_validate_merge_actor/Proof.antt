@@ -1,0 +1,20 @@
+-- `castribba_validate_merge_actor` meets its contract. Assumes nothing.
+use mathlib.Core.Path.{_≡_, refl, ap, ap₂, sym, _∙_}
+use Prim.Native.Nat.{_*_, _^_}
+use Rattle.castribba.specs.declared.MergeVerdict.{MergeVerdict}
+use Rattle.castribba.specs.Calls.{spentActor}
+use Rattle.castribba.proofs.Carrying.{spent-carried}
+use borrow.Author.Needs.{needs}
+use Rattle.castribba.proofs.castribba_validate_merge_actor.Statement.{statement}
+use Rattle.castribba.proofs.castribba_validate_merge_actor.Tie as tie
+
+returns : tie.Need-returns
+returns c = c .spent-actor .ensures ∙ ap (λ (v : MergeVerdict). spentActor (v .spent)) (c .before .merge .ensures) ∙ spent-carried spentActor refl _ _ _
+
+pub castribba-validate-merge-actor-spec : {M : Type 1} → statement M
+castribba-validate-merge-actor-spec =
+    tie.close
+    (tie.spec
+    (λ c κs. search needs)
+    (λ c κs. search needs)
+    returns)

@@ -1,0 +1,20 @@
+-- `castribba_validate_merge_counter` meets its contract. Assumes nothing.
+use mathlib.Core.Path.{_≡_, refl, ap, ap₂, sym, _∙_}
+use Prim.Native.Nat.{_*_, _^_}
+use Rattle.castribba.specs.declared.MergeVerdict.{MergeVerdict}
+use Rattle.castribba.specs.Calls.{spentCounter}
+use Rattle.castribba.proofs.Carrying.{spent-carried}
+use borrow.Author.Needs.{needs}
+use Rattle.castribba.proofs.castribba_validate_merge_counter.Statement.{statement}
+use Rattle.castribba.proofs.castribba_validate_merge_counter.Tie as tie
+
+returns : tie.Need-returns
+returns c = c .spent-counter .ensures ∙ ap (λ (v : MergeVerdict). spentCounter (v .spent)) (c .before .merge .ensures) ∙ spent-carried spentCounter refl _ _ _
+
+pub castribba-validate-merge-counter-spec : {M : Type 1} → statement M
+castribba-validate-merge-counter-spec =
+    tie.close
+    (tie.spec
+    (λ c κs. search needs)
+    (λ c κs. search needs)
+    returns)

@@ -1,0 +1,20 @@
+-- `castribba_validate_merge_our_key` meets its contract. Assumes nothing.
+use mathlib.Core.Path.{_≡_, refl, ap, ap₂, sym, _∙_}
+use Prim.Native.Nat.{_*_, _^_}
+use Rattle.castribba.specs.declared.MergeVerdict.{MergeVerdict}
+use Rattle.castribba.specs.Calls.{spentOurs}
+use Rattle.castribba.proofs.Carrying.{spent-carried}
+use borrow.Author.Needs.{needs}
+use Rattle.castribba.proofs.castribba_validate_merge_our_key.Statement.{statement}
+use Rattle.castribba.proofs.castribba_validate_merge_our_key.Tie as tie
+
+returns : tie.Need-returns
+returns c = c .spent-ours .ensures ∙ ap (λ (v : MergeVerdict). spentOurs (v .spent)) (c .before .merge .ensures) ∙ spent-carried spentOurs refl _ _ _
+
+pub castribba-validate-merge-our-key-spec : {M : Type 1} → statement M
+castribba-validate-merge-our-key-spec =
+    tie.close
+    (tie.spec
+    (λ c κs. search needs)
+    (λ c κs. search needs)
+    returns)

@@ -1,0 +1,20 @@
+-- `castribba_validate_op_end` meets its contract. Assumes nothing.
+use mathlib.Core.Path.{_≡_, refl, ap, ap₂, sym, _∙_}
+use Prim.Native.Nat.{_*_, _^_}
+use Rattle.castribba.specs.declared.OpVerdict.{OpVerdict}
+use Rattle.map.specs.Asking.{orderEnd}
+use Rattle.castribba.proofs.Carrying.{end-carried}
+use borrow.Author.Needs.{needs}
+use Rattle.castribba.proofs.castribba_validate_op_end.Statement.{statement}
+use Rattle.castribba.proofs.castribba_validate_op_end.Tie as tie
+
+returns : tie.Need-returns
+returns c = c .order-end .ensures ∙ ap (λ (v : OpVerdict). orderEnd (v .order)) (c .before .op .ensures) ∙ end-carried _ _ _
+
+pub castribba-validate-op-end-spec : {M : Type 1} → statement M
+castribba-validate-op-end-spec =
+    tie.close
+    (tie.spec
+    (λ c κs. search needs)
+    (λ c κs. search needs)
+    returns)

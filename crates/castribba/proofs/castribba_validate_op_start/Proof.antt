@@ -1,0 +1,20 @@
+-- `castribba_validate_op_start` meets its contract. Assumes nothing.
+use mathlib.Core.Path.{_≡_, refl, ap, ap₂, sym, _∙_}
+use Prim.Native.Nat.{_*_, _^_}
+use Rattle.castribba.specs.declared.OpVerdict.{OpVerdict}
+use Rattle.map.specs.Asking.{orderStart}
+use Rattle.castribba.proofs.Carrying.{start-carried}
+use borrow.Author.Needs.{needs}
+use Rattle.castribba.proofs.castribba_validate_op_start.Statement.{statement}
+use Rattle.castribba.proofs.castribba_validate_op_start.Tie as tie
+
+returns : tie.Need-returns
+returns c = c .order-start .ensures ∙ ap (λ (v : OpVerdict). orderStart (v .order)) (c .before .op .ensures) ∙ start-carried _ _ _
+
+pub castribba-validate-op-start-spec : {M : Type 1} → statement M
+castribba-validate-op-start-spec =
+    tie.close
+    (tie.spec
+    (λ c κs. search needs)
+    (λ c κs. search needs)
+    returns)

@@ -1,0 +1,50 @@
+-- `op` meets its contract: a refused image's number, or what both say. Assumes nothing.
+use mathlib.Core.Path.{_≡_, refl, ap, ap₂, sym, _∙_}
+use Prim.Native.Nat.{_*_, _^_}
+use Rattle.mapreader.specs.declared.ReadMap.{ReadMap}
+use Rattle.opimage.specs.declared.ReadOp.{ReadOp}
+use Rattle.map.specs.declared.Order.the-variants.{Fits}
+use Rattle.map.specs.Asking.{validateOp, orderNumber}
+use Rattle.answers.proofs.Answers.{number-first, number-second, both-pass, one-fails, other-fails}
+use Rattle.castribba.proofs.Carrying.{number-passed, nothing-found, found}
+use borrow.Author.Needs.{needs}
+use Rattle.castribba.proofs.validating.op.Statement.{statement}
+use Rattle.castribba.proofs.validating.op.Tie as tie
+
+returns : tie.Need-returns
+returns c =
+    let m = ap (λ (r : ReadMap). r .number) (c .before .before .read-map .ensures) in
+    let p = sym (number-first _ _ m (c .if1 .taken)) in
+    let q = nothing-found _ _ _ Fits (one-fails _ _ (λ e. c .if1 .taken (m ∙ e))) in
+    λ i. record { number = p i; order = q i }
+
+returns-2 : tie.Need-returns-2
+returns-2 c =
+    let m = sym (ap (λ (r : ReadMap). r .number) (c .before .before .before .before .before .read-map .ensures)) ∙ c .before .before .before .if1 .left in
+    let o = ap (λ (r : ReadOp). r .number) (c .before .before .read-op .ensures) in
+    let p = sym (number-second _ _ m o (c .if2 .taken)) in
+    let q = nothing-found _ _ _ Fits (other-fails _ _ m (λ e. c .if2 .taken (o ∙ e))) in
+    λ i. record { number = p i; order = q i }
+
+returns-3 : tie.Need-returns-3
+returns-3 c =
+    let mm = c .before .before .before .before .before .before .before .read-map .ensures in
+    let oo = c .before .before .before .before .read-op .ensures in
+    let m = sym (ap (λ (r : ReadMap). r .number) mm) ∙ c .before .before .before .before .before .if1 .left in
+    let o = sym (ap (λ (r : ReadOp). r .number) oo) ∙ c .before .before .if2 .left in
+    let v = c .before .validate-op .ensures ∙ ap₂ (λ (m : ReadMap) (o : ReadOp). validateOp (m .map) (o .op)) mm oo in
+    let p = c .order-number .ensures ∙ ap orderNumber v ∙ number-passed _ _ _ m o in
+    let q = v ∙ found _ _ _ Fits (both-pass _ _ m o) in
+    λ i. record { number = p i; order = q i }
+
+pub op-spec : {M : Type 1} → statement M
+op-spec =
+    tie.close
+    (tie.spec
+    (λ c κs. search needs)
+    returns
+    (λ c κs. search needs)
+    returns-2
+    (λ c κs. search needs)
+    (λ c κs. search needs)
+    returns-3)

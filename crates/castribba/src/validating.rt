@@ -1,0 +1,129 @@
+// Both validations over images, and the numbers that they carry.
+ghost use mathlib.Core.Path.{_≡_};
+ghost use Prim.Native.Nat.{_≤_};
+ghost use Rattle.map.specs.Asking.{orderNumber, orderStart, orderEnd, spentNumber};
+ghost use Rattle.castribba.specs.Calls.{opVerdict, mergeVerdict, spentActor, spentCounter, spentOurs, spentTheirs};
+use crate::MergeVerdict;
+use crate::OpVerdict;
+use map::Order;
+use map::Spent;
+
+fn order_number(o: Order) -> u8
+    ensures { λ r. ⌜ r ≡ orderNumber o ⌝ }
+{
+    match o {
+        Order::Fits => 0,
+        Order::Missing(_, _) => 11,
+    }
+}
+
+pub fn order_start(o: Order) -> u64
+    ensures { λ r. ⌜ r ≡ orderStart o ⌝ }
+{
+    match o {
+        Order::Fits => 0,
+        Order::Missing(start, _) => start,
+    }
+}
+
+pub fn order_end(o: Order) -> u64
+    ensures { λ r. ⌜ r ≡ orderEnd o ⌝ }
+{
+    match o {
+        Order::Fits => 0,
+        Order::Missing(_, end) => end,
+    }
+}
+
+fn spent_number(s: Spent) -> u8
+    ensures { λ r. ⌜ r ≡ spentNumber s ⌝ }
+{
+    match s {
+        Spent::Once => 0,
+        Spent::Twice(_, _, _) => 12,
+    }
+}
+
+pub fn spent_actor(s: Spent) -> u64
+    ensures { λ r. ⌜ r ≡ spentActor s ⌝ }
+{
+    match s {
+        Spent::Once => 0,
+        Spent::Twice(d, _, _) => d.actor as u64,
+    }
+}
+
+pub fn spent_counter(s: Spent) -> u64
+    ensures { λ r. ⌜ r ≡ spentCounter s ⌝ }
+{
+    match s {
+        Spent::Once => 0,
+        Spent::Twice(d, _, _) => d.counter,
+    }
+}
+
+pub fn spent_ours(s: Spent) -> u64
+    ensures { λ r. ⌜ r ≡ spentOurs s ⌝ }
+{
+    match s {
+        Spent::Once => 0,
+        Spent::Twice(_, k, _) => k as u64,
+    }
+}
+
+pub fn spent_theirs(s: Spent) -> u64
+    ensures { λ r. ⌜ r ≡ spentTheirs s ⌝ }
+{
+    match s {
+        Spent::Once => 0,
+        Spent::Twice(_, _, h) => h as u64,
+    }
+}
+
+pub fn op(map: &[u8], op: &[u8]) -> OpVerdict
+    ensures { λ r. ⌜ r ≡ opVerdict (now (map .entry)) (now (op .entry)) ⌝ }
+{
+    let m = mapreader::read_map(map);
+    if m.number != 0 {
+        return OpVerdict {
+            number: m.number,
+            order: Order::Fits,
+        };
+    }
+    let o = opimage::read_op(op);
+    if o.number != 0 {
+        return OpVerdict {
+            number: o.number,
+            order: Order::Fits,
+        };
+    }
+    let order = m.map.validate_op(o.op);
+    OpVerdict {
+        number: order_number(order),
+        order,
+    }
+}
+
+pub fn merge(map: &[u8], other: &[u8]) -> MergeVerdict
+    ensures { λ r. ⌜ r ≡ mergeVerdict (now (map .entry)) (now (other .entry)) ⌝ }
+{
+    let m = mapreader::read_map(map);
+    if m.number != 0 {
+        return MergeVerdict {
+            number: m.number,
+            spent: Spent::Once,
+        };
+    }
+    let o = mapreader::read_map(other);
+    if o.number != 0 {
+        return MergeVerdict {
+            number: o.number,
+            spent: Spent::Once,
+        };
+    }
+    let spent = m.map.validate_merge(o.map);
+    MergeVerdict {
+        number: spent_number(spent),
+        spent,
+    }
+}
