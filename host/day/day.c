@@ -1,0 +1,439 @@
+/* day.c: a setting's day, acted out through the calls of castribba.h and printed for a reader.
+ *
+ * Three parties keep a map each: the management controller and two drive controllers. A key is a
+ * bay, a value the number of the image that the bay boots. No heap: every buffer is static.
+ */
+#include <castribba.h>
+
+#include <inttypes.h>
+#include <stdio.h>
+#include <stdlib.h>
+#include <string.h>
+
+enum { CONTROLLER = 1, DRIVE_A = 2, DRIVE_B = 3 }; /* actors */
+enum { BAY_5 = 5, BAY_6 = 6 };                     /* keys */
+enum { RECORD = 16 };                              /* bytes of an image's record */
+enum { SHORT_BUFFER = 10, GAP = 11 };              /* document 01's numbers */
+
+typedef struct map {
+    uint8_t bytes[CASTRIBBA_LONGEST_MAP];
+    size_t len;
+} map;
+
+typedef struct operation {
+    uint8_t bytes[CASTRIBBA_LONGEST_OPERATION];
+    size_t len;
+} operation;
+
+static map controller, drive_a, drive_b;
+
+/* Telling the story, and stopping it where it goes wrong. */
+
+static const char *step = "start";
+
+static void begin(const char *title)
+{
+    step = title;
+    printf("\n%s\n", title);
+}
+
+static void check(int holds, const char *what)
+{
+    if (!holds) {
+        fprintf(stderr, "day: FAILED in step '%s': %s\n", step, what);
+        exit(1);
+    }
+}
+
+/* Reading an image's records. */
+
+typedef struct record {
+    uint8_t kind, index;
+    uint16_t actor;
+    uint32_t key;
+    uint64_t number;
+} record;
+
+enum { CLOCK_DOT = 1, VALUE = 3, WAITING_DOT = 5, WAITING_KEY = 6 }; /* kinds */
+
+static uint64_t little_endian(const uint8_t *bytes, int count)
+{
+    uint64_t number = 0;
+    while (count-- > 0)
+        number = number << 8 | bytes[count];
+    return number;
+}
+
+static record record_at(const map *m, size_t place)
+{
+    const uint8_t *bytes = m->bytes + place;
+    return (record){.kind = bytes[0],
+                    .index = bytes[1],
+                    .actor = (uint16_t)little_endian(bytes + 2, 2),
+                    .key = (uint32_t)little_endian(bytes + 4, 4),
+                    .number = little_endian(bytes + 8, 8)};
+}
+
+/* How many images stand side by side for a bay; the last of them goes to `image`. */
+static int images_for(const map *m, uint32_t bay, uint64_t *image)
+{
+    int count = 0;
+    for (size_t place = 0; place < m->len; place += RECORD) {
+        record r = record_at(m, place);
+        if (r.kind == VALUE && r.key == bay) {
+            *image = r.number;
+            count++;
+        }
+    }
+    return count;
+}
+
+/* The clock's records come first in a map, and are by themselves an image of that clock. */
+static size_t clock_len(const map *m)
+{
+    size_t place = 0;
+    while (place < m->len && record_at(m, place).kind == CLOCK_DOT)
+        place += RECORD;
+    return place;
+}
+
+static void print_clock(const map *m, uint8_t kind, uint8_t index)
+{
+    const char *between = "";
+    printf("{");
+    for (size_t place = 0; place < m->len; place += RECORD) {
+        record r = record_at(m, place);
+        if (r.kind == kind && r.index == index) {
+            printf("%s%d:%" PRIu64, between, r.actor, r.number);
+            between = " ";
+        }
+    }
+    printf("}");
+}
+
+/* One line: what the party has seen, what each bay boots, and which removals wait. */
+static void show(const char *name, const map *m)
+{
+    record before = {0};
+    printf("  %-10s seen ", name);
+    print_clock(m, CLOCK_DOT, 0);
+    for (size_t place = 0; place < m->len; place += RECORD) {
+        record r = record_at(m, place);
+        if (r.kind == VALUE && before.kind == VALUE && before.key == r.key)
+            printf(" and %" PRIu64, r.number);
+        else if (r.kind == VALUE)
+            printf("; bay %" PRIu32 " boots %" PRIu64, r.key, r.number);
+        if (r.kind == WAITING_KEY) {
+            printf("; removal of bay %" PRIu32 " waits for ", r.key);
+            print_clock(m, WAITING_DOT, r.index);
+        }
+        before = r;
+    }
+    printf("\n");
+}
+
+static void show_all(void)
+{
+    show("controller", &controller);
+    show("drive A", &drive_a);
+    show("drive B", &drive_b);
+}
+
+static int same(const map *one, const map *other)
+{
+    return one->len == other->len && memcmp(one->bytes, other->bytes, one->len) == 0;
+}
+
+/* The calls, each checked. */
+
+/* Which call made a new map does not matter for how it replaces the old one. */
+static void replace(map *m, uint64_t word, const map *fresh)
+{
+    check(CASTRIBBA_NUMBER(word) == 0, "the map was to change, and the call refused");
+    m->len = CASTRIBBA_LENGTH(word);
+    memcpy(m->bytes, fresh->bytes, m->len);
+}
+
+static map fresh; /* an output must not overlap an input */
+
+static void deliver(map *to, const operation *op)
+{
+    replace(to, castribba_apply(to->bytes, to->len, op->bytes, op->len, fresh.bytes,
+                                sizeof fresh.bytes), &fresh);
+}
+
+static void deliver_again(map *to, const operation *op)
+{
+    static map before;
+    before = *to;
+    deliver(to, op);
+    check(same(to, &before), "an operation delivered twice changed the map");
+}
+
+static void merge(map *into, const map *other)
+{
+    replace(into, castribba_merge(into->bytes, into->len, other->bytes, other->len, fresh.bytes,
+                                  sizeof fresh.bytes), &fresh);
+}
+
+static void reset(map *m, const uint8_t *clock, size_t clock_length)
+{
+    replace(m, castribba_reset_remove(m->bytes, m->len, clock, clock_length, fresh.bytes,
+                                      sizeof fresh.bytes), &fresh);
+}
+
+/* A party picks an image for a bay: makes the operation, and is the first to apply it. */
+static void pick(map *m, uint16_t actor, uint32_t bay, uint64_t image, operation *op)
+{
+    uint64_t word = castribba_update(m->bytes, m->len, actor, bay, image, op->bytes,
+                                     sizeof op->bytes);
+    check(CASTRIBBA_NUMBER(word) == 0, "an update was not made");
+    op->len = CASTRIBBA_LENGTH(word);
+    deliver(m, op);
+}
+
+static void withdraw(map *m, uint32_t bay, operation *op)
+{
+    uint64_t word = castribba_rm_get(m->bytes, m->len, bay, op->bytes, sizeof op->bytes);
+    check(CASTRIBBA_NUMBER(word) == 0, "a removal was not made");
+    op->len = CASTRIBBA_LENGTH(word);
+    deliver(m, op);
+}
+
+static uint64_t count(const map *m)
+{
+    check(castribba_len(m->bytes, m->len) == 0, "the entries were not counted");
+    return castribba_len_count(m->bytes, m->len);
+}
+
+static void check_boots(const map *m, uint32_t bay, uint64_t image)
+{
+    uint64_t found = 0;
+    check(images_for(m, bay, &found) == 1 && found == image, "the bay boots another image");
+}
+
+static void check_side_by_side(const map *m, uint32_t bay)
+{
+    uint64_t found;
+    check(images_for(m, bay, &found) == 2, "two images were to stand side by side");
+}
+
+static void check_withdrawn(const map *m, uint32_t bay)
+{
+    uint64_t found;
+    check(images_for(m, bay, &found) == 0, "the bay's setting was to be gone");
+}
+
+/* The day. */
+
+static void console_picks(void)
+{
+    static operation first;
+    begin("1. The console picks image 40 for bay 5; the mailbox delivers to both drives.");
+    pick(&controller, CONTROLLER, BAY_5, 40, &first);
+    deliver(&drive_a, &first);
+    deliver(&drive_b, &first);
+    check(same(&drive_a, &controller) && same(&drive_b, &controller), "the parties differ");
+    show_all();
+
+    begin("2. The mailbox delivers the same operation a second time: nothing changes.");
+    deliver_again(&controller, &first);
+    deliver_again(&drive_a, &first);
+    deliver_again(&drive_b, &first);
+    show_all();
+}
+
+static void edits_while_apart(void)
+{
+    static operation by_controller, by_a, by_b, settled;
+    begin("3. Apart, the controller picks 41 and drive A 42 for bay 5, and drive B 60 for bay 6.");
+    pick(&controller, CONTROLLER, BAY_5, 41, &by_controller);
+    pick(&drive_a, DRIVE_A, BAY_5, 42, &by_a);
+    pick(&drive_b, DRIVE_B, BAY_6, 60, &by_b);
+    show_all();
+
+    begin("4. The mailbox delivers late, and twice: 41 and 42 stand side by side.");
+    deliver(&controller, &by_a);
+    deliver(&controller, &by_b);
+    deliver(&drive_a, &by_b);
+    deliver(&drive_a, &by_controller);
+    deliver(&drive_b, &by_a);
+    deliver(&drive_b, &by_controller);
+    deliver_again(&controller, &by_a);
+    deliver_again(&drive_a, &by_controller);
+    deliver_again(&drive_b, &by_a);
+    check_side_by_side(&controller, BAY_5);
+    check_side_by_side(&drive_a, BAY_5);
+    check_side_by_side(&drive_b, BAY_5);
+    show_all();
+
+    begin("5. The console sees both and picks 43, which overwrites both, everywhere.");
+    pick(&controller, CONTROLLER, BAY_5, 43, &settled);
+    deliver(&drive_a, &settled);
+    deliver(&drive_b, &settled);
+    check_boots(&controller, BAY_5, 43);
+    check(same(&drive_a, &controller) && same(&drive_b, &controller), "the parties differ");
+    show_all();
+}
+
+static void removal_comes_first(void)
+{
+    static operation update, removal, other;
+    static map before, replica;
+    before = drive_b;
+
+    begin("6. Drive A picks 44 for bay 5, the controller hears of it and withdraws the setting.");
+    pick(&drive_a, DRIVE_A, BAY_5, 44, &update);
+    deliver(&controller, &update);
+    withdraw(&controller, BAY_5, &removal);
+    check_withdrawn(&controller, BAY_5);
+    show_all();
+
+    begin("7. At drive B the removal arrives before the update that it removes: it waits.");
+    deliver(&drive_b, &removal);
+    check_withdrawn(&drive_b, BAY_5);
+    check(!same(&drive_b, &controller), "the removal was to wait");
+    show("drive B", &drive_b);
+
+    begin("8. The update arrives, late: the waiting removal meets it, and bay 5 stays withdrawn.");
+    deliver(&drive_b, &update);
+    deliver(&drive_a, &removal);
+    check(same(&drive_a, &controller) && same(&drive_b, &controller), "the parties differ");
+    deliver_again(&drive_a, &update);
+    deliver_again(&drive_b, &update);
+    deliver_again(&drive_b, &removal);
+    check_withdrawn(&drive_b, BAY_5);
+    show_all();
+
+    begin("9. The same with an edit of bay 6 among them, in each of the six orders.");
+    pick(&drive_b, DRIVE_B, BAY_6, 61, &other);
+    deliver(&controller, &other);
+    deliver(&drive_a, &other);
+    const operation *const mail[3] = {&update, &removal, &other};
+    const int orders[6][3] = {{0, 1, 2}, {0, 2, 1}, {1, 0, 2}, {1, 2, 0}, {2, 0, 1}, {2, 1, 0}};
+    for (int order = 0; order < 6; order++) {
+        replica = before;
+        for (int place = 0; place < 3; place++) {
+            deliver(&replica, mail[orders[order][place]]);
+            deliver_again(&replica, mail[orders[order][place]]);
+        }
+        check(same(&replica, &controller), "an order of delivery made a difference");
+    }
+    show("each order", &replica);
+}
+
+static void plugged_back_in(void)
+{
+    static operation by_controller, by_b;
+    static map one_way, other_way;
+    begin("10. Drive B is out. The controller picks 45 for bay 5, drive B 62 for bay 6.");
+    pick(&controller, CONTROLLER, BAY_5, 45, &by_controller);
+    deliver(&drive_a, &by_controller);
+    pick(&drive_b, DRIVE_B, BAY_6, 62, &by_b);
+    show_all();
+
+    begin("11. Drive B is plugged back in: whole maps are merged, both ways with one result.");
+    check(castribba_validate_merge(controller.bytes, controller.len, drive_b.bytes,
+                                   drive_b.len) == 0, "the merge was to be valid");
+    one_way = controller;
+    merge(&one_way, &drive_b);
+    other_way = drive_b;
+    merge(&other_way, &controller);
+    check(same(&one_way, &other_way), "the two ways differ");
+    controller = drive_b = one_way;
+    deliver(&drive_a, &by_b);
+    const map *const parties[2] = {&controller, &drive_a};
+    for (int party = 0; party < 2; party++) {
+        check_boots(parties[party], BAY_5, 45);
+        check_boots(parties[party], BAY_6, 62);
+    }
+    show_all();
+}
+
+static void loader_reads(void)
+{
+    static map bay;
+    begin("12. The boot loader reads: bay 5 alone, and how many bays are set.");
+    uint64_t word = castribba_get(drive_a.bytes, drive_a.len, BAY_5, bay.bytes, sizeof bay.bytes);
+    check(CASTRIBBA_NUMBER(word) == 0, "the loader was refused");
+    bay.len = CASTRIBBA_LENGTH(word);
+    check_boots(&bay, BAY_5, 45);
+    check(count(&bay) == 1 && count(&drive_a) == 2, "the count of entries is another");
+    show("loader", &bay);
+    printf("  %" PRIu64 " bays are set\n", count(&drive_a));
+}
+
+static void gap_is_caught(void)
+{
+    static operation lost, arrived;
+    begin("13. The controller picks 46, then 47; the mailbox loses 46, and drive A notices.");
+    pick(&controller, CONTROLLER, BAY_5, 46, &lost);
+    pick(&controller, CONTROLLER, BAY_5, 47, &arrived);
+    uint64_t word = castribba_validate_op(drive_a.bytes, drive_a.len, arrived.bytes, arrived.len);
+    uint64_t start = castribba_validate_op_start(drive_a.bytes, drive_a.len, arrived.bytes,
+                                                 arrived.len);
+    uint64_t end = castribba_validate_op_end(drive_a.bytes, drive_a.len, arrived.bytes,
+                                             arrived.len);
+    check(word == (uint64_t)GAP << 32, "the gap was not noticed");
+    check(start + 1 == end, "one operation alone was to be missing");
+    printf("  number %" PRIu32 ": the controller's operations %" PRIu64 " to %" PRIu64
+           " are not there yet\n", CASTRIBBA_NUMBER(word), start, end);
+    show("drive A", &drive_a);
+
+    begin("14. The lost operation is sent again, and then the later one is in order.");
+    deliver(&drive_a, &lost);
+    check(castribba_validate_op(drive_a.bytes, drive_a.len, arrived.bytes, arrived.len) == 0,
+          "the operation was to be in order");
+    deliver(&drive_a, &arrived);
+    check(same(&drive_a, &controller), "the parties differ");
+    merge(&drive_b, &controller);
+    check(same(&drive_b, &controller), "the parties differ");
+    show_all();
+}
+
+static void handed_on(void)
+{
+    static operation newer;
+    static map seen;
+    begin("15. The sled is handed on: what the console has seen is reset, what is newer stays.");
+    seen = controller;
+    pick(&drive_b, DRIVE_B, BAY_6, 63, &newer);
+    reset(&controller, seen.bytes, clock_len(&seen));
+    reset(&drive_a, seen.bytes, clock_len(&seen));
+    reset(&drive_b, seen.bytes, clock_len(&seen));
+    check(controller.len == 0 && drive_a.len == 0, "the empty map has no bytes");
+    check(count(&drive_b) == 1, "one bay was to stay set");
+    check_boots(&drive_b, BAY_6, 63);
+    show_all();
+}
+
+static void refusal(void)
+{
+    enum { PAINT = 0xEE };
+    begin("16. The loader offers a buffer that is one byte too short: it is refused, unwritten.");
+    memset(fresh.bytes, PAINT, sizeof fresh.bytes);
+    uint64_t word = castribba_get(drive_b.bytes, drive_b.len, BAY_6, fresh.bytes, drive_b.len - 1);
+    check(word == (uint64_t)SHORT_BUFFER << 32, "the short buffer was not refused");
+    for (size_t place = 0; place < sizeof fresh.bytes; place++)
+        check(fresh.bytes[place] == PAINT, "a refused call wrote");
+    printf("  number %" PRIu32 ", length %" PRIu32 ", no byte written\n", CASTRIBBA_NUMBER(word),
+           CASTRIBBA_LENGTH(word));
+}
+
+int main(void)
+{
+    static char line[BUFSIZ]; /* otherwise stdio would ask the heap for one */
+    setvbuf(stdout, line, _IOFBF, sizeof line);
+    printf("A setting's day. {1:2 3:1} reads: two operations of actor 1 and one of actor 3.\n"
+           "Actors: controller %d, drive A %d, drive B %d.\n", CONTROLLER, DRIVE_A, DRIVE_B);
+    console_picks();
+    edits_while_apart();
+    removal_comes_first();
+    plugged_back_in();
+    loader_reads();
+    gap_is_caught();
+    handed_on();
+    refusal();
+    printf("\nThe day is over, and every answer was as expected.\n");
+    return 0;
+}
