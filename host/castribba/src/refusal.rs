@@ -1,0 +1,99 @@
+//! Why a call was refused: document 01's numbers, and the values that two of them carry.
+
+use std::fmt;
+
+/// Why a call was refused. Nothing was changed, and nothing was written.
+#[derive(Clone, Copy, Debug, PartialEq, Eq, Hash)]
+pub enum Refusal {
+    /// 1: a bad length, kind, unused field, order or zero counter in an image.
+    Malformed,
+    /// 2: an image over its longest length, or over a limit.
+    OverLimit,
+    /// 3: records of an image that belong together do not.
+    Unrelated,
+    /// 4: the result would have a clock of more than 8 dots.
+    TooManyDots,
+    /// 5: the result would have more than 16 entries.
+    TooManyEntries,
+    /// 6: the result would have a register of more than 4 values.
+    TooManyValues,
+    /// 7: the result would have more than 8 waiting removals.
+    TooManyWaiting,
+    /// 8: the result would have a waiting removal of more than 16 keys.
+    TooManyKeys,
+    /// 9: the actor's counter is at its largest, and no update can be made.
+    CounterSpent,
+    /// 10: the output buffer is shorter than the answer.
+    ShortBuffer,
+    /// 11: the operations of the update's actor from `start` on are missing; `end` is its own.
+    Gap { start: u64, end: u64 },
+    /// 12: the two maps hold one dot under different keys.
+    DoubleSpent { actor: u16, counter: u64, our_key: u32, their_key: u32 },
+}
+
+impl Refusal {
+    /// Document 01's number.
+    ///
+    /// ```
+    /// assert_eq!(castribba::Refusal::Gap { start: 1, end: 2 }.number(), 11);
+    /// ```
+    pub fn number(&self) -> u32 {
+        match self {
+            Refusal::Malformed => 1,
+            Refusal::OverLimit => 2,
+            Refusal::Unrelated => 3,
+            Refusal::TooManyDots => 4,
+            Refusal::TooManyEntries => 5,
+            Refusal::TooManyValues => 6,
+            Refusal::TooManyWaiting => 7,
+            Refusal::TooManyKeys => 8,
+            Refusal::CounterSpent => 9,
+            Refusal::ShortBuffer => 10,
+            Refusal::Gap { .. } => 11,
+            Refusal::DoubleSpent { .. } => 12,
+        }
+    }
+
+    /// The refusal with this number, where it carries nothing.
+    pub(crate) fn with_number(number: u32) -> Refusal {
+        match number {
+            1 => Refusal::Malformed,
+            2 => Refusal::OverLimit,
+            3 => Refusal::Unrelated,
+            4 => Refusal::TooManyDots,
+            5 => Refusal::TooManyEntries,
+            6 => Refusal::TooManyValues,
+            7 => Refusal::TooManyWaiting,
+            8 => Refusal::TooManyKeys,
+            9 => Refusal::CounterSpent,
+            10 => Refusal::ShortBuffer,
+            _ => unreachable!("castribba.h has no call that answers {number} here"),
+        }
+    }
+}
+
+impl fmt::Display for Refusal {
+    fn fmt(&self, f: &mut fmt::Formatter<'_>) -> fmt::Result {
+        match self {
+            Refusal::Malformed => write!(f, "an image is malformed"),
+            Refusal::OverLimit => write!(f, "an image is over a limit"),
+            Refusal::Unrelated => write!(f, "records of an image that belong together do not"),
+            Refusal::TooManyDots => write!(f, "a clock would have more than 8 dots"),
+            Refusal::TooManyEntries => write!(f, "the map would have more than 16 entries"),
+            Refusal::TooManyValues => write!(f, "a register would have more than 4 values"),
+            Refusal::TooManyWaiting => write!(f, "more than 8 removals would wait"),
+            Refusal::TooManyKeys => write!(f, "a waiting removal would have more than 16 keys"),
+            Refusal::CounterSpent => write!(f, "the actor's counter is at its largest"),
+            Refusal::ShortBuffer => write!(f, "the output buffer is shorter than the answer"),
+            Refusal::Gap { start, end } => {
+                write!(f, "operation {end} came, but those from {start} on are missing")
+            }
+            Refusal::DoubleSpent { actor, counter, our_key, their_key } => write!(
+                f,
+                "dot {counter} of actor {actor} is under key {our_key} here, {their_key} there"
+            ),
+        }
+    }
+}
+
+impl std::error::Error for Refusal {}

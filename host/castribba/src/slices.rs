@@ -1,0 +1,158 @@
+//! The calls on byte slices: they take images of every content, and write into the caller's buffer.
+//!
+//! A call with an output buffer answers the length of the image at its start; bytes behind that
+//! stay as they were.
+//!
+//! ```
+//! use castribba::{slices, Refusal};
+//!
+//! let mut op = [0; castribba::LONGEST_OPERATION];
+//! let len = slices::update(&[], 1, 5, 40, &mut op)?;
+//! assert_eq!(len, 48);
+//! assert_eq!(slices::update(&[], 1, 5, 40, &mut op[..47]), Err(Refusal::ShortBuffer));
+//! # Ok::<(), Refusal>(())
+//! ```
+
+use crate::declared;
+use crate::Refusal;
+
+/// A dot of a [`LentClock`]: `castribba_dot`.
+#[derive(Clone, Copy, Debug, Default, PartialEq, Eq)]
+#[repr(C)]
+pub struct LentDot {
+    pub actor: u16,
+    pub counter: u64,
+}
+
+/// A clock to be advanced in place: `castribba_clock`. Dots from `len` on are not read.
+#[derive(Clone, Copy, Debug, Default, PartialEq, Eq)]
+#[repr(C)]
+pub struct LentClock {
+    pub dots: [LentDot; 8],
+    pub len: usize,
+}
+
+const GAP: u32 = 11;
+const DOUBLE_SPENT: u32 = 12;
+
+fn number_of(word: u64) -> u32 {
+    (word >> 32) as u32
+}
+
+/// What a word says, where its number carries nothing.
+fn judged(word: u64) -> Result<usize, Refusal> {
+    match number_of(word) {
+        0 => Ok(word as u32 as usize),
+        number => Err(Refusal::with_number(number)),
+    }
+}
+
+/// A call on one image, with whatever plain arguments follow, and an output buffer or none.
+macro_rules! with_one {
+    ($call:ident, $image:expr $(, $argument:expr)* $(; $out:expr)?) => {
+        // SAFETY: each pointer goes with the length of the slice that it comes from, and a mutable
+        // slice overlaps no other.
+        unsafe {
+            declared::$call(
+                $image.as_ptr(), $image.len() $(, $argument)* $(, $out.as_mut_ptr(), $out.len())?
+            )
+        }
+    };
+}
+
+/// A call on two images, with an output buffer or none.
+macro_rules! with_two {
+    ($call:ident, $first:expr, $second:expr $(; $out:expr)?) => {
+        with_one!($call, $first, $second.as_ptr(), $second.len() $(; $out)?)
+    };
+}
+
+/// The map after an operation.
+pub fn apply(map: &[u8], op: &[u8], out: &mut [u8]) -> Result<usize, Refusal> {
+    judged(with_two!(castribba_apply, map, op; out))
+}
+
+/// The two maps merged.
+pub fn merge(map: &[u8], other: &[u8], out: &mut [u8]) -> Result<usize, Refusal> {
+    judged(with_two!(castribba_merge, map, other; out))
+}
+
+/// The map without all that the clock has seen.
+pub fn reset_remove(map: &[u8], clock: &[u8], out: &mut [u8]) -> Result<usize, Refusal> {
+    judged(with_two!(castribba_reset_remove, map, clock; out))
+}
+
+/// The operation by which an actor puts a value under a key.
+pub fn update(
+    map: &[u8],
+    actor: u16,
+    key: u32,
+    value: u64,
+    out: &mut [u8],
+) -> Result<usize, Refusal> {
+    judged(with_one!(castribba_update, map, actor, key, value; out))
+}
+
+/// The operation that removes what the map holds under a key.
+pub fn rm_get(map: &[u8], key: u32, out: &mut [u8]) -> Result<usize, Refusal> {
+    judged(with_one!(castribba_rm_get, map, key; out))
+}
+
+/// The operation that removes under a key all that the map has seen.
+pub fn rm_read_ctx(map: &[u8], key: u32, out: &mut [u8]) -> Result<usize, Refusal> {
+    judged(with_one!(castribba_rm_read_ctx, map, key; out))
+}
+
+/// The map clock and one entry alone.
+pub fn get(map: &[u8], key: u32, out: &mut [u8]) -> Result<usize, Refusal> {
+    judged(with_one!(castribba_get, map, key; out))
+}
+
+/// The number of entries.
+pub fn len(map: &[u8]) -> Result<usize, Refusal> {
+    judged(with_one!(castribba_len, map))?;
+    Ok(with_one!(castribba_len_count, map) as usize)
+}
+
+/// Whether the operation is the next one of its actor.
+pub fn validate_op(map: &[u8], op: &[u8]) -> Result<(), Refusal> {
+    let word = with_two!(castribba_validate_op, map, op);
+    if number_of(word) == GAP {
+        return Err(Refusal::Gap {
+            start: with_two!(castribba_validate_op_start, map, op),
+            end: with_two!(castribba_validate_op_end, map, op),
+        });
+    }
+    judged(word).map(|_| ())
+}
+
+/// Whether no dot stands under different keys in the two maps.
+pub fn validate_merge(map: &[u8], other: &[u8]) -> Result<(), Refusal> {
+    let word = with_two!(castribba_validate_merge, map, other);
+    if number_of(word) == DOUBLE_SPENT {
+        // an actor has 16 bits and a key 32: the carried words hold nothing above
+        return Err(Refusal::DoubleSpent {
+            actor: with_two!(castribba_validate_merge_actor, map, other) as u16,
+            counter: with_two!(castribba_validate_merge_counter, map, other),
+            our_key: with_two!(castribba_validate_merge_our_key, map, other) as u32,
+            their_key: with_two!(castribba_validate_merge_their_key, map, other) as u32,
+        });
+    }
+    judged(word).map(|_| ())
+}
+
+/// Advances a clock in place by one dot.
+///
+/// ```
+/// use castribba::slices::{clock_advance, LentClock};
+///
+/// let mut clock = LentClock::default();
+/// clock_advance(&mut clock, 1, 3)?;
+/// assert_eq!((clock.len, clock.dots[0].counter), (1, 3));
+/// # Ok::<(), castribba::Refusal>(())
+/// ```
+pub fn clock_advance(clock: &mut LentClock, actor: u16, counter: u64) -> Result<(), Refusal> {
+    // SAFETY: a LentClock has the layout of castribba_clock.
+    let word = unsafe { declared::castribba_clock_advance(clock, actor, counter) };
+    judged(word).map(|_| ())
+}
