@@ -1,0 +1,247 @@
+/* stack.c: measures how much stack each call of castribba.h uses, and prints a table in bytes.
+ *
+ * Each call runs on a stack of its own that was painted first; what lost its paint was used. The
+ * buffers are static, and what an empty call uses is taken off: the rest is the call's own.
+ * A call is run on every pair of the inputs below, from empty to the longest: the table has its
+ * deepest run. Link with -z now, or the linker's own work on a first call is measured too.
+ */
+#define _XOPEN_SOURCE 700
+#include <castribba.h>
+
+#include <stdio.h>
+#include <string.h>
+#include <ucontext.h>
+
+enum { PAINT = 0xA5, STACK = 4 * 1024 * 1024, RECORD = 16 };
+enum { MOST_DOTS = 8, MOST_ENTRIES = 16, MOST_VALUES = 4, MOST_WAITING = 8, MOST_KEYS = 16 };
+
+typedef struct image {
+    uint8_t bytes[CASTRIBBA_LONGEST_MAP + RECORD];
+    size_t len;
+} image;
+
+static void add(image *to, uint8_t kind, unsigned index, unsigned actor, unsigned key,
+                uint64_t number)
+{
+    uint8_t *bytes = to->bytes + to->len;
+    bytes[0] = kind;
+    bytes[1] = (uint8_t)index;
+    for (int place = 0; place < 2; place++)
+        bytes[2 + place] = (uint8_t)(actor >> 8 * place);
+    for (int place = 0; place < 4; place++)
+        bytes[4 + place] = (uint8_t)(key >> 8 * place);
+    for (int place = 0; place < 8; place++)
+        bytes[8 + place] = (uint8_t)(number >> 8 * place);
+    to->len += RECORD;
+}
+
+/* A map with all that fits: every call has the most to do. The counters of its map clock are
+ * `seen`, of everything else `held`; with `keys_from` two maps have the same keys or different. */
+static void fill_map(image *map, uint64_t seen, uint64_t held, unsigned keys_from)
+{
+    for (unsigned actor = 0; actor < MOST_DOTS; actor++)
+        add(map, 1, 0, actor, 0, seen);
+    for (unsigned key = 0; key < MOST_ENTRIES; key++)
+        for (unsigned actor = 0; actor < MOST_DOTS; actor++)
+            add(map, 2, 0, actor, keys_from + key, held);
+    for (unsigned key = 0; key < MOST_ENTRIES; key++)
+        for (unsigned index = 0; index < MOST_VALUES; index++)
+            add(map, 3, index, 0, keys_from + key, index);
+    for (unsigned key = 0; key < MOST_ENTRIES; key++)
+        for (unsigned index = 0; index < MOST_VALUES; index++)
+            for (unsigned actor = 0; actor < MOST_DOTS; actor++)
+                add(map, 4, index, actor, keys_from + key, held + (actor == index));
+    for (unsigned index = 0; index < MOST_WAITING; index++)
+        for (unsigned actor = 0; actor < MOST_DOTS; actor++)
+            add(map, 5, index, actor, 0, seen + 1 + index);
+    for (unsigned key = 0; key < MOST_KEYS; key++)
+        for (unsigned index = 0; index < MOST_WAITING; index++)
+            add(map, 6, index, 0, keys_from + key, 0);
+}
+
+static void fill_removal(image *op, uint64_t counter, unsigned keys_from)
+{
+    add(op, 7, 0, 0, 0, 0);
+    for (unsigned actor = 0; actor < MOST_DOTS; actor++)
+        add(op, 8, 0, actor, 0, counter);
+    for (unsigned key = 0; key < MOST_KEYS; key++)
+        add(op, 9, 0, 0, keys_from + key, 0);
+}
+
+static void fill_update(image *op, unsigned key, uint64_t counter)
+{
+    add(op, 10, 0, 1, key, counter);
+    add(op, 11, 0, 0, 0, 7);
+    for (unsigned actor = 0; actor < MOST_DOTS; actor++)
+        add(op, 12, 0, actor, 0, counter);
+}
+
+static void fill_clock(image *clock, uint64_t counter)
+{
+    for (unsigned actor = 0; actor < MOST_DOTS; actor++)
+        add(clock, 1, 0, actor, 0, counter);
+}
+
+enum { MAPS = 7, OPERATIONS = 6, CLOCKS = 4 };
+static image maps[MAPS], operations[OPERATIONS], clocks[CLOCKS]; /* the first of each is empty */
+
+static void fill(void)
+{
+    add(&maps[1], 1, 0, 1, 0, 1);
+    /* among these a merge keeps entries, drops them, and finds them on one side only */
+    fill_map(&maps[2], 9, 9, 100);
+    fill_map(&maps[3], 9, 3, 100);
+    fill_map(&maps[4], 3, 3, 108);
+    fill_map(&maps[5], 3, 2, 100);
+    maps[6] = maps[2];
+    maps[6].len += 1; /* too long */
+
+    fill_removal(&operations[1], 9, 100);
+    fill_removal(&operations[2], 12, 100);
+    fill_update(&operations[3], 100, 10);
+    fill_update(&operations[4], 200, 10);
+    fill_update(&operations[5], 100, 17);
+
+    fill_clock(&clocks[1], 1);
+    fill_clock(&clocks[2], 10);
+    fill_clock(&clocks[3], 20);
+}
+
+static uint8_t out[CASTRIBBA_LONGEST_MAP];
+
+/* A refused input would measure no more than its refusal. */
+static int inputs_are_images(void)
+{
+    int all = 1;
+    uint64_t gap = (uint64_t)11 << 32;
+    for (int map = 0; map < MAPS - 1; map++)
+        all = all && castribba_len(maps[map].bytes, maps[map].len) == 0;
+    for (int op = 1; op < OPERATIONS; op++) {
+        uint64_t answer = castribba_validate_op(maps[0].bytes, 0, operations[op].bytes,
+                                                operations[op].len);
+        all = all && (answer == 0 || answer == gap);
+    }
+    for (int clock = 0; clock < CLOCKS; clock++)
+        all = all && castribba_reset_remove(maps[0].bytes, 0, clocks[clock].bytes,
+                                            clocks[clock].len, out, sizeof out) == 0;
+    return all;
+}
+
+/* The calls, on the inputs that stand in these. */
+
+static const image *first, *second;
+static uint64_t word;
+static castribba_clock lent;
+
+#define FIRST first->bytes, first->len
+#define SECOND second->bytes, second->len
+#define OUT out, sizeof out
+#define CALL(name, ...)                             \
+    static void run_##name(void)                    \
+    {                                               \
+        word = castribba_##name(__VA_ARGS__);       \
+    }
+
+static void run_nothing(void)
+{
+    word = 0;
+}
+CALL(apply, FIRST, SECOND, OUT)
+CALL(merge, FIRST, SECOND, OUT)
+CALL(reset_remove, FIRST, SECOND, OUT)
+CALL(update, FIRST, 1, 100, 7, OUT)
+CALL(rm_get, FIRST, 100, OUT)
+CALL(rm_read_ctx, FIRST, 100, OUT)
+CALL(get, FIRST, 100, OUT)
+CALL(len, FIRST)
+CALL(len_count, FIRST)
+CALL(validate_op, FIRST, SECOND)
+CALL(validate_op_start, FIRST, SECOND)
+CALL(validate_op_end, FIRST, SECOND)
+CALL(validate_merge, FIRST, SECOND)
+CALL(validate_merge_actor, FIRST, SECOND)
+CALL(validate_merge_counter, FIRST, SECOND)
+CALL(validate_merge_our_key, FIRST, SECOND)
+CALL(validate_merge_their_key, FIRST, SECOND)
+CALL(clock_advance, &lent, 3, 5)
+
+/* Running on the painted stack. */
+
+static _Alignas(64) uint8_t stack[STACK];
+static ucontext_t here, there;
+
+static size_t used_by(void (*run)(void))
+{
+    memset(stack, PAINT, sizeof stack);
+    getcontext(&there);
+    there.uc_stack.ss_sp = stack;
+    there.uc_stack.ss_size = sizeof stack;
+    there.uc_link = &here;
+    makecontext(&there, run, 0);
+    swapcontext(&here, &there);
+    size_t untouched = 0;
+    while (untouched < sizeof stack && stack[untouched] == PAINT)
+        untouched++;
+    return sizeof stack - untouched;
+}
+
+static size_t deepest(void (*run)(void), const image *seconds, int count)
+{
+    size_t most = 0;
+    for (int map = 0; map < MAPS; map++)
+        for (int other = 0; other < count; other++) {
+            first = &maps[map];
+            second = &seconds[other];
+            lent.len = (size_t)map;
+            for (int dot = 0; dot < MOST_DOTS; dot++)
+                lent.dots[dot] = (castribba_dot){.actor = (uint16_t)(2 * dot), .counter = 1};
+            size_t used = used_by(run);
+            most = used > most ? used : most;
+        }
+    return most;
+}
+
+int main(void)
+{
+    static const struct {
+        const char *name;
+        void (*run)(void);
+        const image *seconds;
+        int count;
+    } calls[] = {
+        {"castribba_apply", run_apply, operations, OPERATIONS},
+        {"castribba_merge", run_merge, maps, MAPS},
+        {"castribba_reset_remove", run_reset_remove, clocks, CLOCKS},
+        {"castribba_update", run_update, clocks, 1},
+        {"castribba_rm_get", run_rm_get, clocks, 1},
+        {"castribba_rm_read_ctx", run_rm_read_ctx, clocks, 1},
+        {"castribba_get", run_get, clocks, 1},
+        {"castribba_len", run_len, clocks, 1},
+        {"castribba_len_count", run_len_count, clocks, 1},
+        {"castribba_validate_op", run_validate_op, operations, OPERATIONS},
+        {"castribba_validate_op_start", run_validate_op_start, operations, OPERATIONS},
+        {"castribba_validate_op_end", run_validate_op_end, operations, OPERATIONS},
+        {"castribba_validate_merge", run_validate_merge, maps, MAPS},
+        {"castribba_validate_merge_actor", run_validate_merge_actor, maps, MAPS},
+        {"castribba_validate_merge_counter", run_validate_merge_counter, maps, MAPS},
+        {"castribba_validate_merge_our_key", run_validate_merge_our_key, maps, MAPS},
+        {"castribba_validate_merge_their_key", run_validate_merge_their_key, maps, MAPS},
+        {"castribba_clock_advance", run_clock_advance, clocks, 1},
+    };
+    fill();
+    if (!inputs_are_images()) {
+        printf("stack: FAILED: an input is not the image that it should be\n");
+        return 1;
+    }
+    size_t empty = used_by(run_nothing);
+    printf("%-36s %10s\n", "call", "bytes");
+    for (size_t place = 0; place < sizeof calls / sizeof calls[0]; place++) {
+        size_t used = deepest(calls[place].run, calls[place].seconds, calls[place].count);
+        if (used == sizeof stack) {
+            printf("stack: FAILED at %s: it uses more than is painted\n", calls[place].name);
+            return 1;
+        }
+        printf("%-36s %10zu\n", calls[place].name, used - empty);
+    }
+    return 0;
+}
