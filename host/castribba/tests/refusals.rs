@@ -83,6 +83,16 @@ fn too_many_keys() {
 fn a_gap_in_the_map_clock() {
     let op = operation(&[(10, 0, 1, 5, 7), (11, 0, 0, 0, 0)]);
     assert_eq!(map(&M).validate_op(&op), Err(Refusal::Gap { start: 2, end: 7 }));
+    // the map clock is asked before the entry, which would miss 1 too
+    let op = operation(&[(10, 0, 1, 6, 7), (11, 0, 0, 0, 0)]);
+    assert_eq!(map(&M).validate_op(&op), Err(Refusal::Gap { start: 2, end: 7 }));
+}
+
+#[test]
+fn no_gap_above_the_largest_counter() {
+    let spent = map(&[(1, 0, 1, 0, u64::MAX)]);
+    let op = operation(&[(10, 0, 1, 5, 1), (11, 0, 0, 0, 0)]);
+    assert_eq!(spent.validate_op(&op), Ok(()));
 }
 
 #[test]
