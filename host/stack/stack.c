@@ -12,7 +12,7 @@
 #include <string.h>
 #include <ucontext.h>
 
-enum { PAINT = 0xA5, STACK = 4 * 1024 * 1024, RECORD = 16 };
+enum { PAINT = 0xA5, STACK = 1024 * 1024, RECORD = 16 };
 enum { MOST_DOTS = 8, MOST_ENTRIES = 16, MOST_VALUES = 4, MOST_WAITING = 8, MOST_KEYS = 16 };
 
 typedef struct image {
