@@ -7,3 +7,4 @@ pub mod Resetting
 pub mod Judging
 pub mod Asking
 pub mod Valid
+pub mod Contexts

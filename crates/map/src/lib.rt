@@ -1,6 +1,7 @@
 // The map: a clock, entries by key, and removals that wait. The Rust's map.rs and ctx.rs, on arrays with a count, by value.
 mod applying;
 mod asking;
+mod contexts;
 mod merging;
 
 use clock::Clock;
@@ -45,4 +46,17 @@ pub enum Spent {
 pub struct Made {
     pub number: u64,
     pub op: Op,
+}
+
+// What a reader of a map carries along: the clock to add under, and the clock to remove under.
+pub struct ReadCtx {
+    pub add_clock: Clock,
+    pub rm_clock: Clock,
+}
+
+// What an update is made with: the next dot of an actor and the clock with it, or why it can't be made, with zeros.
+pub struct AddCtx {
+    pub number: u64,
+    pub clock: Clock,
+    pub dot: Dot,
 }

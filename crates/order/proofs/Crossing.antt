@@ -1,0 +1,67 @@
+-- 01 "Errors that look right": an update that crosses a removal of its own key leaves two values one way and one the other.
+-- Assumes nothing.
+use mathlib.Core.Path.{_≡_, refl, ap, sym, _∙_}
+use mathlib.Core.Bool.{true}
+use mathlib.Core.List.{List, [], _∷_}
+use Prim.Native.Nat.{ℕ}
+use native.Mathlib.Omega.{arith}
+use lib.ListN.{getD}
+use Rattle.lists.specs.Pad.{pad}
+use Rattle.lists.specs.Sift.{sift}
+use Rattle.lists.specs.First.{firstIn}
+use Rattle.lists.specs.Fold.{fold}
+use Rattle.lists.specs.Weave.{weave}
+use Rattle.clock.specs.declared.Dot.{Dot}
+use Rattle.clock.specs.Dots.{clockOf, isEmpty, counterIn, covers, orderOf, cutDots, joinDots, addDot}
+use Rattle.register.specs.declared.Value.{Value}
+use Rattle.register.specs.Values.{yields, outdone, remaining, putValues, cutValues}
+use Rattle.parts.specs.declared.Removal.{Removal}
+use Rattle.parts.specs.declared.Update.{Update}
+use Rattle.parts.specs.Model.{noEntry, entryAs, removalAs, listedIn}
+use Rattle.parts.specs.Entries.{cutEntry, listed, removeFrom, removeEntries, putEntry, entryAt, putEntries}
+use Rattle.parts.specs.Waits.{waits, clockBefore, unionKeys, uniteAll}
+use Rattle.map.specs.declared.Map.{Map}
+use Rattle.map.specs.Model.{mapAs}
+use Rattle.map.specs.Removing.{remove, afresh}
+use Rattle.map.specs.Updating.{update}
+
+-- actor : counter
+abbrev dot : ℕ → ℕ → Dot
+dot a n = record { actor = a; counter = n }
+
+abbrev one : ℕ → ℕ → List Dot
+one a n = dot a n ∷ []
+
+abbrev value : List Dot → ℕ → Value
+value c x = record { clock = clockOf c; value = x }
+
+-- clock {1:1,2:1}, entry 5 {1:1} holding ({1:1,2:1},7)
+abbrev before : Map
+before = mapAs (dot 1 1 ∷ dot 2 1 ∷ []) (entryAs 5 (one 1 1) (value (dot 1 1 ∷ dot 2 1 ∷ []) 7 ∷ []) ∷ []) []
+
+-- update (3,1) put {3:1} 9
+abbrev put : Update
+put = record { dot = dot 3 1; key = 5; put = value (one 3 1) 9 }
+
+-- remove 5 under {1:1}
+abbrev removal : Removal
+removal = removalAs (one 1 1) (5 ∷ [])
+
+abbrev later : List Dot
+later = dot 1 1 ∷ dot 2 1 ∷ dot 3 1 ∷ []
+
+pub record Crossed : Type 0 where
+  pub own : listed (listedIn removal) (put .key) ≡ true
+  pub one-value : update (remove before removal) put ≡ mapAs later (entryAs 5 (one 3 1) (value (one 3 1) 9 ∷ []) ∷ []) []
+  pub two-values : remove (update before put) removal ≡ mapAs later (entryAs 5 (one 3 1) (value (one 2 1) 7 ∷ value (one 3 1) 9 ∷ []) ∷ []) []
+
+pub crossed : Crossed
+unfolding pad sift firstIn fold weave isEmpty counterIn covers orderOf cutDots joinDots addDot yields outdone remaining putValues cutValues cutEntry listed removeFrom removeEntries waits clockBefore unionKeys uniteAll remove afresh putEntry entryAt putEntries update
+crossed = record { own = refl; one-value = refl; two-values = refl }
+
+-- so such a removal and the update do not trade places
+pub no-trade : update (remove before removal) put ≡ remove (update before put) removal → ⊥
+unfolding pad
+no-trade e =
+    let z : _≡_ {A = ℕ} 1 2 = ap (λ m. getD (m .entries .items) 0 noEntry .register .len) (sym (crossed .one-value) ∙ e ∙ crossed .two-values) in
+    omega arith

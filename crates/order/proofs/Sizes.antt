@@ -1,0 +1,36 @@
+-- The image of a map within the limits is not longer than the longest.
+-- Assumes nothing.
+use mathlib.Core.List.{List, [], _∷_, List·Memᴰ·head, List·Memᴰ·tail}
+use mathlib.Core.Path.{refl}
+use Prim.Native.Nat.{ℕ, _*_, _≤_}
+use native.Mathlib.Nat.{suc-mul}
+use native.Mathlib.Omega.{arith}
+use lib.ListN.{length}
+use Rattle.lists.specs.Order.{_∈_}
+use Rattle.parts.specs.Model.{valuesIn}
+use Rattle.map.specs.declared.Map.{Map}
+use Rattle.map.specs.Model.{entriesIn, waitingIn}
+use Rattle.map.specs.Valid.{Within}
+use Rattle.map.proofs.Accepts.{fits-means}
+use Rattle.mapimage.specs.MapImage.{mapLongest, mapImage}
+use Rattle.answers.specs.Sizes.{totalOf, valueSize, entrySize, removalSize, mapSize}
+use Rattle.answers.proofs.Lengths.{length-image}
+
+total-most : {A : Type 0} (size : A → ℕ) (b : ℕ) (l : List A) → ((x : A) → x ∈ l → size x ≤ b) → totalOf size l ≤ length l * b
+unfolding totalOf
+total-most size b [] f = omega arith
+total-most size b (x ∷ l) f = rw suc-mul (omega (arith, f x (List·Memᴰ·head refl), total-most size b l (λ y i. f y (List·Memᴰ·tail i))))
+
+pub image-most : {m : Map} → Within m → length (mapImage m) ≤ mapLongest
+unfolding mapSize
+image-most {m} h =
+    let f = fits-means m (h .limits) in
+    omega (
+      arith,
+      length-image (h .valid) (f .number),
+      f .clock,
+      f .count,
+      f .number,
+      total-most entrySize 44 (entriesIn m) (λ e i. omega (arith, f .entries e i .dots, f .entries e i .count, total-most valueSize 9 (valuesIn e) (λ v j. omega (arith, f .entries e i .each v j)))),
+      total-most removalSize 24 (waitingIn m) (λ r i. omega (arith, f .waiting r i .dots, f .waiting r i .keys)),
+    )
