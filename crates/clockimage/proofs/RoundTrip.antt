@@ -28,13 +28,8 @@ use Rattle.scan.proofs.Befores.{Before, fields-before, before-fields}
 use Rattle.scan.proofs.Rooms.{good-at, kind-range, no-index, no-key, counter-from-one}
 use Rattle.scan.proofs.Scanning.{scan-good}
 use Rattle.scan.proofs.Builds.{Among, scan-of, formed-ascends}
-use Rattle.clockimage.specs.Image.{isKind, dotRecord, dotRecords, dotOf, dotsIn, imageOf}
+use Rattle.clockimage.specs.Image.{isKind, dotRecord, dotRecords, dotOf, dotsIn, DotFits, imageOf}
 use Rattle.clockimage.specs.ClockImage.{clockLongest, clockRecords, clockImage, clockIn, judgedClock, refusedClock, readClock}
-
--- each field of a dot fits its type
-pub record DotFits (d : Dot) : Type 0 where
-  pub actor : d .actor < 2 ^ 16
-  pub counter : d .counter < 2 ^ 64
 
 module _ (kind index key : ℕ) where
   -- dots that ascend give records that ascend

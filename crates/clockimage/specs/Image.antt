@@ -1,6 +1,6 @@
 -- What every image has: dots in records, and the order in which an image is judged.
 -- Assumes nothing.
-use Prim.Native.Nat.{ℕ, _%_}
+use Prim.Native.Nat.{ℕ, _%_, _<_, _^_}
 use mathlib.Core.Bool.{Bool, cond}
 use mathlib.Core.List.{List, map}
 use lib.Dec.{eqb, ltb}
@@ -26,6 +26,11 @@ dotOf r = record { actor = r .actor; counter = r .number }
 -- the dots in those records that pass a test
 abbrev pub dotsIn : (Record → Bool) → List Record → List Dot
 dotsIn test l = map dotOf (those test l)
+
+-- a dot's numbers fit their fields in a record
+pub record DotFits (d : Dot) : Type 0 where
+  pub actor : d .actor < 2 ^ 16
+  pub counter : d .counter < 2 ^ 64
 
 -- "length above longest is 2 at once", then a bad length is 1, then the records are judged
 abbrev pub imageOf : {R : Type 0} → ℕ → (ℕ → R) → (List Record → R) → List ℕ → R

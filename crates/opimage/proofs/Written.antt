@@ -29,8 +29,8 @@ use Rattle.scan.proofs.Eachs.{decide, both-left}
 use Rattle.scan.proofs.Befores.{Before, fields-before}
 use Rattle.scan.proofs.Builds.{Among, scan-of}
 use Rattle.scan.proofs.Splits.{those-none}
-use Rattle.clockimage.specs.Image.{isKind, dotOf, dotRecord, dotRecords, dotsIn, imageOf}
-use Rattle.clockimage.proofs.RoundTrip.{DotFits, dots-ascend, dots-back, those-all}
+use Rattle.clockimage.specs.Image.{isKind, dotOf, dotRecord, dotRecords, dotsIn, imageOf, DotFits}
+use Rattle.clockimage.proofs.RoundTrip.{dots-ascend, dots-back, those-all}
 use Rattle.opimage.specs.OpImage.{opLongest, keyRecord, removalHead, updateHead, putValue, howMany, opRelated, removes, updates, noRecord, recordOf, keysIn, removalIn, updateIn, opIn, judgedOp, readOp}
 use Rattle.opimage.proofs.RoundTrip.{last-of, only}
 

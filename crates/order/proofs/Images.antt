@@ -35,9 +35,10 @@ use Rattle.order.specs.Ends.{EndMap}
 use Rattle.order.specs.Calls.{applyAnswer, Done, step, Passed, none, more, end, MapImage, OpImage, RemovalImage, removalOf}
 use Rattle.order.proofs.Runs.{Removals, maps-end}
 use Rattle.order.proofs.Trades.{maps-trade}
-use Rattle.order.proofs.Narrow.{Narrow, narrow-apply}
-use Rattle.order.proofs.Fields.{map-narrow, op-narrow}
-use Rattle.order.proofs.Sizes.{image-most}
+use Rattle.oneimage.specs.Narrow.{Narrow}
+use Rattle.order.proofs.Narrow.{narrow-apply}
+use Rattle.oneimage.proofs.Fields.{map-narrow, op-narrow}
+use Rattle.oneimage.proofs.Sizes.{image-most}
 
 -- a map within the limits, with numbers that fit their fields, reads back as it was written
 abbrev pub Rereads : Type 0

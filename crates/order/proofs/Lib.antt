@@ -2,9 +2,5 @@ pub mod Runs
 pub mod Trades
 pub mod Crossing
 pub mod Narrow
-pub mod Fields
-pub mod Sizes
-pub mod Written
-pub mod Rising
 pub mod Images
 pub mod Leaves

@@ -40,37 +40,9 @@ use Rattle.map.specs.Updating.{update}
 use Rattle.map.specs.Applying.{apply}
 use Rattle.map.specs.Valid.{Valid, ValidUpdate, ValidOp}
 use Rattle.map.proofs.Kept.{seen-of, Under, under-own, heldAfter, remove-laid, under-remove, cleared, valid-cleared, updated, valid-updated}
-use Rattle.clockimage.proofs.RoundTrip.{DotFits}
-
-abbrev pub NarrowDots : List Dot → Type 0
-NarrowDots l = (d : Dot) → d ∈ l → DotFits d
-
-pub record NarrowValue (v : Value) : Type 0 where
-  pub dots : NarrowDots (dotsOf (v .clock))
-  pub value : v .value < 2 ^ 64
-
-pub record NarrowEntry (e : Entry) : Type 0 where
-  pub key : e .key < 2 ^ 32
-  pub dots : NarrowDots (dotsIn e)
-  pub values : (v : Value) → v ∈ valuesIn e → NarrowValue v
-
-pub record NarrowRemoval (r : Removal) : Type 0 where
-  pub dots : NarrowDots (underOf r)
-  pub keys : (k : ℕ) → k ∈ listedIn r → k < 2 ^ 32
-
-pub record Narrow (m : Map) : Type 0 where
-  pub clock : NarrowDots (seenBy m)
-  pub entries : (e : Entry) → e ∈ entriesIn m → NarrowEntry e
-  pub waiting : (r : Removal) → r ∈ waitingIn m → NarrowRemoval r
-
-pub record NarrowUpdate (u : Update) : Type 0 where
-  pub dot : DotFits (u .dot)
-  pub key : u .key < 2 ^ 32
-  pub put : NarrowValue (u .put)
-
-pub record NarrowOp (op : Op) : Type 0 where
-  pub removal : NarrowRemoval (op .removal)
-  pub update : NarrowUpdate (op .update)
+use Rattle.clockimage.specs.Image.{DotFits}
+use Rattle.oneimage.specs.Narrow.{NarrowDots, NarrowValue, NarrowEntry, NarrowRemoval, Narrow, NarrowUpdate, NarrowOp}
+use Rattle.oneimage.proofs.Narrows.{narrow-as, narrow-map}
 
 -- clocks
 no-dots : NarrowDots []
@@ -99,9 +71,6 @@ narrow-add {l} h f {d} p n = go (beyond l d)
     go false = narrow-join h lawful-nil f no-dots
 
 -- entries
-pub narrow-as : (k : ℕ) (c : List Dot) (l : List Value) → k < 2 ^ 32 → NarrowDots c → ((v : Value) → v ∈ l → NarrowValue v) → NarrowEntry (entryAs k c l)
-narrow-as k c l p f g = record { key = p; dots = rw (dots-in k c l) f; values = rw (values-in k c l) g }
-
 module _ {e : Entry} (s : NarrowEntry e) where
   narrow-from : (r : Removal) → NarrowEntry (removeFrom r e)
   unfolding removeFrom cutEntry
@@ -120,9 +89,6 @@ module _ {e : Entry} (s : NarrowEntry e) where
       (put-each NarrowValue (valuesIn e) (u .put) (s .values) (λ t. n .put))
 
 -- maps
-pub narrow-map : (c : List Dot) (l : List Entry) (w : List Removal) → NarrowDots c → ((e : Entry) → e ∈ l → NarrowEntry e) → ((r : Removal) → r ∈ w → NarrowRemoval r) → Narrow (mapAs c l w)
-narrow-map c l w f g k = record { clock = rw (seen-of c l w) f; entries = rw (entries-of l) g; waiting = rw (waiting-of w) k }
-
 narrow-unite : {x y : Removal} → ValidRemoval x → ValidRemoval y → NarrowRemoval x → NarrowRemoval y → NarrowRemoval (unite x y)
 narrow-unite {x} {y} h k f g = record {
   dots = f .dots;

@@ -27,13 +27,13 @@ use Rattle.records.specs.Records.{recordsOf}
 use Rattle.records.proofs.RoundTrips.{Fitting, read-all-fit}
 use Rattle.scan.specs.Scanned.{scanNumber}
 use Rattle.scan.proofs.Eachs.{decide}
-use Rattle.clockimage.specs.Image.{isKind, dotOf, dotsIn}
-use Rattle.clockimage.proofs.RoundTrip.{DotFits}
+use Rattle.clockimage.specs.Image.{isKind, dotOf, dotsIn, DotFits}
 use Rattle.opimage.specs.OpImage.{opLongest, noRecord, recordOf, keysIn, opIn, opRelated, refusedOp, judgedOp, readOp}
 use Rattle.mapimage.specs.MapImage.{mapLongest}
 use Rattle.mapreader.specs.Reading.{underKey, underIndex, underBoth, clockIn, placesFrom, valueIn, valuesUnder, entryIn, entryKeys, entriesFor, waitingCount, removalIn, below, waitingFor, mapIn}
 use Rattle.mapreader.specs.Related.{related, judgedMap, readMap}
-use Rattle.order.proofs.Narrow.{NarrowDots, NarrowValue, NarrowEntry, NarrowRemoval, Narrow, NarrowOp, narrow-as, narrow-map}
+use Rattle.oneimage.specs.Narrow.{NarrowDots, NarrowValue, NarrowEntry, NarrowRemoval, Narrow, NarrowOp}
+use Rattle.oneimage.proofs.Narrows.{narrow-as, narrow-map}
 
 no-member : {A : Type 0} (P : A → Type 0) (x : A) → x ∈ [] → P x
 no-member P x i = absurd (List·Memᴰ·not-nil i)

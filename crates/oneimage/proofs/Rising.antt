@@ -26,7 +26,7 @@ use Rattle.clockimage.proofs.RoundTrip.{dots-ascend}
 use Rattle.mapimage.specs.Sorted.{inOrder}
 use Rattle.mapimage.specs.MapImage.{flatFrom, valueRecord, valueRecords, entryRecords, waitingDots, keyNumbers, numberRecord, waitingKeys, mapRecords}
 use Rattle.mapimage.proofs.Sorts.{order-ascends}
-use Rattle.order.proofs.Written.{flat-every}
+use Rattle.oneimage.proofs.Written.{flat-every}
 
 by-kind : (x y : Record) → x .kind < y .kind → before x y ≡ true
 by-kind x y k = fields-before (record { kind = omega arith; key = λ e. absurd (omega arith); index = λ e _. absurd (omega arith); actor = λ e _ _. absurd (omega arith) })

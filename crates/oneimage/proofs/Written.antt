@@ -24,15 +24,14 @@ use Rattle.records.specs.Records.{recordsOf}
 use Rattle.records.specs.Kinds.{recordOk}
 use Rattle.records.proofs.RoundTrips.{Fitting, read-written, length-bytes}
 use Rattle.scan.specs.Scanned.{scanNumber}
-use Rattle.clockimage.specs.Image.{dotRecord, dotRecords}
-use Rattle.clockimage.proofs.RoundTrip.{DotFits}
+use Rattle.clockimage.specs.Image.{dotRecord, dotRecords, DotFits}
 use Rattle.mapimage.specs.Sorted.{inOrder}
 use Rattle.mapimage.specs.MapImage.{mapLongest, flatFrom, valueRecord, valueRecords, entryRecords, waitingDots, keyNumber, keyNumbers, numberRecord, waitingKeys, mapRecords, mapImage}
 use Rattle.mapimage.proofs.Sorts.{order-from-list}
 use Rattle.mapreader.specs.Reading.{mapIn}
 use Rattle.mapreader.specs.Related.{related, judgedMap, readMap}
-use Rattle.order.proofs.Narrow.{Narrow}
-use Rattle.order.proofs.Sizes.{image-most}
+use Rattle.oneimage.specs.Narrow.{Narrow}
+use Rattle.oneimage.proofs.Sizes.{image-most}
 
 -- what holds of all that f gives, at every place, holds of the whole
 pub flat-every : {A B : Type 0} (P : B → Type 0) (f : ℕ → A → List B) (i : ℕ) (l : List A) → ((j : ℕ) (x : A) → j < i + length l → x ∈ l → (z : B) → z ∈ f j x → P z) → (z : B) → z ∈ flatFrom f i l → P z

@@ -1,0 +1,5 @@
+pub mod Narrows
+pub mod Fields
+pub mod Sizes
+pub mod Written
+pub mod Rising

@@ -1,0 +1,1 @@
+// Every map has one image: laws only, this crate has no code.
