@@ -3,3 +3,6 @@ pub mod Fields
 pub mod Sizes
 pub mod Written
 pub mod Rising
+pub mod One
+pub mod Clocks
+pub mod Ops
