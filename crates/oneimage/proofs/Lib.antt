@@ -4,3 +4,5 @@ pub mod Sizes
 pub mod Written
 pub mod Rising
 pub mod Stands
+pub mod Selected
+pub mod Places
