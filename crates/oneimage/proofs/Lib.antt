@@ -6,3 +6,4 @@ pub mod Rising
 pub mod Stands
 pub mod Selected
 pub mod Places
+pub mod Keyed
