@@ -7,3 +7,4 @@ pub mod Stands
 pub mod Selected
 pub mod Places
 pub mod Keyed
+pub mod Reread

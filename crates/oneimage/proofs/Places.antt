@@ -3,7 +3,7 @@
 use mathlib.Core.Path.{_≡_, refl, ap, ap₂, sym, _∙_}
 use mathlib.Core.Bool.{Bool, true}
 use mathlib.Core.Logic.{⊎-elim}
-use mathlib.Core.List.{List, [], _∷_, map, List·Memᴰ·head, List·Memᴰ·tail, List·Memᴰ·not-nil, List·Memᴰ·cases-cons, Memᴰ·cast}
+use mathlib.Core.List.{List, [], _∷_, map, List·Memᴰ·head, List·Memᴰ·tail, List·Memᴰ·not-nil, List·Memᴰ·cases-cons, Memᴰ·cast, Memᴰ·of-map}
 use Prim.Native.Nat.{ℕ, zero, suc, _+_, _≤_, _<_}
 use native.Mathlib.Omega.{arith}
 use lib.ListN.{length, getD, length-map}
@@ -78,3 +78,9 @@ same-rank {A = A} rank (next {x = z} {l = l} f a) {x} {y} i j e =
   where
     apart : {B : Type 0} (u v : A) → by rank u v ≡ true → rank u ≡ rank v → B
     apart u v t q = never-itself (by-strict (λ n. n)) (rank v) (rw q at t)
+
+-- the numbers of elements that ascend by them ascend
+pub ranks-rise : {A : Type 0} (rank : A → ℕ) {l : List A} → Ascending (by rank) l → Ascending (by (λ n. n)) (map rank l)
+ranks-rise rank nil = nil
+ranks-rise rank (next {x = x} {l = l} f a) =
+    next {x = rank x} (λ n i. let y = Memᴰ·of-map rank l i in rw (← y .2) (f (y .0) (y .1))) (ranks-rise rank a)
