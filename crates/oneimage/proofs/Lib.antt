@@ -8,3 +8,4 @@ pub mod Selected
 pub mod Places
 pub mod Keyed
 pub mod Reread
+pub mod Scans
