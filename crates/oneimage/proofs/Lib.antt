@@ -9,3 +9,5 @@ pub mod Places
 pub mod Keyed
 pub mod Reread
 pub mod Scans
+pub mod Relates
+pub mod Again
