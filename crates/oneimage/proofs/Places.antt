@@ -4,15 +4,15 @@ use mathlib.Core.Path.{_≡_, refl, ap, ap₂, sym, _∙_}
 use mathlib.Core.Bool.{Bool, true}
 use mathlib.Core.Logic.{⊎-elim}
 use mathlib.Core.List.{List, [], _∷_, map, List·Memᴰ·head, List·Memᴰ·tail, List·Memᴰ·not-nil, List·Memᴰ·cases-cons, Memᴰ·cast, Memᴰ·of-map}
-use Prim.Native.Nat.{ℕ, zero, suc, _+_, _≤_, _<_}
+use Prim.Native.Nat.{ℕ, zero, suc, _+_, _<_}
 use native.Mathlib.Omega.{arith}
 use lib.ListN.{length, getD, length-map}
 use lib.Seq.{ext-getD}
 use Rattle.lists.specs.Order.{_∈_, Ascending, nil, next, by}
-use Rattle.lists.proofs.Orders.{head-before, by-strict, never-itself}
+use Rattle.lists.proofs.Orders.{by-strict, never-itself}
 use Rattle.mapreader.specs.Reading.{placesFrom, below}
 use Rattle.mapreader.proofs.Keys.{get-map, length-below, get-below}
-use Rattle.oneimage.proofs.Stands.{Place, first, later, place-get, place-reads}
+use Rattle.oneimage.proofs.Stands.{Place, first, later, place-get}
 
 module _ {A B : Type 0} (f : ℕ → A → B) where
   places-has-from : (i : ℕ) {x : A} {j : ℕ} {l : List A} → Place x j l → f (i + j) x ∈ placesFrom f i l

@@ -1,7 +1,7 @@
 -- The records of a map's image are related: each finds what it needs among those before it.
 -- Assumes nothing.
 use mathlib.Core.Path.{_≡_, refl, ap, sym, _∙_}
-use mathlib.Core.Bool.{Bool, true, false, not, _&&_}
+use mathlib.Core.Bool.{Bool, true, false, not}
 use mathlib.Core.Logic.{⊎-elim}
 use mathlib.Core.List.{List, [], _∷_, _++_, append-assoc, List·Memᴰ·head, List·Memᴰ·tail, List·Memᴰ·cases-cons, Memᴰ·map, Memᴰ·append-right}
 use Prim.Native.Nat.{ℕ, zero, suc, _+_, _≤_, _<_}
@@ -41,7 +41,7 @@ use Rattle.oneimage.proofs.Stands.{Place, first, later, place-below, pl
 use Rattle.oneimage.proofs.Selected.{before-strict}
 use Rattle.oneimage.proofs.Places.{places-means}
 use Rattle.oneimage.proofs.Keyed.{keys-has, count-has}
-use Rattle.oneimage.proofs.Reread.{key-record, low, values-stand, entry-stands, waiting-stands, clock-again, entries-again, waiting-again}
+use Rattle.oneimage.proofs.Reread.{key-record, index-low, values-stand, entry-stands, waiting-stands, clock-again, entries-again, waiting-again}
 
 -- those before r, among ascending records
 abbrev ahead : Record → List Record → List Record
@@ -159,7 +159,7 @@ module _ {m : Map} (h : Within m) where
       go (value e i j v p q) = rw q (value-placed i j v p)
       go (value-dot e i j v p d k q) = rw q (value-dot-placed i j v p d)
       go (waiting-dot j q p d k e) = rw e (waiting-dot-placed j p d)
-      go (waiting-key j q p k i e) = rw (e ∙ key-record j k (low h p)) (waiting-key-placed j p k)
+      go (waiting-key j q p k i e) = rw (e ∙ key-record j k (index-low h p)) (waiting-key-placed j p k)
 
   entries-whole : every (entryWhole (clockIn (mapRecords m))) (entriesFor (mapRecords m)) ≡ true
   entries-whole =

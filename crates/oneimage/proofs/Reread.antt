@@ -1,12 +1,12 @@
 -- The records of a map's image stand for the map.
 -- Assumes nothing.
 use mathlib.Core.Path.{_≡_, refl, ap, ap₂, sym, _∙_}
-use mathlib.Core.Bool.{Bool, true, false}
+use mathlib.Core.Bool.{false}
 use mathlib.Core.List.{List, [], _∷_, map, List·Memᴰ·head, Memᴰ·cast, Memᴰ·map, Memᴰ·of-map}
-use Prim.Native.Nat.{ℕ, _+_, _≤_, _<_}
+use Prim.Native.Nat.{ℕ, _+_, _<_}
 use native.Mathlib.Omega.{arith}
 use lib.Dec.{eqb, ltb}
-use lib.ListN.{length, getD}
+use lib.ListN.{length}
 use borrow.Author.Tests.{eq-eqb, eqb-true, eqb-false, ltb-true, ltb-false}
 use Rattle.lists.specs.Order.{_∈_, Ascending, nil, next, by}
 use Rattle.lists.specs.Sift.{those}
@@ -58,13 +58,13 @@ module _ {m : Map} (h : Within m) where
   pub stand : {r : Record} → Part (seenBy m) (entriesIn m) (waitingIn m) r → r ∈ mapRecords m
   stand p = part-stands (seenBy m) (entriesIn m) (waitingIn m) p
 
-  pub of : (kind : ℕ) (r : Record) → r ∈ mapRecords m → r .kind ≡ kind → PartOf (seenBy m) (entriesIn m) (waitingIn m) kind r
-  of = part-of (seenBy m) (entriesIn m) (waitingIn m)
+  pub of-kind : (kind : ℕ) (r : Record) → r ∈ mapRecords m → r .kind ≡ kind → PartOf (seenBy m) (entriesIn m) (waitingIn m) kind r
+  of-kind = part-of (seenBy m) (entriesIn m) (waitingIn m)
 
   pub clock-again : clockIn (mapRecords m) ≡ seenBy m
   clock-again =
       selected-back (isKind 1) (records-ascend h) (dotRecord 1 0 0) dotOf (seenBy m) (dots-ascend 1 0 0 (seenBy m) (h .valid .clock .rising)) (λ d. refl)
-      (λ r i t. of 1 r i (eqb-true (r .kind) 1 t)) (λ d i. (stand (clock-dot d i refl), refl))
+      (λ r i t. of-kind 1 r i (eqb-true (r .kind) 1 t)) (λ d i. (stand (clock-dot d i refl), refl))
 
   -- one entry to a key
   module _ {e : Entry} (i : e ∈ entriesIn m) where
@@ -76,7 +76,7 @@ module _ {m : Map} (h : Within m) where
         selected-back (underKey 2 (e .key)) (records-ascend h) (dotRecord 2 0 (e .key)) dotOf (entryDots e)
         (dots-ascend 2 0 (e .key) (entryDots e) (h .valid .entries .each e i .clock .rising)) (λ d. refl)
         (λ r j t. let k = at-key (e .key) 2 r t in
-        let (x, a, d, b, q) = of 2 r j (k .0) in
+        let (x, a, d, b, q) = of-kind 2 r j (k .0) in
         let s = same-entry a (ap (λ (r : Record). r .key) (sym q) ∙ k .1) in
         (d, rw s at b, rw s at q))
         (λ d j. (stand (entry-dot e i d j refl), eq-eqb (e .key) (e .key) refl))
@@ -86,7 +86,7 @@ module _ {m : Map} (h : Within m) where
         selected (underKey 3 (e .key)) (records-ascend h)
         (places-rise (valueRecord (e .key)) (λ j k x y p. by-index (valueRecord (e .key) j x) (valueRecord (e .key) k y) refl refl p) 0 (valuesIn e))
         (λ r j t. let k = at-key (e .key) 3 r t in
-        let (x, a, n, v, p, q) = of 3 r j (k .0) in
+        let (x, a, n, v, p, q) = of-kind 3 r j (k .0) in
         let s = same-entry a (ap (λ (r : Record). r .key) (sym q) ∙ k .1) in
         Memᴰ·cast (rw s at q) (places-has (valueRecord (e .key)) (rw s at p)))
         (λ r j. let y = places-means (valueRecord (e .key)) 0 (valuesIn e) r j in
@@ -98,7 +98,7 @@ module _ {m : Map} (h : Within m) where
         selected-back (underBoth 4 (e .key) j) (records-ascend h) (dotRecord 4 j (e .key)) dotOf (dotsOf (v .clock))
         (dots-ascend 4 j (e .key) (dotsOf (v .clock)) (h .valid .entries .each e i .values v (place-in p) .clock .rising)) (λ d. refl)
         (λ r g t. let k = at-both (e .key) j r t in
-        let (x, a, n, u, z, d, b, q) = of 4 r g (k .0 .0) in
+        let (x, a, n, u, z, d, b, q) = of-kind 4 r g (k .0 .0) in
         let s = same-entry a (ap (λ (r : Record). r .key) (sym q) ∙ k .0 .1) in
         let here : n ≡ j = ap (λ (r : Record). r .index) (sym q) ∙ k .1 in
         let one : u ≡ v = place-one (rw (s, here) at z) p in
@@ -122,7 +122,7 @@ module _ {m : Map} (h : Within m) where
   keys-again =
       same-members (by-strict (λ n. n)) (entryKeys (mapRecords m)) (map (λ e. e .key) (entriesIn m)) (keys-rise (mapRecords m) (records-ascend h)) (ranks-rise (λ e. e .key) (h .valid .entries .rising))
       (λ k i. let (s, j, a, q) = keys-means (mapRecords m) k i in
-      let (e, b, d, c, u) = of 2 s j a in
+      let (e, b, d, c, u) = of-kind 2 s j a in
       Memᴰ·cast (sym q ∙ ap (λ (r : Record). r .key) u) (Memᴰ·map (λ (e : Entry). e .key) b))
       (λ k i. let y = Memᴰ·of-map (λ (e : Entry). e .key) (entriesIn m) i in
       let z = entry-stands (y .1) in
@@ -133,14 +133,14 @@ module _ {m : Map} (h : Within m) where
 
   -- a waiting removal at its place
   module _ {q : Removal} {j : ℕ} (p : Place q j (waitingIn m)) where
-    pub low : j < 256
-    low = let f = fits-means m (h .limits) .number in let b = place-below p in omega arith
+    pub index-low : j < 256
+    index-low = let f = fits-means m (h .limits) .number in let b = place-below p in omega arith
 
     under-again : dotsIn (underIndex 5 j) (mapRecords m) ≡ underOf q
     under-again =
         selected-back (underIndex 5 j) (records-ascend h) (dotRecord 5 j 0) dotOf (underOf q) (dots-ascend 5 j 0 (underOf q) (h .valid .waiting .each q (place-in p) .clock .rising)) (λ d. refl)
         (λ r i t. let k = at-index j 5 r t in
-        let (n, x, z, d, b, e) = of 5 r i (k .0) in
+        let (n, x, z, d, b, e) = of-kind 5 r i (k .0) in
         let here : n ≡ j = ap (λ (r : Record). r .index) (sym e) ∙ k .1 in
         let one : x ≡ q = place-one (rw here at z) p in
         (d, rw one at b, rw here at e))
@@ -152,7 +152,7 @@ module _ {m : Map} (h : Within m) where
 
   -- a waiting key's record, by its fields
   pub of-key : (r : Record) → r ∈ mapRecords m → r .kind ≡ 6 → (j : ℕ) × (q : Removal) × Place q j (waitingIn m) × (k : ℕ) × (k ∈ listedIn q) × (r ≡ keyRecord 6 j k)
-  of-key r i k = let (j, q, p, n, b, e) = of 6 r i k in (j, q, p, n, b, e ∙ key-record j n (low p))
+  of-key r i k = let (j, q, p, n, b, e) = of-kind 6 r i k in (j, q, p, n, b, e ∙ key-record j n (index-low p))
 
   module _ {q : Removal} {j : ℕ} (p : Place q j (waitingIn m)) where
     listed-again : map (λ r. r .key) (those (underIndex 6 j) (mapRecords m)) ≡ listedIn q
@@ -163,14 +163,14 @@ module _ {m : Map} (h : Within m) where
         let here : n ≡ j = ap (λ (r : Record). r .index) (sym e) ∙ k .1 in
         let one : x ≡ q = place-one (rw here at z) p in
         (y, rw one at b, rw here at e))
-        (λ k i. (Memᴰ·cast (sym (key-record j k (low p))) (stand (waiting-key j q p k i refl)), eq-eqb j j refl))
+        (λ k i. (Memᴰ·cast (sym (key-record j k (index-low p))) (stand (waiting-key j q p k i refl)), eq-eqb j j refl))
 
     removal-again : removalIn (mapRecords m) j ≡ q
     removal-again = ap₂ removalAs (under-again p) listed-again ∙ sym (h .valid .waiting .each q (place-in p) .laid)
 
   count-again : waitingCount (mapRecords m) ≡ length (waitingIn m)
   count-again =
-      let most = count-most (mapRecords m) (length (waitingIn m)) (λ s i k. let (j, q, p, d, b, e) = of 5 s i k in let same = ap (λ (r : Record). r .index) e in let u = place-below p in omega arith) in
+      let most = count-most (mapRecords m) (length (waitingIn m)) (λ s i k. let (j, q, p, d, b, e) = of-kind 5 s i k in let same = ap (λ (r : Record). r .index) e in let u = place-below p in omega arith) in
       decide (ltb (waitingCount (mapRecords m)) (length (waitingIn m)))
       (λ t. let y = waiting-stands (place-get (waitingIn m) (waitingCount (mapRecords m)) noRemoval (ltb-true _ _ t)) in
       absurd (omega (arith, count-has (mapRecords m) (dotRecord 5 (waitingCount (mapRecords m)) 0 (y .0)) (y .1) refl)))

@@ -1,7 +1,7 @@
 -- The records of a map's image are well formed and within the limits.
 -- Assumes nothing.
-use mathlib.Core.Path.{_≡_, refl, ap, sym, _∙_}
-use mathlib.Core.Bool.{Bool, true}
+use mathlib.Core.Path.{_≡_, ap, sym, _∙_}
+use mathlib.Core.Bool.{true}
 use mathlib.Core.Logic.{⊎-elim}
 use mathlib.Core.List.{List, [], _∷_, map, List·Memᴰ·head, Memᴰ·cast, Memᴰ·map, Memᴰ·append-left, Memᴰ·append-right}
 use Prim.Native.Nat.{ℕ, zero, suc, _≤_, _<_}
@@ -16,7 +16,7 @@ use Rattle.clock.specs.Dots.{dotsOf}
 use Rattle.register.specs.declared.Value.{Value}
 use Rattle.parts.specs.declared.Entry.{Entry}
 use Rattle.parts.specs.declared.Removal.{Removal}
-use Rattle.parts.specs.Model.{entryLimit, waitingLimit, dotsIn, valuesIn, underOf, listedIn}
+use Rattle.parts.specs.Model.{entryLimit, dotsIn, valuesIn, underOf, listedIn}
 use Rattle.map.specs.declared.Map.{Map}
 use Rattle.map.specs.Model.{seenBy, entriesIn, waitingIn}
 use Rattle.map.specs.Valid.{Within}
@@ -34,7 +34,7 @@ use Rattle.mapreader.proofs.Keys.{length-below}
 use Rattle.oneimage.proofs.Written.{records-ok}
 use Rattle.oneimage.proofs.Rising.{records-ascend}
 use Rattle.oneimage.proofs.Stands.{Place, place-in, place-below, place-one, Part, clock-dot, entry-dot, value, value-dot, waiting-dot, waiting-key, stands-part}
-use Rattle.oneimage.proofs.Reread.{key-record, of, of-key, same-entry, low}
+use Rattle.oneimage.proofs.Reread.{key-record, of-kind, of-key, same-entry, index-low}
 
 below-has : (n i : ℕ) → i < n → i ∈ below n
 unfolding below
@@ -86,9 +86,9 @@ module _ {m : Map} (h : Within m) where
         outers = 0 ∷ [];
         middles = 0 ∷ [];
         inners = actors (seenBy m);
-        in-outers = λ x i t. let (c, j, q) = of h 1 x i (by-kind r x t) in List·Memᴰ·head (ap outer q);
-        in-middles = λ x i t. let (c, j, q) = of h 1 x i (by-kind r x (outer-kind r x t)) in List·Memᴰ·head (ap middle q);
-        in-inners = λ x i t. let (c, j, q) = of h 1 x i (by-kind r x (outer-kind r x (middle-outer r x t))) in Memᴰ·cast (ap inner q) (Memᴰ·map (λ (d : Dot). d .actor) j);
+        in-outers = λ x i t. let (c, j, q) = of-kind h 1 x i (by-kind r x t) in List·Memᴰ·head (ap outer q);
+        in-middles = λ x i t. let (c, j, q) = of-kind h 1 x i (by-kind r x (outer-kind r x t)) in List·Memᴰ·head (ap middle q);
+        in-inners = λ x i t. let (c, j, q) = of-kind h 1 x i (by-kind r x (outer-kind r x (middle-outer r x t))) in Memᴰ·cast (ap inner q) (Memᴰ·map (λ (d : Dot). d .actor) j);
         few-outers = omega arith;
         few-middles = omega arith;
         few-inners = few-actors (seenBy m) (fits .clock);
@@ -103,10 +103,10 @@ module _ {m : Map} (h : Within m) where
           outers = keys;
           middles = 0 ∷ [];
           inners = actors (dotsIn e);
-          in-outers = λ x i t. let (u, a, c, j, q) = of h 2 x i (by-kind r x t) in Memᴰ·cast (ap outer q) (Memᴰ·map (λ (e : Entry). e .key) a);
-          in-middles = λ x i t. let (u, a, c, j, q) = of h 2 x i (by-kind r x (outer-kind r x t)) in List·Memᴰ·head (ap middle q);
+          in-outers = λ x i t. let (u, a, c, j, q) = of-kind h 2 x i (by-kind r x t) in Memᴰ·cast (ap outer q) (Memᴰ·map (λ (e : Entry). e .key) a);
+          in-middles = λ x i t. let (u, a, c, j, q) = of-kind h 2 x i (by-kind r x (outer-kind r x t)) in List·Memᴰ·head (ap middle q);
           in-inners = λ x i t. let o = middle-outer r x t in
-              let (u, a, c, j, q) = of h 2 x i (by-kind r x (outer-kind r x o)) in
+              let (u, a, c, j, q) = of-kind h 2 x i (by-kind r x (outer-kind r x o)) in
               let s = same-entry h b a (ap outer (sym q) ∙ by-outer r x o) in
               Memᴰ·cast (ap inner q) (Memᴰ·map (λ (d : Dot). d .actor) (rw s at j));
           few-outers = keys-few;
@@ -121,11 +121,11 @@ module _ {m : Map} (h : Within m) where
           outers = keys;
           middles = below (length (valuesIn e));
           inners = 0 ∷ [];
-          in-outers = λ x i t. let (u, a, j, w, p, q) = of h 3 x i (by-kind r x t) in Memᴰ·cast (ap outer q) (Memᴰ·map (λ (e : Entry). e .key) a);
-          in-middles = λ x i t. let (u, a, j, w, p, q) = of h 3 x i (by-kind r x (outer-kind r x t)) in
+          in-outers = λ x i t. let (u, a, j, w, p, q) = of-kind h 3 x i (by-kind r x t) in Memᴰ·cast (ap outer q) (Memᴰ·map (λ (e : Entry). e .key) a);
+          in-middles = λ x i t. let (u, a, j, w, p, q) = of-kind h 3 x i (by-kind r x (outer-kind r x t)) in
               let s = same-entry h b a (ap outer (sym q) ∙ by-outer r x t) in
               Memᴰ·cast (ap middle q) (below-has (length (valuesIn e)) j (place-below (rw s at p)));
-          in-inners = λ x i t. let (u, a, j, w, p, q) = of h 3 x i (by-kind r x (outer-kind r x (middle-outer r x t))) in List·Memᴰ·head (ap inner q);
+          in-inners = λ x i t. let (u, a, j, w, p, q) = of-kind h 3 x i (by-kind r x (outer-kind r x (middle-outer r x t))) in List·Memᴰ·head (ap inner q);
           few-outers = keys-few;
           few-middles = few-below (length (valuesIn e)) (fits .entries e b .count);
           few-inners = omega arith;
@@ -138,12 +138,12 @@ module _ {m : Map} (h : Within m) where
           outers = keys;
           middles = below (length (valuesIn e));
           inners = actors (dotsOf (v .clock));
-          in-outers = λ x i t. let (u, a, j, w, p, c, k, q) = of h 4 x i (by-kind r x t) in Memᴰ·cast (ap outer q) (Memᴰ·map (λ (e : Entry). e .key) a);
-          in-middles = λ x i t. let (u, a, j, w, p, c, k, q) = of h 4 x i (by-kind r x (outer-kind r x t)) in
+          in-outers = λ x i t. let (u, a, j, w, p, c, k, q) = of-kind h 4 x i (by-kind r x t) in Memᴰ·cast (ap outer q) (Memᴰ·map (λ (e : Entry). e .key) a);
+          in-middles = λ x i t. let (u, a, j, w, p, c, k, q) = of-kind h 4 x i (by-kind r x (outer-kind r x t)) in
               let s = same-entry h b a (ap outer (sym q) ∙ by-outer r x t) in
               Memᴰ·cast (ap middle q) (below-has (length (valuesIn e)) j (place-below (rw s at p)));
           in-inners = λ x i t. let o = middle-outer r x t in
-              let (u, a, j, w, p, c, k, q) = of h 4 x i (by-kind r x (outer-kind r x o)) in
+              let (u, a, j, w, p, c, k, q) = of-kind h 4 x i (by-kind r x (outer-kind r x o)) in
               let s = same-entry h b a (ap outer (sym q) ∙ by-outer r x o) in
               let here : j ≡ n = ap middle (sym q) ∙ by-middle r x t in
               let one : w ≡ v = place-one (rw (s, here) at p) z in
@@ -162,9 +162,9 @@ module _ {m : Map} (h : Within m) where
           outers = 0 ∷ [];
           middles = below (length (waitingIn m));
           inners = actors (underOf w);
-          in-outers = λ x i t. let (j, u, p, c, k, q) = of h 5 x i (by-kind r x t) in List·Memᴰ·head (ap outer q);
-          in-middles = λ x i t. let (j, u, p, c, k, q) = of h 5 x i (by-kind r x (outer-kind r x t)) in Memᴰ·cast (ap middle q) (below-has (length (waitingIn m)) j (place-below p));
-          in-inners = λ x i t. let (j, u, p, c, k, q) = of h 5 x i (by-kind r x (outer-kind r x (middle-outer r x t))) in
+          in-outers = λ x i t. let (j, u, p, c, k, q) = of-kind h 5 x i (by-kind r x t) in List·Memᴰ·head (ap outer q);
+          in-middles = λ x i t. let (j, u, p, c, k, q) = of-kind h 5 x i (by-kind r x (outer-kind r x t)) in Memᴰ·cast (ap middle q) (below-has (length (waitingIn m)) j (place-below p));
+          in-inners = λ x i t. let (j, u, p, c, k, q) = of-kind h 5 x i (by-kind r x (outer-kind r x (middle-outer r x t))) in
               let here : j ≡ n = ap middle (sym q) ∙ by-middle r x t in
               let one : u ≡ w = place-one (rw here at p) z in
               Memᴰ·cast (ap inner q) (Memᴰ·map (λ (d : Dot). d .actor) (rw one at k));
@@ -200,4 +200,4 @@ module _ {m : Map} (h : Within m) where
       go (value e i j v p q) = rw q (value-among i j v)
       go (value-dot e i j v p d k q) = rw q (value-dot-among i j v p d)
       go (waiting-dot j q p d k e) = rw e (waiting-among p d)
-      go (waiting-key j q p k i e) = rw (e ∙ key-record j k (low h p)) (key-among p k)
+      go (waiting-key j q p k i e) = rw (e ∙ key-record j k (index-low h p)) (key-among p k)
