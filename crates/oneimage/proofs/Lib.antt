@@ -6,3 +6,11 @@ pub mod Rising
 pub mod One
 pub mod Clocks
 pub mod Ops
+pub mod Stands
+pub mod Selected
+pub mod Places
+pub mod Keyed
+pub mod Reread
+pub mod Scans
+pub mod Relates
+pub mod Again

@@ -28,13 +28,13 @@ use Rattle.mapimage.specs.MapImage.{flatFrom, valueRecord, valueRecords, entryR
 use Rattle.mapimage.proofs.Sorts.{order-ascends}
 use Rattle.oneimage.proofs.Written.{flat-every}
 
-by-kind : (x y : Record) → x .kind < y .kind → before x y ≡ true
+pub by-kind : (x y : Record) → x .kind < y .kind → before x y ≡ true
 by-kind x y k = fields-before (record { kind = omega arith; key = λ e. absurd (omega arith); index = λ e _. absurd (omega arith); actor = λ e _ _. absurd (omega arith) })
 
-by-key : (x y : Record) → x .kind ≡ y .kind → x .key < y .key → before x y ≡ true
+pub by-key : (x y : Record) → x .kind ≡ y .kind → x .key < y .key → before x y ≡ true
 by-key x y e k = fields-before (record { kind = omega arith; key = λ _. omega arith; index = λ _ q. absurd (omega arith); actor = λ _ q _. absurd (omega arith) })
 
-by-index : (x y : Record) → x .kind ≡ y .kind → x .key ≡ y .key → x .index < y .index → before x y ≡ true
+pub by-index : (x y : Record) → x .kind ≡ y .kind → x .key ≡ y .key → x .index < y .index → before x y ≡ true
 by-index x y e q k = fields-before (record { kind = omega arith; key = λ _. omega arith; index = λ _ _. omega arith; actor = λ _ _ z. absurd (omega arith) })
 
 -- lists one behind the other: by place

@@ -1,0 +1,15 @@
+-- The image of a map within the limits reads as the map.
+-- Assumes nothing.
+use mathlib.Core.Path.{_≡_}
+use Rattle.map.specs.declared.Map.{Map}
+use Rattle.map.specs.Valid.{Within}
+use Rattle.mapimage.specs.MapImage.{mapImage}
+use Rattle.mapreader.specs.Related.{readMap}
+use Rattle.oneimage.specs.Narrow.{Narrow}
+use Rattle.oneimage.proofs.Written.{reads-again}
+use Rattle.oneimage.proofs.Reread.{map-again}
+use Rattle.oneimage.proofs.Scans.{records-scan}
+use Rattle.oneimage.proofs.Relates.{records-related}
+
+pub reads-written : {m : Map} → Within m → Narrow m → readMap (mapImage m) ≡ record { number = 0; map = m }
+reads-written h n = reads-again h n (records-scan h) (records-related h) (map-again h)
