@@ -3,3 +3,4 @@ pub mod Fields
 pub mod Sizes
 pub mod Written
 pub mod Rising
+pub mod Placing
