@@ -3,4 +3,8 @@ pub mod Fields
 pub mod Sizes
 pub mod Written
 pub mod Rising
+pub mod Stands
+pub mod Places
 pub mod Placing
+pub mod Remade
+pub mod Standing

@@ -36,6 +36,8 @@ use Rattle.mapreader.proofs.Entries.{keys-more, keys-same}
 use Rattle.mapreader.proofs.Keys.{length-places, get-below}
 use Rattle.mapreader.proofs.Readers.{placed-now}
 use Rattle.accepted.proofs.Limited.{at-key}
+use Rattle.oneimage.proofs.Stands.{Place, place-below, place-reads, in-place}
+use Rattle.oneimage.proofs.Places.{place-moved}
 
 pub record Settled (l : List Record) (r : Record) : Type 0 where
   pub entry : 2 ≤ r .kind → r .kind ≤ 4 → r .key ∈ entryKeys l
@@ -128,24 +130,12 @@ module _ (key : ℕ) where
           (λ f. rw (those-no (underKey 3 key) l r f) before)
 
   -- the value at a place has the place for its index
-  pub place-index : (l : List Record) → each placed l ≡ true → (j : ℕ) → j < length (those (underKey 3 key) l) → getD (those (underKey 3 key) l) j noRecord .index ≡ j
-  place-index l p j h =
-      sym (List·getD-map (λ (r : Record). r .index) (those (underKey 3 key) l) j noRecord) ∙ ap (λ m. getD m j 0) (indexes-rise l p) ∙ get-below (length (those (underKey 3 key) l)) j h
+  pub place-index : (l : List Record) → each placed l ≡ true → {r : Record} {j : ℕ} → Place r j (those (underKey 3 key) l) → r .index ≡ j
+  place-index l p {r} {j} s =
+      let vs = those (underKey 3 key) l in
+      ap (λ (x : Record). x .index) (sym (place-reads noRecord s)) ∙ sym (List·getD-map (λ (x : Record). x .index) vs j noRecord)
+      ∙ ap (λ m. getD m j 0) (indexes-rise l p) ∙ get-below (length vs) j (place-below s)
 
--- a member stands at a place
-member-place : {A : Type 0} (d : A) (l : List A) (x : A) → x ∈ l → (j : ℕ) × (j < length l) × (getD l j d ≡ x)
-member-place d [] x i = absurd (List·Memᴰ·not-nil i)
-member-place d (y ∷ l) x i =
-    ⊎-elim (λ (q : x ≡ y). (0, omega arith, sym q)) (λ m. let (j, h, e) = member-place d l x m in (suc j, omega arith, e)) (List·Memᴰ·cases-cons i)
-
--- and a value stands at its index
-pub record AtIndex (l : List Record) (r : Record) : Type 0 where
-  pub within : r .index < length (those (underKey 3 (r .key)) l)
-  pub stands : getD (those (underKey 3 (r .key)) l) (r .index) noRecord ≡ r
-
-pub value-place : (l : List Record) → each placed l ≡ true → (r : Record) → r ∈ l → r .kind ≡ 3 → AtIndex l r
-value-place l p r i k =
-    let vs = those (underKey 3 (r .key)) l in
-    let (j, h, e) = member-place noRecord vs r (those-holds (underKey 3 (r .key)) i (both (isKind 3 r) (eqb (r .key) (r .key)) (eq-eqb (r .kind) 3 k) (eq-eqb (r .key) (r .key) refl))) in
-    let same : r .index ≡ j = ap (λ (x : Record). x .index) (sym e) ∙ place-index (r .key) l p j h in
-    record { within = omega arith; stands = ap (λ a. getD vs a noRecord) same ∙ e }
+-- so a value stands at its index
+pub value-place : (l : List Record) → each placed l ≡ true → (r : Record) → r ∈ l → underKey 3 (r .key) r ≡ true → Place r (r .index) (those (underKey 3 (r .key)) l)
+value-place l p r i t = let (j, s) = in-place (those-holds (underKey 3 (r .key)) i t) in place-moved (sym (place-index (r .key) l p s)) s
