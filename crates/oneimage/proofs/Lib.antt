@@ -8,3 +8,4 @@ pub mod Places
 pub mod Placing
 pub mod Remade
 pub mod Standing
+pub mod Coming
