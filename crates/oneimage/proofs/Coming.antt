@@ -1,8 +1,8 @@
 -- Every record of a part of a map that was read stands in the image that it was read from.
 -- Assumes nothing.
-use mathlib.Core.Path.{_≡_, refl, ap, sym, _∙_}
+use mathlib.Core.Path.{_≡_, ap, sym, _∙_}
 use mathlib.Core.Bool.{Bool, true}
-use mathlib.Core.List.{List, map, Memᴰ·cast, Memᴰ·of-map}
+use mathlib.Core.List.{List, Memᴰ·cast, Memᴰ·of-map}
 use Prim.Native.Nat.{ℕ, _≤_, _<_}
 use native.Mathlib.Omega.{arith}
 use Rattle.lists.specs.Order.{_∈_}

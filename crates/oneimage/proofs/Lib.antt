@@ -9,3 +9,4 @@ pub mod Placing
 pub mod Remade
 pub mod Standing
 pub mod Coming
+pub mod Rewritten

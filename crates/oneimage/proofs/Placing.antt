@@ -1,15 +1,15 @@
 -- What each record of an image needs stands in the image: its entry, its value, its waiting clock; and values are numbered from 0.
 -- Assumes nothing.
 use mathlib.Core.Path.{_≡_, refl, ap, ap₂, sym, _∙_}
-use mathlib.Core.Bool.{Bool, true, false, cond, _&&_}
+use mathlib.Core.Bool.{Bool, true, cond, _&&_}
 use mathlib.Core.Logic.{⊎-elim}
-use mathlib.Core.List.{List, [], _∷_, _++_, map, List·Memᴰ·head, List·Memᴰ·tail, List·Memᴰ·not-nil, List·Memᴰ·cases-cons, List·Memᴰ·append-cases, List·Memᴰ·eq-of-singleton, Memᴰ·cast, Memᴰ·append-left, Memᴰ·append-right, Memᴰ·of-map}
-use Prim.Native.Nat.{ℕ, suc, _+_, _≤_, _<_, max}
+use mathlib.Core.List.{List, [], _∷_, _++_, map, List·Memᴰ·head, List·Memᴰ·not-nil, List·Memᴰ·append-cases, List·Memᴰ·eq-of-singleton, Memᴰ·cast, Memᴰ·append-left, Memᴰ·append-right, Memᴰ·of-map}
+use Prim.Native.Nat.{ℕ, _+_, _≤_, _<_, max}
 use native.Mathlib.Omega.{arith}
 use native.Mathlib.Numerals.{add-one}
-use lib.Dec.{eqb, ltb, leb}
+use lib.Dec.{eqb, ltb}
 use lib.ListN.{length, getD, length-append, List·getD-map}
-use borrow.Author.Tests.{eqb-true, eqb-false, eq-eqb, ne-eqb, ltb-true, leb-true}
+use borrow.Author.Tests.{eqb-true, eqb-false, eq-eqb, ne-eqb, ltb-true}
 use Rattle.lists.specs.Order.{_∈_}
 use Rattle.lists.specs.First.{some}
 use Rattle.lists.specs.Fold.{fold}
@@ -24,7 +24,7 @@ use Rattle.parts.specs.Model.{valuesIn}
 use Rattle.parts.proofs.Pieces.{values-in}
 use Rattle.records.specs.declared.Record.{Record}
 use Rattle.scan.specs.Each.{each}
-use Rattle.scan.proofs.Eachs.{decide, each-snoc, both, both-left, both-right}
+use Rattle.scan.proofs.Eachs.{decide, each-snoc, both-left, both-right}
 use Rattle.scan.proofs.Rooms.{those-yes, those-no}
 use Rattle.clockimage.specs.Image.{isKind, dotsIn}
 use Rattle.clockimage.proofs.Dots.{map-snoc}

@@ -1,19 +1,19 @@
 -- Every record of an accepted map's image is that of a part of the map that was read.
 -- Assumes nothing.
-use mathlib.Core.Path.{_≡_, refl, ap, sym, _∙_}
+use mathlib.Core.Path.{_≡_, refl, sym}
 use mathlib.Core.Bool.{Bool, true}
-use mathlib.Core.List.{List, map, Memᴰ·map}
-use Prim.Native.Nat.{ℕ, _≤_, _<_}
+use mathlib.Core.List.{List, Memᴰ·map}
+use Prim.Native.Nat.{ℕ, _≤_}
 use native.Mathlib.Omega.{arith}
 use lib.Dec.{eqb}
-use lib.ListN.{length, getD, length-map}
+use lib.ListN.{getD}
 use borrow.Author.Tests.{eqb-true, eqb-false, eq-eqb}
 use Rattle.lists.specs.Order.{_∈_}
 use Rattle.lists.specs.Sift.{those}
 use Rattle.lists.proofs.Those.{those-holds}
-use Rattle.clock.specs.Dots.{dotsOf}
+use Rattle.clock.specs.declared.Dot.{Dot}
 use Rattle.clock.proofs.Packs.{dots-of}
-use Rattle.parts.specs.Model.{dotsIn as entryDots, valuesIn, underOf, listedIn}
+use Rattle.parts.specs.Model.{valuesIn}
 use Rattle.parts.proofs.Pieces.{dots-in, values-in}
 use Rattle.records.specs.declared.Record.{Record}
 use Rattle.records.specs.Kinds.{recordOk}
@@ -23,9 +23,8 @@ use Rattle.scan.proofs.Eachs.{decide, both}
 use Rattle.scan.proofs.Rooms.{kind-range}
 use Rattle.clockimage.specs.Image.{isKind, dotOf, dotsIn}
 use Rattle.opimage.specs.OpImage.{noRecord, keysIn}
-use Rattle.mapreader.specs.Reading.{underKey, underIndex, underBoth, clockIn, valueIn, valuesUnder, entryIn, entryKeys, entriesFor, waitingCount, removalIn, waitingFor}
+use Rattle.mapreader.specs.Reading.{underKey, underIndex, underBoth, clockIn, valueIn, valuesUnder, entryIn, entriesFor, waitingCount, removalIn, waitingFor}
 use Rattle.mapreader.specs.Related.{placed}
-use Rattle.mapreader.proofs.Keys.{length-below}
 use Rattle.accepted.proofs.Grouped.{fine}
 use Rattle.accepted.proofs.Waited.{under-as, listed-as}
 use Rattle.oneimage.proofs.Stands.{Part, clock-dot, entry-dot, value, value-dot, waiting-dot, waiting-key, Place, place-get}
@@ -60,7 +59,7 @@ module _ (l : List Record) (z : scanNumber 1 6 l ≡ 0) (p : each placed l ≡ t
   its-removal a b = place-number (removalIn l) (waitingCount l) (settled l p r i .waiting a b)
 
   -- the parts of its entry and of its removal, as they were put in
-  abbrev dots : List Rattle.clock.specs.declared.Dot.Dot
+  abbrev dots : List Dot
   dots = dotsIn (underKey 2 (r .key)) l
 
   its-value : {x : Record} → Place x (r .index) (those (underKey 3 (r .key)) l) → Place (valueIn l (r .key) (r .index) x) (r .index) (valuesIn (entryIn l (r .key)))
