@@ -28,7 +28,7 @@ use Rattle.accepted.proofs.Grouped.{fine}
 use Rattle.accepted.proofs.Waited.{under-as, listed-as}
 use Rattle.oneimage.proofs.Rising.{Fields}
 use Rattle.oneimage.proofs.Stands.{Part, clock-dot, entry-dot, value, value-dot, waiting-dot, waiting-key, Place, place-in}
-use Rattle.oneimage.proofs.Places.{of-place, number-place}
+use Rattle.oneimage.proofs.Made.{of-place, number-place}
 use Rattle.oneimage.proofs.Placing.{place-index}
 use Rattle.oneimage.proofs.Remade.{dot-remade, clock-fields, entry-fields, value-dot-fields, waiting-fields, value-remade, key-remade}
 

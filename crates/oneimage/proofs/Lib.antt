@@ -4,7 +4,9 @@ pub mod Sizes
 pub mod Written
 pub mod Rising
 pub mod Stands
-pub mod Places
+pub mod Selected
+pub mod Keyed
+pub mod Made
 pub mod Placing
 pub mod Remade
 pub mod Standing

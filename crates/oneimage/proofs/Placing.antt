@@ -31,13 +31,14 @@ use Rattle.clockimage.proofs.Dots.{map-snoc}
 use Rattle.opimage.specs.OpImage.{noRecord}
 use Rattle.mapreader.specs.Reading.{underKey, valueIn, valuesUnder, entryIn, entryKeys, entriesFor, waitingCount, below}
 use Rattle.mapreader.specs.Related.{placed}
-use Rattle.mapreader.proofs.Counts.{by-records, keys-counted}
+use Rattle.mapreader.proofs.Counts.{by-records}
 use Rattle.mapreader.proofs.Entries.{keys-more, keys-same}
 use Rattle.mapreader.proofs.Keys.{length-places, get-below}
 use Rattle.mapreader.proofs.Readers.{placed-now}
 use Rattle.accepted.proofs.Limited.{at-key}
 use Rattle.oneimage.proofs.Stands.{Place, place-below, place-reads, in-place}
-use Rattle.oneimage.proofs.Places.{place-moved}
+use Rattle.oneimage.proofs.Keyed.{keys-has, count-has}
+use Rattle.oneimage.proofs.Made.{place-moved}
 
 pub record Settled (l : List Record) (r : Record) : Type 0 where
   pub entry : 2 ≤ r .kind → r .kind ≤ 4 → r .key ∈ entryKeys l
@@ -88,19 +89,17 @@ module _ (l : List Record) (r : Record) where
     value-dot-found : r .kind ≡ 4 → (r .key ∈ entryKeys l) × (ltb (r .index) (length (those (underKey 3 (r .key)) l)) ≡ true)
     value-dot-found k = entry-found (λ n. ltb (r .index) n) (rw (ne-eqb (r .kind) 3 (λ e. omega arith), eq-eqb (r .kind) 4 k) at (placed-now l r p .0))
 
-    entry-counted : r .kind ≡ 2 → r .key ∈ entryKeys (l ++ (r ∷ []))
-    entry-counted k =
-        let (x, i, q) = some-means (λ x. eqb x (r .key)) (entryKeys (l ++ (r ∷ []))) (keys-counted (l ++ (r ∷ [])) .all r (Memᴰ·append-right l (List·Memᴰ·head refl)) k) in
-        Memᴰ·cast (sym (eqb-true x (r .key) q)) i
+    here : r ∈ (l ++ (r ∷ []))
+    here = Memᴰ·append-right l (List·Memᴰ·head refl)
 
     last-settled : Settled (l ++ (r ∷ [])) r
     last-settled = record {
-      entry = λ a b. decide (eqb (r .kind) 2) (λ t. entry-counted (eqb-true (r .kind) 2 t))
+      entry = λ a b. decide (eqb (r .kind) 2) (λ t. keys-has (l ++ (r ∷ [])) r here (eqb-true (r .kind) 2 t))
           (λ f. keys-grow (r .key) (decide (eqb (r .kind) 3) (λ t. value-found (eqb-true (r .kind) 3 t) .0)
           (λ g. value-dot-found (omega (arith, eqb-false (r .kind) 2 f, eqb-false (r .kind) 3 g)) .0)));
       value = λ k. omega (arith, ltb-true (r .index) (length (those (underKey 3 (r .key)) l)) (value-dot-found k .1), those-grow (underKey 3 (r .key)));
       waiting = λ a b. decide (eqb (r .kind) 5)
-          (λ t. let e : waitingCount (l ++ (r ∷ [])) ≡ max (waitingCount l) (r .index + 1) = count-snoc ∙ rw t in omega arith)
+          (λ t. count-has (l ++ (r ∷ [])) r here (eqb-true (r .kind) 5 t))
           (λ f. let k : r .kind ≡ 6 = omega (arith, eqb-false (r .kind) 5 f) in
           omega (arith, ltb-true (r .index) (waitingCount l) (rw (f, eq-eqb (r .kind) 6 k) at (placed-now l r p .1)), count-grow));
     }

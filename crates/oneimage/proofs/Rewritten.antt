@@ -8,18 +8,15 @@ use native.Mathlib.Omega.{arith}
 use lib.Dec.{eqb}
 use lib.ListN.{length-map}
 use borrow.Author.Tests.{eqb-true, eqb-false}
-use Rattle.lists.specs.Order.{Strict}
 use Rattle.lists.proofs.Orders.{same-members}
 use Rattle.parts.proofs.Pieces.{entries-of, waiting-of}
 use Rattle.map.proofs.Kept.{seen-of}
 use Rattle.records.specs.declared.Record.{Record}
 use Rattle.records.specs.Bytes.{Bytes}
-use Rattle.records.specs.Kinds.{before}
 use Rattle.records.specs.Records.{recordsOf, bytesOf}
 use Rattle.records.proofs.RoundTrips.{written-read}
 use Rattle.scan.specs.Each.{every, each}
 use Rattle.scan.specs.Scanned.{scanNumber}
-use Rattle.scan.proofs.Befores.{before-fields, before-trans}
 use Rattle.scan.proofs.Eachs.{decide, both-left, both-right}
 use Rattle.clockimage.proofs.RoundTrip.{accepted}
 use Rattle.mapimage.specs.MapImage.{mapLongest, recordsIn, mapRecords, mapImage}
@@ -30,18 +27,14 @@ use Rattle.accepted.proofs.Grouped.{rises}
 use Rattle.accepted.proofs.Maps.{related-within}
 use Rattle.accepted.proofs.Waited.{waiting-few}
 use Rattle.oneimage.proofs.Rising.{records-ascend}
+use Rattle.oneimage.proofs.Selected.{before-strict}
 use Rattle.oneimage.proofs.Stands.{part-stands, stands-part}
 use Rattle.oneimage.proofs.Standing.{stands-again}
 use Rattle.oneimage.proofs.Coming.{comes-from}
 
-before-strict : Strict before
-before-strict x y t =
-    decide (before y x) (λ u. absurd (omega (arith, before-trans (before-fields t) (before-fields u) .actor refl refl refl))) (λ f. f)
-
 -- the records of the map that records stand for
-module _ (l : List Record) where
-  parts : mapRecords (mapIn l) ≡ recordsIn (clockIn l) (entriesFor l) (waitingFor l)
-  parts = rw (seen-of (clockIn l) (entriesFor l) (waitingFor l), entries-of (entriesFor l), waiting-of (waitingFor l))
+parts : (l : List Record) → mapRecords (mapIn l) ≡ recordsIn (clockIn l) (entriesFor l) (waitingFor l)
+parts l = rw (seen-of (clockIn l) (entriesFor l) (waitingFor l), entries-of (entriesFor l), waiting-of (waitingFor l))
 
 -- both ascend, and what stands in one stands in the other
 pub records-rewritten : (l : List Record) → scanNumber 1 6 l ≡ 0 → related l ≡ true → mapRecords (mapIn l) ≡ l

@@ -28,7 +28,7 @@ use Rattle.mapreader.specs.Related.{placed}
 use Rattle.accepted.proofs.Grouped.{fine}
 use Rattle.accepted.proofs.Waited.{under-as, listed-as}
 use Rattle.oneimage.proofs.Stands.{Part, clock-dot, entry-dot, value, value-dot, waiting-dot, waiting-key, Place, place-get}
-use Rattle.oneimage.proofs.Places.{place-of, place-number}
+use Rattle.oneimage.proofs.Made.{place-of, place-number}
 use Rattle.oneimage.proofs.Placing.{settled, value-place}
 use Rattle.oneimage.proofs.Remade.{dot-remade, clock-fields, entry-fields, value-dot-fields, waiting-fields, value-remade, key-remade}
 
@@ -58,7 +58,7 @@ module _ (l : List Record) (z : scanNumber 1 6 l ≡ 0) (p : each placed l ≡ t
   its-removal : 5 ≤ r .kind → r .kind ≤ 6 → Place (removalIn l (r .index)) (r .index) (waitingFor l)
   its-removal a b = place-number (removalIn l) (waitingCount l) (settled l p r i .waiting a b)
 
-  -- the parts of its entry and of its removal, as they were put in
+  -- the dots and the values of its entry
   abbrev dots : List Dot
   dots = dotsIn (underKey 2 (r .key)) l
 
