@@ -14,3 +14,9 @@ pub mod Reread
 pub mod Scans
 pub mod Relates
 pub mod Again
+pub mod Made
+pub mod Placing
+pub mod Remade
+pub mod Standing
+pub mod Coming
+pub mod Rewritten
