@@ -1,10 +1,10 @@
 -- The entries of an accepted map's image are valid and within the limits.
 -- Assumes nothing.
 use mathlib.Core.Path.{_≡_, refl, ap, sym, _∙_}
-use mathlib.Core.Bool.{Bool, true, false, not, cond, _&&_}
+use mathlib.Core.Bool.{Bool, true, false, not}
 use mathlib.Core.Logic.{⊎-elim}
-use mathlib.Core.List.{List, [], _∷_, _++_, map, List·Memᴰ·head, List·Memᴰ·tail, List·Memᴰ·not-nil, List·Memᴰ·cases-cons, List·Memᴰ·eq-of-singleton, Memᴰ·map, Memᴰ·of-map, Memᴰ·append-left, Memᴰ·append-right}
-use Prim.Native.Nat.{ℕ, _+_, _≤_, _<_}
+use mathlib.Core.List.{List, [], _∷_, _++_, map, List·Memᴰ·head, List·Memᴰ·not-nil, List·Memᴰ·cases-cons, List·Memᴰ·eq-of-singleton, Memᴰ·map, Memᴰ·of-map, Memᴰ·append-left, Memᴰ·append-right}
+use Prim.Native.Nat.{ℕ, _+_, _≤_}
 use native.Mathlib.Omega.{arith}
 use lib.Dec.{eqb, ltb}
 use lib.ListN.{length, length-map}
@@ -13,25 +13,23 @@ use Rattle.lists.specs.Order.{_∈_, Ascending, nil, next, by}
 use Rattle.lists.specs.Fold.{fold}
 use Rattle.lists.specs.First.{some}
 use Rattle.lists.specs.Sift.{those}
-use Rattle.lists.proofs.Orders.{apart}
 use Rattle.lists.proofs.Pads.{length-snoc}
 use Rattle.lists.proofs.Sides.{one-ascends, append-ascends}
 use Rattle.lists.proofs.Somes.{some-false}
-use Rattle.lists.proofs.Those.{those-means, those-holds}
+use Rattle.lists.proofs.Those.{those-holds}
 use Rattle.clock.specs.declared.Dot.{Dot}
-use Rattle.clock.specs.Dots.{dotLimit, dotsOf, clockOf, isEmpty, covers}
+use Rattle.clock.specs.Dots.{dotsOf, clockOf, isEmpty, covers}
 use Rattle.clock.specs.Lawful.{Lawful}
 use Rattle.clock.proofs.Packs.{dots-of}
 use Rattle.register.specs.declared.Value.{Value}
-use Rattle.register.specs.Values.{valueLimit}
 use Rattle.parts.specs.declared.Entry.{Entry}
-use Rattle.parts.specs.Model.{entryAs, dotsIn as entryDots, valuesIn}
+use Rattle.parts.specs.Model.{dotsIn as entryDots, valuesIn}
 use Rattle.parts.specs.Valid.{ValidValue, ValidEntry, ValidEntries}
 use Rattle.parts.proofs.Pieces.{dots-in, values-in}
 use Rattle.parts.proofs.Kept.{valid-as}
 use Rattle.parts.proofs.Bounds.{EntryFits}
 use Rattle.records.specs.declared.Record.{Record}
-use Rattle.records.specs.Kinds.{recordOk, maskOf, before}
+use Rattle.records.specs.Kinds.{maskOf, before}
 use Rattle.scan.specs.Each.{every}
 use Rattle.scan.specs.Scanned.{scanNumber}
 use Rattle.scan.proofs.Befores.{before-fields}
@@ -39,7 +37,7 @@ use Rattle.scan.proofs.Eachs.{decide, every-at, both-left, both-right}
 use Rattle.scan.proofs.Rooms.{no-index, no-key, counter-from-one}
 use Rattle.scan.proofs.Scanning.{scan-before}
 use Rattle.clockimage.specs.Image.{isKind, dotOf, dotsIn}
-use Rattle.mapreader.specs.Reading.{underKey, underBoth, clockIn, placesFrom, valueIn, valuesUnder, entryIn, addNew, entryKeys, entriesFor}
+use Rattle.mapreader.specs.Reading.{underKey, underBoth, clockIn, placesFrom, valueIn, valuesUnder, entryIn, entryKeys, entriesFor}
 use Rattle.mapreader.specs.Related.{dotted, entryWhole}
 use Rattle.mapreader.proofs.Counts.{by-records, entries-room}
 use Rattle.mapreader.proofs.Entries.{keys-more, keys-same}

@@ -1,17 +1,16 @@
 -- Records of an image that stand in one group: their dots are a clock, their keys ascend.
 -- Assumes nothing.
-use mathlib.Core.Path.{_≡_, refl, ap, sym, _∙_}
-use mathlib.Core.Bool.{Bool, true, false}
-use mathlib.Core.List.{List, [], _∷_, _++_, map, List·Memᴰ·head, List·Memᴰ·tail, Memᴰ·of-map}
+use mathlib.Core.Path.{_≡_, refl, sym, _∙_}
+use mathlib.Core.Bool.{Bool, true}
+use mathlib.Core.List.{List, [], _∷_, map, List·Memᴰ·head, List·Memᴰ·tail, Memᴰ·of-map}
 use Prim.Native.Nat.{ℕ, _≤_, _<_}
 use native.Mathlib.Omega.{arith}
-use lib.Dec.{eqb, ltb}
+use lib.Dec.{ltb}
 use borrow.Author.Tests.{lt-ltb}
 use Rattle.lists.specs.Order.{_∈_, Ascending, nil, next, by}
 use Rattle.lists.specs.Sift.{those}
 use Rattle.lists.proofs.Orders.{head-before, tail-ascends}
 use Rattle.lists.proofs.Those.{those-means, those-ascends}
-use Rattle.clock.specs.declared.Dot.{Dot}
 use Rattle.clock.specs.Lawful.{Lawful}
 use Rattle.records.specs.declared.Record.{Record}
 use Rattle.records.specs.Kinds.{recordOk, before}

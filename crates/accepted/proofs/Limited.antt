@@ -1,13 +1,13 @@
 -- Groups of records within a limit: what has room for each record has no more than the limit.
 -- Assumes nothing.
-use mathlib.Core.Path.{_≡_, refl, ap, sym, _∙_}
-use mathlib.Core.Bool.{Bool, true, false, cond, _&&_}
+use mathlib.Core.Path.{_≡_, refl, ap, _∙_}
+use mathlib.Core.Bool.{Bool, true}
 use mathlib.Core.List.{List, [], _∷_, _++_, map}
 use Prim.Native.Nat.{ℕ, _+_, _≤_, _<_}
 use native.Mathlib.Omega.{arith}
-use lib.Dec.{eqb, ltb, leb}
-use lib.ListN.{length, length-append, length-map}
-use borrow.Author.Tests.{eq-eqb, eqb-true, eqb-false}
+use lib.Dec.{eqb}
+use lib.ListN.{length, length-map}
+use borrow.Author.Tests.{eqb-true}
 use Rattle.lists.specs.Sift.{sift, those}
 use Rattle.lists.proofs.Pads.{length-snoc}
 use Rattle.records.specs.declared.Record.{Record}
@@ -17,9 +17,8 @@ use Rattle.scan.proofs.Rooms.{those-yes, those-no}
 use Rattle.scan.proofs.Scanning.{scan-before}
 use Rattle.clockimage.specs.Image.{isKind, dotOf, dotsIn}
 use Rattle.clockimage.proofs.Dots.{dots-room}
-use Rattle.mapreader.specs.Reading.{underKey, underIndex, underBoth, clockIn, entryKeys}
-use Rattle.mapreader.proofs.Counts.{by-records, entry-dots-room, values-room, value-dots-room, waiting-dots-room, waiting-keys-room, entries-room}
-use Rattle.mapreader.proofs.Entries.{keys-more, keys-same}
+use Rattle.mapreader.specs.Reading.{underKey, underIndex, underBoth, clockIn}
+use Rattle.mapreader.proofs.Counts.{by-records, entry-dots-room, values-room, value-dots-room, waiting-dots-room, waiting-keys-room}
 
 module _ (low high : ℕ) (test : Record → Bool) (limit : ℕ)
     (room : (l : List Record) (r : Record) → scanNumber low high (l ++ (r ∷ [])) ≡ 0 → test r ≡ true → length (those test l) < limit) where

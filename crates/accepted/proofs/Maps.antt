@@ -1,36 +1,29 @@
 -- What the readers promise of the map and the operation that they give: valid, and within every limit; also of a refused image.
 -- Assumes nothing.
-use mathlib.Core.Path.{_≡_, refl, ap, sym, _∙_}
-use mathlib.Core.Bool.{Bool, true, false, cond, _&&_}
-use mathlib.Core.List.{List, [], _∷_, List·Memᴰ·not-nil}
-use Prim.Native.Nat.{ℕ, _≤_, _<_, _%_}
-use native.Mathlib.Omega.{arith}
+use mathlib.Core.Path.{_≡_, refl}
+use mathlib.Core.Bool.{true}
+use mathlib.Core.List.{List, List·Memᴰ·not-nil}
+use Prim.Native.Nat.{ℕ, _%_}
 use lib.Dec.{eqb, ltb}
 use lib.ListN.{length}
 use borrow.Author.Tests.{eqb-true}
-use Rattle.lists.specs.Order.{_∈_, nil}
+use Rattle.lists.specs.Order.{nil}
 use Rattle.lists.specs.First.{firstIn}
-use Rattle.clock.specs.Dots.{dotsOf}
-use Rattle.clock.specs.Lawful.{Lawful}
 use Rattle.clock.proofs.Packs.{dots-of}
-use Rattle.parts.specs.Valid.{ValidEntries, ValidWaiting}
 use Rattle.parts.proofs.Pieces.{entries-of, waiting-of}
-use Rattle.map.specs.declared.Map.{Map}
-use Rattle.map.specs.Model.{seenBy, entriesIn, waitingIn, mapAs, noMap}
+use Rattle.map.specs.Model.{noMap}
 use Rattle.map.specs.Judging.{overNumber, overDots, overEntries, overValues, overWaiting, overKeys}
 use Rattle.map.specs.Valid.{Within}
 use Rattle.map.proofs.Kept.{valid-as}
-use Rattle.map.proofs.Accepts.{Fits, fits-holds}
+use Rattle.map.proofs.Accepts.{fits-holds}
 use Rattle.records.specs.declared.Record.{Record}
 use Rattle.records.specs.Records.{recordsOf}
 use Rattle.scan.specs.Each.{every, each}
 use Rattle.scan.specs.Scanned.{scanNumber}
 use Rattle.scan.proofs.Eachs.{decide, both-left, both-right}
-use Rattle.clockimage.specs.Image.{imageOf}
 use Rattle.mapimage.specs.MapImage.{mapLongest}
 use Rattle.mapreader.specs.Reading.{clockIn, entriesFor, waitingFor, mapIn}
-use Rattle.mapreader.specs.Related.{placed, entryWhole, ascend, related, refusedMap, judgedMap, readMap}
-use Rattle.mapreader.specs.declared.ReadMap.{ReadMap}
+use Rattle.mapreader.specs.Related.{placed, entryWhole, ascend, related, judgedMap, readMap}
 use Rattle.accepted.proofs.Limited.{clock-few}
 use Rattle.accepted.proofs.Entered.{clock-lawful, entries-valid, entries-fit, entries-count}
 use Rattle.accepted.proofs.Waited.{waiting-valid, waiting-fit, waiting-few}

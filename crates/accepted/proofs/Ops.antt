@@ -1,9 +1,9 @@
 -- What the reader promises of the operation that it gives: valid, and within its limits; also of a refused image.
 -- Assumes nothing.
 use mathlib.Core.Path.{_≡_, refl, ap, sym, _∙_}
-use mathlib.Core.Bool.{Bool, true, false, cond, _&&_, _||_}
+use mathlib.Core.Bool.{Bool, true, false, cond}
 use mathlib.Core.Logic.{_⊎_, inl, inr, ⊎-elim}
-use mathlib.Core.List.{List, [], _∷_, map, List·Memᴰ·head, List·Memᴰ·tail, List·Memᴰ·not-nil}
+use mathlib.Core.List.{List, [], _∷_, List·Memᴰ·head, List·Memᴰ·tail, List·Memᴰ·not-nil}
 use Prim.Native.Nat.{ℕ, _≤_, _<_, _%_}
 use native.Mathlib.Omega.{arith}
 use lib.Dec.{eqb, ltb}
@@ -14,19 +14,16 @@ use Rattle.lists.specs.Order.{_∈_, Ascending, nil, by}
 use Rattle.lists.specs.Fold.{fold}
 use Rattle.lists.specs.Sift.{sift, those}
 use Rattle.lists.proofs.Orders.{apart}
-use Rattle.lists.proofs.Those.{those-means}
-use Rattle.clock.specs.Dots.{dotsOf, clockOf}
+use Rattle.clock.specs.Dots.{clockOf}
 use Rattle.clock.specs.Lawful.{Lawful}
 use Rattle.clock.proofs.Packs.{dots-of}
-use Rattle.parts.specs.Model.{underOf, listedIn, removalAs, noRemoval, noUpdate}
-use Rattle.map.specs.declared.Op.{Op}
 use Rattle.map.specs.Valid.{RemovalWithin, UpdateWithin, OpWithin}
 use Rattle.records.specs.declared.Record.{Record}
 use Rattle.records.specs.Kinds.{maskOf}
 use Rattle.records.specs.Records.{recordsOf}
 use Rattle.scan.specs.Limits.{limitAt, innerLimits}
 use Rattle.scan.specs.Scanned.{scanNumber}
-use Rattle.scan.proofs.Eachs.{decide, both-left, both-right}
+use Rattle.scan.proofs.Eachs.{decide}
 use Rattle.scan.proofs.Rooms.{no-index, no-key, no-actor, counter-from-one, outer-room}
 use Rattle.scan.proofs.Scanning.{scan-good}
 use Rattle.clockimage.specs.Image.{isKind, dotOf, dotsIn}

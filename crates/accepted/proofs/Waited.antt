@@ -1,21 +1,21 @@
 -- The waiting removals of an accepted map's image are valid and within the limits.
 -- Assumes nothing.
 use mathlib.Core.Path.{_≡_, refl, ap, ap₂, sym, _∙_}
-use mathlib.Core.Bool.{Bool, true, false, cond, _&&_}
+use mathlib.Core.Bool.{true, false, cond}
 use mathlib.Core.Logic.{⊎-elim}
-use mathlib.Core.List.{List, [], _∷_, _++_, map, List·Memᴰ·head, List·Memᴰ·tail, List·Memᴰ·not-nil, List·Memᴰ·cases-cons, List·Memᴰ·eq-of-singleton, List·Memᴰ·append-cases, Memᴰ·map, Memᴰ·of-map, Memᴰ·append-left, Memᴰ·append-right}
+use mathlib.Core.List.{List, [], _∷_, _++_, map, List·Memᴰ·head, List·Memᴰ·not-nil, List·Memᴰ·eq-of-singleton, List·Memᴰ·append-cases, Memᴰ·of-map, Memᴰ·append-left, Memᴰ·append-right}
 use Prim.Native.Nat.{ℕ, zero, suc, _+_, _≤_, _<_, max}
 use native.Mathlib.Omega.{arith}
-use lib.Dec.{eqb, ltb, leb}
+use lib.Dec.{eqb, ltb}
 use lib.ListN.{length, length-map}
-use borrow.Author.Tests.{eqb-true, eqb-false, eq-eqb, ne-eqb, lt-ltb, leb-true}
+use borrow.Author.Tests.{eqb-true, eqb-false, eq-eqb, leb-true}
 use Rattle.lists.specs.Order.{_∈_, Ascending, nil, next, by}
 use Rattle.lists.specs.Fold.{fold}
 use Rattle.lists.specs.Sift.{those}
 use Rattle.lists.proofs.Folds.{fold-append}
 use Rattle.lists.proofs.Levels.{before-all}
-use Rattle.lists.proofs.Those.{those-means, those-holds}
-use Rattle.clock.specs.Dots.{dotsOf, clockOf, isEmpty}
+use Rattle.lists.proofs.Those.{those-holds}
+use Rattle.clock.specs.Dots.{isEmpty}
 use Rattle.clock.specs.Lawful.{Lawful}
 use Rattle.clock.proofs.Packs.{dots-of}
 use Rattle.parts.specs.declared.Removal.{Removal}
@@ -33,7 +33,7 @@ use Rattle.scan.proofs.Rooms.{no-key, no-actor, counter-from-one}
 use Rattle.scan.proofs.Scanning.{scan-before}
 use Rattle.clockimage.specs.Image.{isKind, dotOf, dotsIn}
 use Rattle.mapreader.specs.Reading.{underIndex, waitingCount, removalIn, below, waitingFor}
-use Rattle.mapreader.specs.Related.{waitingFits, placed, ascend}
+use Rattle.mapreader.specs.Related.{placed, ascend}
 use Rattle.mapreader.proofs.Counts.{by-records}
 use Rattle.mapreader.proofs.Readers.{placed-now}
 use Rattle.mapreader.proofs.Waits.{waits-room}

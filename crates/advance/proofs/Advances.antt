@@ -1,14 +1,13 @@
 -- How each way out of `advance` answers.
 -- Assumes nothing.
 use mathlib.Core.Path.{_≡_, refl, ap, sym, _∙_}
-use mathlib.Core.Bool.{Bool, true, false, cond, _&&_}
+use mathlib.Core.Bool.{true, false}
 use mathlib.Core.List.{List, []}
 use Prim.Native.Nat.{ℕ, _*_, _^_, _≤_, _<_}
 use native.Mathlib.Omega.{arith}
-use lib.Dec.{leb, ltb, eqb}
+use lib.Dec.{leb, ltb}
 use lib.ListN.{length, length-take}
-use borrow.Author.Tests.{eq-eqb, ne-eqb, lt-ltb, le-ltb, leb-true, leb-false, ltb-true, ltb-false}
-use Rattle.lists.specs.Limit.{within}
+use borrow.Author.Tests.{ne-eqb, lt-ltb, le-ltb, leb-true, leb-false, ltb-false}
 use Rattle.lists.proofs.Orders.{apart}
 use Rattle.lists.proofs.Limits.{within-fits, within-exceeds}
 use Rattle.scan.proofs.Eachs.{decide}
@@ -16,10 +15,9 @@ use Rattle.clock.specs.declared.Dot.{Dot}
 use Rattle.clock.specs.declared.Clock.{Clock}
 use Rattle.clock.specs.declared.Joined.{Joined}
 use Rattle.clock.specs.Dots.{dotLimit, dotsOf, clockOf, fitted, counterIn, addDot}
-use Rattle.answers.specs.Answer.{numberOf, wordOf}
+use Rattle.answers.specs.Answer.{numberOf}
 use Rattle.answers.proofs.Answers.{number-first, number-own, number-done, bare}
-use Rattle.advance.specs.declared.Advanced.{Advanced}
-use Rattle.advance.specs.Advancing.{lentNumber, grownNumber, dotGiven, advanceAnswer, advancedClock, advancedOf}
+use Rattle.advance.specs.Advancing.{lentNumber, dotGiven, advanceAnswer, advancedClock, advancedOf}
 use Rattle.advance.proofs.Risings.{none-added}
 
 over-long : (l : List Dot) → fitted l .over ≡ true → dotLimit < length l

@@ -1,16 +1,15 @@
 -- Dots that rise, as the loop meets them, and as a clock; and what an added dot does to the number of dots.
 -- Assumes nothing.
 use mathlib.Core.Path.{_≡_, refl, ap, sym, _∙_}
-use mathlib.Core.Bool.{Bool, true, false, not, cond, _&&_}
+use mathlib.Core.Bool.{Bool, true, false, not, _&&_}
 use mathlib.Core.Logic.{⊎-elim}
-use mathlib.Core.List.{List, [], _∷_, map, List·Memᴰ·head, List·Memᴰ·tail, List·Memᴰ·not-nil, List·Memᴰ·cases-cons}
+use mathlib.Core.List.{List, [], _∷_, List·Memᴰ·head, List·Memᴰ·tail, List·Memᴰ·not-nil, List·Memᴰ·cases-cons}
 use Prim.Native.Nat.{ℕ, _+_, _≤_, _<_}
 use native.Mathlib.Omega.{arith}
 use lib.Dec.{leb, ltb}
 use lib.ListN.{length, take, drop, getD, length-map}
 use borrow.Author.Tests.{lt-ltb, le-ltb, ltb-true, leb-true, le-leb}
 use Rattle.lists.specs.Order.{_∈_, Ascending, nil, next, by}
-use Rattle.lists.specs.Weave.{weave}
 use Rattle.lists.proofs.Rests.{drop-step, drop-end, weave-first-left}
 use Rattle.lists.proofs.Orders.{apart}
 use Rattle.clock.specs.declared.Dot.{Dot}

@@ -8,7 +8,7 @@ ghost use Rattle.map.specs.Model.{waitingIn};
 ghost use Rattle.map.specs.Valid.{Valid};
 ghost use Rattle.opimage.specs.OpImage.{opImage};
 ghost use Rattle.mapimage.specs.MapImage.{mapImage};
-ghost use Rattle.answers.specs.Answer.{Answer, Answered};
+ghost use Rattle.answers.specs.Answer.{Answered};
 ghost use Rattle.answers.specs.Sizes.{totalOf, valueSize, entrySize, removalSize, mapSize};
 use map::Map;
 use map::Op;

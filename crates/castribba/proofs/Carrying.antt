@@ -1,8 +1,8 @@
 -- The numbers that an answer carries, as the calls find them.
 -- Assumes nothing.
-use mathlib.Core.Path.{_≡_, refl, ap, sym, _∙_}
+use mathlib.Core.Path.{_≡_, refl, sym}
 use mathlib.Core.Bool.{Bool, true, false, cond, _&&_}
-use mathlib.Core.List.{List, [], _∷_}
+use mathlib.Core.List.{[], _∷_}
 use Prim.Native.Nat.{ℕ}
 use lib.Dec.{eqb}
 use borrow.Author.Tests.{eqb-true}
@@ -13,7 +13,7 @@ use Rattle.map.specs.declared.Spent.{Spent}
 use Rattle.map.specs.declared.Spent.the-variants.{Once, Twice}
 use Rattle.map.specs.Asking.{orderNumber, orderStart, orderEnd, spentNumber}
 use Rattle.answers.specs.Answer.{Answer, firstOf, numberOf, carriedOf}
-use Rattle.castribba.specs.Calls.{bareAnswer, spentActor, spentCounter, spentOurs, spentTheirs}
+use Rattle.castribba.specs.Calls.{bareAnswer}
 
 -- what is found where both images pass is carried with the number that says so
 module _ {F : Type 0} (numberIn carriedIn : F → ℕ) (nothing : F) (with : ℕ) (none : carriedIn nothing ≡ 0)

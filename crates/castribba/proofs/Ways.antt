@@ -1,12 +1,11 @@
 -- The ways out of the calls, and what the images that were read allow.
 -- Assumes nothing.
-use mathlib.Core.Path.{_≡_, refl, ap, sym, _∙_}
-use mathlib.Core.Bool.{Bool, true, false, cond, _&&_}
-use mathlib.Core.List.{List, [], _∷_}
+use mathlib.Core.Path.{_≡_, refl}
+use mathlib.Core.Bool.{Bool, true, false, cond}
+use mathlib.Core.List.{List}
 use Prim.Native.Nat.{ℕ, _-_, _*_, _^_, _≤_, _<_}
 use native.Mathlib.Omega.{arith}
 use lib.Dec.{eqb, leb}
-use lib.ListN.{length}
 use Rattle.scan.proofs.Eachs.{decide}
 use Rattle.clock.specs.Dots.{dotLimit, counterIn, addDot}
 use Rattle.map.specs.Model.{seenBy}
@@ -24,9 +23,9 @@ use Rattle.mapreader.specs.declared.ReadMap.{ReadMap}
 use Rattle.mapreader.specs.Related.{readMap}
 use Rattle.accepted.proofs.Maps.{map-within, no-map-within}
 use Rattle.accepted.proofs.Ops.{op-within}
-use Rattle.answers.specs.Answer.{Answer, firstOf, numberOf, Answered}
+use Rattle.answers.specs.Answer.{Answer, Answered}
 use Rattle.answers.proofs.Answers.{number-first, number-second, refuses, passes}
-use Rattle.castribba.specs.Calls.{mapAnswer, opAnswer, bareAnswer}
+use Rattle.castribba.specs.Calls.{mapAnswer, opAnswer}
 
 -- an image is refused
 module _ (a : Answer) (o : List ℕ) {n w : ℕ} where

@@ -4,10 +4,7 @@ use Prim.Native.Nat.{ℕ}
 use mathlib.Core.Bool.{cond}
 use mathlib.Core.List.{List, [], _∷_}
 use lib.Dec.{eqb}
-use Rattle.clock.specs.declared.Dot.{Dot}
 use Rattle.clock.specs.Dots.{dotsOf}
-use Rattle.map.specs.declared.Map.{Map}
-use Rattle.map.specs.declared.Op.{Op}
 use Rattle.map.specs.declared.Judged.{Judged}
 use Rattle.map.specs.declared.Made.{Made}
 use Rattle.map.specs.declared.Order.{Order}
@@ -19,7 +16,7 @@ use Rattle.map.specs.Applying.{apply}
 use Rattle.map.specs.Merging.{merge}
 use Rattle.map.specs.Resetting.{reset}
 use Rattle.map.specs.Judging.{judged}
-use Rattle.map.specs.Asking.{validateOp, orderNumber, orderStart, orderEnd, validateMerge, spentNumber, makeUpdate, removalOp, clockAt, readKey, count}
+use Rattle.map.specs.Asking.{validateOp, orderNumber, validateMerge, spentNumber, makeUpdate, removalOp, clockAt, readKey, count}
 use Rattle.clockimage.specs.ClockImage.{readClock}
 use Rattle.opimage.specs.OpImage.{readOp, opImage}
 use Rattle.mapimage.specs.MapImage.{mapImage}

@@ -1,6 +1,5 @@
 // Both validations over images, and the numbers that they carry.
 ghost use mathlib.Core.Path.{_≡_};
-ghost use Prim.Native.Nat.{_≤_};
 ghost use Rattle.map.specs.Asking.{orderNumber, orderStart, orderEnd, spentNumber};
 ghost use Rattle.castribba.specs.Calls.{opVerdict, mergeVerdict, spentActor, spentCounter, spentOurs, spentTheirs};
 use crate::MergeVerdict;

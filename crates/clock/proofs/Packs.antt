@@ -1,12 +1,11 @@
 -- Laws of a clock as a pack of its dots, and of the limit.
 -- Assumes nothing.
-use mathlib.Core.Path.{_≡_, refl, ap, sym, _∙_}
-use mathlib.Core.Bool.{Bool, true, false}
-use mathlib.Core.List.{List, [], _∷_, _++_, map, map-id}
-use Prim.Native.Nat.{ℕ, _+_, _≤_, _<_}
+use mathlib.Core.Path.{_≡_, refl, ap, _∙_}
+use mathlib.Core.Bool.{true, false}
+use mathlib.Core.List.{List, [], _∷_, _++_, map-id}
+use Prim.Native.Nat.{_+_, _≤_, _<_}
 use native.Mathlib.Omega.{arith}
-use lib.ListN.{length, set, length-append}
-use Rattle.lists.specs.Weave.{weave}
+use lib.ListN.{length, set}
 use Rattle.lists.specs.Order.{by}
 use Rattle.lists.proofs.Pads.{take-pad, push-pad, length-snoc}
 use Rattle.lists.proofs.Sifts.{length-sift}

@@ -1,23 +1,21 @@
 -- The dots of a kind that has neither index nor key: one record more is one dot more, and there is room for it.
 -- Assumes nothing.
 use mathlib.Core.Path.{_≡_, refl, ap, sym, _∙_}
-use mathlib.Core.Bool.{Bool, true, false, cond, _&&_}
+use mathlib.Core.Bool.{Bool, true, false, cond}
 use mathlib.Core.List.{List, [], _∷_, _++_, map, Memᴰ·append-left, Memᴰ·append-right, List·Memᴰ·head}
-use Prim.Native.Nat.{ℕ, _≤_, _<_}
-use native.Mathlib.Omega.{arith}
+use Prim.Native.Nat.{ℕ, _<_}
 use lib.Dec.{eqb}
 use lib.Bits.{bitAnd}
 use lib.ListN.{length, length-map}
-use borrow.Author.Tests.{eq-eqb, ne-eqb, eqb-true}
+use borrow.Author.Tests.{eqb-true}
 use Rattle.lists.specs.Order.{_∈_}
 use Rattle.lists.specs.Sift.{those}
-use Rattle.clock.specs.declared.Dot.{Dot}
 use Rattle.records.specs.declared.Record.{Record}
 use Rattle.records.specs.Kinds.{recordOk, maskOf}
 use Rattle.scan.specs.Limits.{innerLimits, limitAt, sameMiddle}
 use Rattle.scan.specs.Scanned.{scanNumber}
-use Rattle.scan.proofs.Eachs.{decide, both-left}
-use Rattle.scan.proofs.Scans.{alike, alike-middle}
+use Rattle.scan.proofs.Eachs.{decide}
+use Rattle.scan.proofs.Scans.{alike-middle}
 use Rattle.scan.proofs.Scanning.{scan-good}
 use Rattle.scan.proofs.Rooms.{those-yes, those-no, those-same, good-at, no-index, no-key, inner-room}
 use Rattle.clockimage.specs.Image.{isKind, dotOf, dotsIn}

@@ -1,8 +1,7 @@
 -- The longest clock, computed: every place in use.
 -- Assumes nothing.
 use mathlib.Core.Path.{_≡_, refl}
-use mathlib.Core.List.{List}
-use Prim.Native.Nat.{ℕ, _*_}
+use Prim.Native.Nat.{_*_}
 use lib.ListN.{length, replicate}
 use Rattle.clock.specs.Dots.{noDot}
 use Rattle.clockimage.specs.ClockImage.{clockLongest, clockRecords}

@@ -1,20 +1,18 @@
 -- Clocks and their images: what was written reads as it was, what was read writes as it was, and an image is accepted exactly when it is a clock's.
 -- Assumes nothing.
 use mathlib.Core.Path.{_≡_, refl, ap, ap₂, sym, _∙_}
-use mathlib.Core.Bool.{Bool, true, false, cond}
-use mathlib.Core.Logic.{⊎-elim}
-use mathlib.Core.List.{List, [], _∷_, _++_, map, List·Memᴰ·head, List·Memᴰ·tail, Memᴰ·map, Memᴰ·of-map}
-use Prim.Native.Nat.{ℕ, _+_, _*_, _%_, _^_, _≤_, _<_}
+use mathlib.Core.Bool.{Bool, true, cond}
+use mathlib.Core.List.{List, [], _∷_, map, List·Memᴰ·head, List·Memᴰ·tail, Memᴰ·map, Memᴰ·of-map}
+use Prim.Native.Nat.{ℕ, _*_, _%_, _≤_, _<_}
 use native.Mathlib.Omega.{arith}
 use lib.Dec.{eqb, ltb}
 use lib.ListN.{length, length-map}
 use borrow.Author.Tests.{eq-eqb, le-ltb, lt-ltb, ltb-true, ltb-false, eqb-true}
 use Rattle.lists.specs.Order.{_∈_, Ascending, nil, next, by}
 use Rattle.lists.specs.Sift.{sift, those}
-use Rattle.lists.proofs.Pads.{take-pad}
-use Rattle.lists.proofs.Orders.{apart, head-before, tail-ascends}
+use Rattle.lists.proofs.Orders.{head-before, tail-ascends}
 use Rattle.clock.specs.declared.Dot.{Dot}
-use Rattle.clock.specs.Dots.{dotLimit, dotsOf, clockOf}
+use Rattle.clock.specs.Dots.{dotLimit, clockOf}
 use Rattle.clock.specs.Lawful.{Lawful}
 use Rattle.records.specs.declared.Record.{Record}
 use Rattle.records.specs.Bytes.{Bytes}
@@ -22,14 +20,13 @@ use Rattle.records.specs.Kinds.{before, recordOk, maskOf}
 use Rattle.records.specs.Records.{recordsOf, bytesOf}
 use Rattle.records.proofs.RoundTrips.{Fitting, by-fields, length-bytes, read-written, written-read, read-all-fit}
 use Rattle.scan.proofs.Eachs.{decide}
-use Rattle.scan.specs.Limits.{sameKind, sameOuter, sameMiddle}
 use Rattle.scan.specs.Scanned.{scanNumber}
-use Rattle.scan.proofs.Befores.{Before, fields-before, before-fields}
+use Rattle.scan.proofs.Befores.{fields-before, before-fields}
 use Rattle.scan.proofs.Rooms.{good-at, kind-range, no-index, no-key, counter-from-one}
 use Rattle.scan.proofs.Scanning.{scan-good}
 use Rattle.scan.proofs.Builds.{Among, scan-of, formed-ascends}
-use Rattle.clockimage.specs.Image.{isKind, dotRecord, dotRecords, dotOf, dotsIn, DotFits, imageOf}
-use Rattle.clockimage.specs.ClockImage.{clockLongest, clockRecords, clockImage, clockIn, judgedClock, refusedClock, readClock}
+use Rattle.clockimage.specs.Image.{isKind, dotRecord, dotRecords, dotOf, DotFits, imageOf}
+use Rattle.clockimage.specs.ClockImage.{clockLongest, clockRecords, clockIn, judgedClock, refusedClock, readClock}
 
 module _ (kind index key : ℕ) where
   -- dots that ascend give records that ascend

@@ -1,14 +1,14 @@
 -- Laws of strictly ascending lists.
 -- Assumes nothing.
-use mathlib.Core.Path.{_≡_, refl, ap, ap₂, sym, _∙_}
+use mathlib.Core.Path.{_≡_, refl, ap₂, sym, _∙_}
 use mathlib.Core.Bool.{Bool, true, false}
-use mathlib.Core.Logic.{_⊎_, inl, inr, ⊎-elim}
+use mathlib.Core.Logic.{_⊎_, ⊎-elim}
 use mathlib.Core.List.{List, [], _∷_, List·Memᴰ·head, List·Memᴰ·tail, List·Memᴰ·not-nil, List·Memᴰ·cases-cons, Memᴰ·cast}
-use Prim.Native.Nat.{ℕ, _≤_, _<_}
+use Prim.Native.Nat.{ℕ, _≤_}
 use native.Mathlib.Omega.{arith}
 use borrow.Author.Tests.{ltb-true, le-ltb}
 use lib.ListN.{length}
-use Rattle.lists.specs.Order.{_∈_, Ascending, nil, next, by, Strict}
+use Rattle.lists.specs.Order.{_∈_, Ascending, next, by, Strict}
 
 pub apart : {A : Type 0} → true ≡ false → A
 apart {A} e = absurd (let z : _≡_ {A = ℕ} 0 1 = cc in omega arith)

@@ -9,7 +9,6 @@ use lib.ListN.{length, take, drop, getD}
 use Rattle.lists.specs.First.{firstIn}
 use Rattle.lists.proofs.Orders.{apart}
 use Rattle.lists.proofs.Rests.{drop-step, drop-end}
-use Rattle.parts.specs.declared.Entry.{Entry}
 use Rattle.parts.specs.Model.{dotsIn, entryAs}
 use Rattle.parts.specs.Entries.{entryAt}
 use Rattle.parts.proofs.Pieces.{dots-in}

@@ -1,7 +1,6 @@
 -- The twelve settled examples of 01, as a single table under a single theorem.
 -- Assumes nothing.
 use mathlib.Core.Path.{_≡_, refl}
-use mathlib.Core.Bool.{true, false}
 use mathlib.Core.List.{List, [], _∷_, _++_}
 use Prim.Native.Nat.{ℕ, zero, suc, _+_, _-_, _^_}
 use Rattle.lists.specs.Pad.{pad}

@@ -1,45 +1,41 @@
 -- How the result of each operation on maps within the limits is judged.
 -- Assumes nothing.
-use mathlib.Core.Path.{_≡_, refl, ap, ap₂, sym, _∙_}
-use mathlib.Core.Bool.{Bool, true, false, cond}
-use mathlib.Core.List.{List, [], _∷_, _++_}
-use Prim.Native.Nat.{ℕ, _≤_, _<_}
+use mathlib.Core.Path.{_≡_, ap, _∙_}
+use mathlib.Core.Bool.{Bool, false}
+use mathlib.Core.List.{List, [], _∷_}
+use Prim.Native.Nat.{_≤_, _<_}
 use native.Mathlib.Omega.{arith}
-use borrow.Author.Tests.{le-ltb}
 use lib.ListN.{length}
 use Rattle.lists.specs.First.{some}
 use Rattle.lists.specs.Fold.{fold}
-use Rattle.lists.specs.Order.{_∈_}
 use Rattle.lists.specs.Sift.{sift, those}
 use Rattle.lists.proofs.Sifts.{length-sift}
 use Rattle.lists.proofs.Those.{sift-means}
 use Rattle.clock.specs.declared.Dot.{Dot}
-use Rattle.clock.specs.Dots.{dotLimit, clockOf, counterIn, cutDots, joinDots, addDot}
+use Rattle.clock.specs.Dots.{dotLimit, counterIn, cutDots, joinDots, addDot}
 use Rattle.clock.proofs.Packs.{cut-length}
 use Rattle.clock.proofs.Joins.{lawful-nil, lawful-add}
 use Rattle.clock.proofs.Within.{covered-length, covers-nil, covers-adds}
-use Rattle.register.specs.Values.{valueLimit}
 use Rattle.parts.specs.declared.Entry.{Entry}
 use Rattle.parts.specs.declared.Removal.{Removal}
 use Rattle.parts.specs.declared.Update.{Update}
-use Rattle.parts.specs.Model.{entryLimit, waitingLimit, keyLimit, dotsIn, valuesIn, entriesAs, waitingAs, overfull, overlong}
+use Rattle.parts.specs.Model.{entryLimit, waitingLimit, dotsIn, overfull, overlong}
 use Rattle.parts.specs.Entries.{stays, cutEntry, removeEntries, run, entryAt, putEntries, weaveEntries}
 use Rattle.parts.specs.Waits.{waits, uniteAll, resetWaiting}
 use Rattle.parts.proofs.Fits.{added-length}
 use Rattle.parts.proofs.Pieces.{dots-in}
 use Rattle.parts.proofs.Wholes.{at-every}
-use Rattle.parts.proofs.Bounds.{EntryFits, entry-fits-cut, runs-fit, runs-length}
+use Rattle.parts.proofs.Bounds.{entry-fits-cut, runs-fit, runs-length}
 use Rattle.map.specs.declared.Map.{Map}
-use Rattle.map.specs.declared.Judged.{Judged}
 use Rattle.map.specs.Model.{seenBy, entriesIn, waitingIn, mapAs}
 use Rattle.map.specs.Removing.{remove}
 use Rattle.map.specs.Updating.{update}
 use Rattle.map.specs.Merging.{merge}
 use Rattle.map.specs.Resetting.{reset}
 use Rattle.map.specs.Judging.{exceeding, judged}
-use Rattle.map.specs.Valid.{Valid, Within, RemovalWithin, UpdateWithin}
+use Rattle.map.specs.Valid.{Within, RemovalWithin, UpdateWithin}
 use Rattle.map.proofs.Kept.{under-own, heldAfter, remove-laid, valid-remove, valid-update, valid-merge, valid-reset}
-use Rattle.map.proofs.Small.{Small, small-remove, small-update, small-merge, small-reset}
+use Rattle.map.proofs.Small.{small-remove, small-update, small-merge, small-reset}
 use Rattle.map.proofs.Removals.{update-closed, merge-closed}
 use Rattle.map.proofs.Accepts.{fits-means}
 use Rattle.map.proofs.Verdicts.{outcome, judged-as, small-within, not-over, none-overfull, those-few, those-short}

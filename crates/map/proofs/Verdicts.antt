@@ -1,9 +1,9 @@
 -- How a finished map is judged, by its three lists.
 -- Assumes nothing.
-use mathlib.Core.Path.{_≡_, refl, ap, sym, _∙_}
-use mathlib.Core.Bool.{Bool, true, false, cond}
-use mathlib.Core.List.{List, []}
-use Prim.Native.Nat.{ℕ, _≤_, _<_}
+use mathlib.Core.Path.{_≡_}
+use mathlib.Core.Bool.{Bool, false, cond}
+use mathlib.Core.List.{List}
+use Prim.Native.Nat.{ℕ, _≤_}
 use native.Mathlib.Omega.{arith}
 use borrow.Author.Tests.{le-ltb}
 use lib.Dec.{eqb}
@@ -20,17 +20,15 @@ use Rattle.register.specs.Values.{valueLimit}
 use Rattle.parts.specs.declared.Entry.{Entry}
 use Rattle.parts.specs.declared.Removal.{Removal}
 use Rattle.parts.specs.Model.{entryLimit, waitingLimit, keyLimit, valuesIn, listedIn, overfull, overlong}
-use Rattle.parts.specs.Entries.{removeEntries}
 use Rattle.parts.proofs.Pieces.{entries-of, waiting-of}
-use Rattle.parts.proofs.Bounds.{EntryFits, runs-fit, runs-length}
 use Rattle.map.specs.declared.Map.{Map}
 use Rattle.map.specs.declared.Judged.{Judged}
-use Rattle.map.specs.Model.{seenBy, entriesIn, waitingIn, mapAs, noMap}
+use Rattle.map.specs.Model.{waitingIn, mapAs, noMap}
 use Rattle.map.specs.Judging.{exceeding, overEntries, overValues, overWaiting, overKeys, overNumber, judged}
 use Rattle.map.specs.Valid.{Valid, Within}
 use Rattle.map.proofs.Kept.{seen-of}
 use Rattle.map.proofs.Small.{Small, small-over}
-use Rattle.map.proofs.Accepts.{Fits, fits-means}
+use Rattle.map.proofs.Accepts.{fits-means}
 
 -- the answer, by which limits are broken
 abbrev pub answer : ℕ → Map → Judged

@@ -13,7 +13,6 @@ use Rattle.parts.specs.declared.Entry.{Entry}
 use Rattle.map.specs.declared.Map.{Map}
 use Rattle.map.specs.declared.Op.{Op}
 use Rattle.parts.specs.declared.Update.{Update}
-use Rattle.parts.specs.declared.Removal.{Removal}
 use Rattle.map.specs.declared.Made.{Made}
 use Rattle.map.specs.declared.Order.{Order}
 use Rattle.map.specs.declared.Order.the-variants.{Fits, Missing}

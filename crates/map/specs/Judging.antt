@@ -6,7 +6,6 @@ use Prim.Native.Nat.{ℕ}
 use lib.Dec.{ltb, eqb}
 use lib.ListN.{length}
 use Rattle.lists.specs.First.{some}
-use Rattle.clock.specs.declared.Dot.{Dot}
 use Rattle.clock.specs.Dots.{dotLimit, dotsOf}
 use Rattle.register.specs.Values.{valueLimit}
 use Rattle.map.specs.declared.Map.{Map}

@@ -1,6 +1,6 @@
 -- A loop that writes waiting keys in order: the least that is left, again and again.
 -- Assumes nothing.
-use mathlib.Core.Path.{_≡_, refl, ap, sym, _∙_}
+use mathlib.Core.Path.{_≡_, refl, ap}
 use mathlib.Core.Bool.{true}
 use mathlib.Core.List.{List, [], _∷_, _++_, map}
 use Prim.Native.Nat.{ℕ, _+_, _*_, _≤_, _<_}
@@ -8,7 +8,6 @@ use native.Mathlib.Omega.{arith}
 use lib.Dec.{leb, ltb}
 use lib.ListN.{length}
 use Rattle.lists.specs.Sift.{those}
-use Rattle.records.specs.declared.Record.{Record}
 use Rattle.records.specs.Records.{recordBytes, bytesOf, Wrote}
 use Rattle.records.proofs.Writing.{Writing, write-start, write-room, write-on, write-end, wrote-one}
 use Rattle.scan.specs.Each.{every}

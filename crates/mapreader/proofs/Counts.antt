@@ -3,33 +3,32 @@
 use mathlib.Core.Path.{_≡_, refl, ap, sym, _∙_}
 use mathlib.Core.Bool.{Bool, true, false, cond, _&&_, _||_}
 use mathlib.Core.Logic.{⊎-elim}
-use mathlib.Core.List.{List, [], _∷_, _++_, map, append-nil, append-assoc, List·Memᴰ·head, List·Memᴰ·not-nil, List·Memᴰ·append-cases, List·Memᴰ·eq-of-singleton, Memᴰ·append-left, Memᴰ·append-right}
-use Prim.Native.Nat.{ℕ, _+_, _≤_, _<_, max}
+use mathlib.Core.List.{List, [], _∷_, _++_, map, append-nil, append-assoc, List·Memᴰ·not-nil, List·Memᴰ·append-cases, List·Memᴰ·eq-of-singleton, Memᴰ·append-left}
+use Prim.Native.Nat.{ℕ, _+_, _≤_, _<_}
 use native.Mathlib.Omega.{arith}
-use lib.Dec.{eqb, leb}
+use lib.Dec.{eqb}
 use lib.Bits.{bitAnd}
 use lib.ListN.{length, length-append, length-map}
-use borrow.Author.Tests.{eq-eqb, ne-eqb, eqb-true, eqb-false, leb-true}
+use borrow.Author.Tests.{eq-eqb, eqb-true, eqb-false}
 use Rattle.lists.specs.Order.{_∈_}
 use Rattle.lists.specs.Sift.{those}
 use Rattle.lists.specs.First.{some}
 use Rattle.lists.specs.Fold.{fold}
-use Rattle.lists.proofs.Folds.{fold-append}
 use Rattle.lists.proofs.Orders.{apart}
 use Rattle.records.specs.declared.Record.{Record}
 use Rattle.records.specs.Kinds.{before, recordOk, maskOf}
-use Rattle.scan.specs.Each.{every, each}
+use Rattle.scan.specs.Each.{each}
 use Rattle.scan.specs.Formed.{follows, wellFormed}
-use Rattle.scan.specs.Limits.{outer, middle, inner, outerLimits, middleLimits, innerLimits, limitAt, sameKind, sameOuter, sameMiddle, tally, within, room}
+use Rattle.scan.specs.Limits.{outer, middle, outerLimits, middleLimits, innerLimits, limitAt, sameKind, sameOuter, sameMiddle, tally, within, room}
 use Rattle.scan.specs.Scanned.{scanNumber}
-use Rattle.scan.proofs.Eachs.{decide, both, both-left, both-right, every-at, each-snoc, some-snoc, some-of, some-none}
-use Rattle.scan.proofs.Befores.{Before, before-fields}
+use Rattle.scan.proofs.Eachs.{decide, both, both-left, both-right, every-at, some-snoc, some-none}
+use Rattle.scan.proofs.Befores.{before-fields}
 use Rattle.scan.proofs.Tallies.{tally-snoc, tally-new, tally-other}
-use Rattle.scan.proofs.Scans.{formed-snoc, within-snoc, alike, alike-outer, alike-middle, alike-index, outer-key}
+use Rattle.scan.proofs.Scans.{formed-snoc, alike, alike-outer, alike-middle, alike-index, outer-key}
 use Rattle.scan.proofs.Scanning.{scan-good, scan-last}
-use Rattle.scan.proofs.Rooms.{those-same, good-at, no-index, no-key, no-actor, inner-room, middle-room, outer-few}
+use Rattle.scan.proofs.Rooms.{those-same, good-at, no-index, no-key, inner-room, middle-room, outer-few}
 use Rattle.clockimage.specs.Image.{isKind, dotOf, dotsIn}
-use Rattle.mapreader.specs.Reading.{underKey, underIndex, underBoth, addNew, entryKeys}
+use Rattle.mapreader.specs.Reading.{underKey, underIndex, underBoth, entryKeys}
 use Rattle.mapreader.proofs.Entries.{keys-more, keys-same}
 
 -- tests that hold together

@@ -2,35 +2,29 @@
 -- Assumes nothing.
 use mathlib.Core.Path.{_≡_, refl, ap, ap₂, sym, _∙_, fun-ext}
 use mathlib.Core.Bool.{Bool, true, false, cond, _&&_}
-use mathlib.Core.List.{List, [], _∷_, _++_, map, Memᴰ·append-left, Memᴰ·append-right, List·Memᴰ·head, List·Memᴰ·tail}
+use mathlib.Core.List.{List, [], _∷_, _++_, map}
 use Prim.Native.Nat.{ℕ, _+_, _≤_, _<_}
 use native.Mathlib.Omega.{arith}
 use lib.Dec.{eqb}
-use lib.ListN.{length, getD, set, length-map, length-set}
+use lib.ListN.{length, getD, set, length-set}
 use lib.Seq.{ext-getD, getD-set-same, getD-set-other}
 use borrow.Author.Tests.{eq-eqb, ne-eqb, eqb-true, eqb-false}
 use Rattle.lists.specs.Order.{_∈_}
-use Rattle.lists.specs.Sift.{sift, those}
-use Rattle.lists.specs.First.{some}
+use Rattle.lists.specs.Sift.{those}
 use Rattle.lists.specs.Fold.{fold}
 use Rattle.lists.proofs.Folds.{fold-append}
-use Rattle.clock.specs.declared.Dot.{Dot}
 use Rattle.clock.specs.Dots.{clockOf}
 use Rattle.register.specs.declared.Value.{Value}
 use Rattle.register.specs.Values.{noValue}
-use Rattle.parts.specs.declared.Entry.{Entry}
-use Rattle.parts.specs.Model.{noEntry, entryAs}
+use Rattle.parts.specs.Model.{entryAs}
 use Rattle.records.specs.declared.Record.{Record}
-use Rattle.scan.specs.Scanned.{scanNumber}
-use Rattle.scan.proofs.Eachs.{decide, both, both-left, both-right}
-use Rattle.scan.proofs.Befores.{before-fields}
-use Rattle.scan.proofs.Builds.{formed-ascends}
+use Rattle.scan.proofs.Eachs.{decide, both}
 use Rattle.scan.proofs.Rooms.{those-yes, those-no}
 use Rattle.scan.proofs.Splits.{those-none}
 use Rattle.clockimage.specs.Image.{isKind, dotOf, dotsIn}
 use Rattle.clockimage.proofs.Dots.{dots-more, dots-same}
 use Rattle.mapreader.specs.Reading.{underKey, underBoth, addNew, valueIn, valuesUnder, entryIn, entryKeys, entriesFor, placesFrom}
-use Rattle.mapreader.proofs.Keys.{Unique, unique-add, unique-none, fold-keeps, map-changed, map-same, length-places, places-snoc, get-places}
+use Rattle.mapreader.proofs.Keys.{Unique, unique-add, unique-none, fold-keeps, map-same, length-places, places-snoc, get-places}
 
 keys-snoc : (l : List Record) (r : Record) → entryKeys (l ++ (r ∷ [])) ≡ cond (isKind 2 r) (addNew (entryKeys l) (r .key)) (entryKeys l)
 unfolding entryKeys fold

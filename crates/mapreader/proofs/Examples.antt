@@ -1,32 +1,27 @@
 -- Worked examples, computed: M of document 01 and its image, the empty map, and a map of the longest image.
 -- Assumes nothing.
 use mathlib.Core.Path.{_≡_, refl}
-use mathlib.Core.Bool.{Bool, true, false}
-use mathlib.Core.List.{List, [], _∷_, _++_, map}
+use mathlib.Core.List.{List, [], _∷_, map}
 use Prim.Native.Nat.{ℕ, _+_, _*_}
-use lib.ListN.{length, take, drop}
+use lib.ListN.{length}
 use Rattle.lists.specs.Pad.{pad}
 use Rattle.lists.specs.Sift.{sift}
 use Rattle.lists.specs.Fold.{fold}
 use Rattle.lists.specs.First.{firstIn}
 use Rattle.clock.specs.declared.Dot.{Dot}
 use Rattle.clock.specs.Dots.{clockOf, isEmpty, counterIn, covers}
-use Rattle.register.specs.declared.Value.{Value}
-use Rattle.parts.specs.declared.Entry.{Entry}
-use Rattle.parts.specs.declared.Removal.{Removal}
 use Rattle.parts.specs.Model.{entryAs, removalAs}
-use Rattle.parts.specs.Waits.{clockBefore}
 use Rattle.map.specs.declared.Map.{Map}
 use Rattle.map.specs.Model.{mapAs, noMap}
 use Rattle.records.specs.declared.Record.{Record}
 use Rattle.records.specs.Kinds.{recordOk, before}
-use Rattle.records.specs.Records.{recordFrom, recordsFrom, bytesOf}
+use Rattle.records.specs.Records.{recordsFrom, bytesOf}
 use Rattle.scan.specs.Each.{every, eachAfter, countAfter}
 use Rattle.scan.specs.Formed.{wellFormed}
 use Rattle.scan.specs.Limits.{tally, within}
 use Rattle.scan.specs.Scanned.{scanNumber}
 use Rattle.mapimage.specs.Sorted.{insert, inOrder}
-use Rattle.mapimage.specs.MapImage.{mapLongest, flatFrom, recordsIn, mapRecords, mapImage}
+use Rattle.mapimage.specs.MapImage.{mapLongest, flatFrom, mapRecords, mapImage}
 use Rattle.mapreader.specs.Reading.{entryKeys, waitingCount, below, placesFrom}
 use Rattle.mapreader.specs.Related.{ascend, related, judgedMap, readMap}
 

@@ -1,13 +1,13 @@
 -- The entry of a record's key among the entries that the records before it stand for.
 -- Assumes nothing.
 use mathlib.Core.Path.{_≡_, refl, ap, sym, _∙_}
-use mathlib.Core.Bool.{Bool, true, false, cond, not, _&&_}
+use mathlib.Core.Bool.{Bool, true, false, _&&_}
 use mathlib.Core.List.{List, [], _∷_, _++_, map, Memᴰ·of-map}
 use Prim.Native.Nat.{ℕ, _+_, _≤_, _<_}
 use native.Mathlib.Omega.{arith}
 use lib.Dec.{eqb}
 use lib.ListN.{length, getD, set, length-map}
-use borrow.Author.Tests.{eq-eqb, ne-eqb, eqb-true, eqb-false}
+use borrow.Author.Tests.{eq-eqb, eqb-true}
 use Rattle.lists.specs.Order.{_∈_}
 use Rattle.lists.specs.First.{some}
 use Rattle.lists.proofs.Orders.{apart}
@@ -18,7 +18,7 @@ use Rattle.records.specs.declared.Record.{Record}
 use Rattle.scan.proofs.Eachs.{decide, both, some-of, some-none}
 use Rattle.mapreader.specs.Reading.{entryIn, entryKeys, entriesFor}
 use Rattle.mapreader.specs.SoFar.{placeOf}
-use Rattle.mapreader.proofs.Packs.{entries-of, entry-read, same-default}
+use Rattle.mapreader.proofs.Packs.{entries-of, entry-read}
 use Rattle.mapreader.proofs.Places.{place-passes, place-none}
 use Rattle.mapreader.proofs.Keys.{some-at, get-map, map-changed}
 use Rattle.mapreader.proofs.Entries.{keys-unique, entry-other}

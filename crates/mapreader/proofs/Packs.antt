@@ -1,10 +1,10 @@
 -- Lists in arrays: an element changed in place.
 -- Assumes nothing.
 use mathlib.Core.Path.{_≡_, refl, ap, sym, _∙_}
-use mathlib.Core.List.{List, [], _∷_, _++_}
-use Prim.Native.Nat.{ℕ, _+_, _≤_, _<_}
+use mathlib.Core.List.{List, [], _∷_}
+use Prim.Native.Nat.{ℕ, _≤_, _<_}
 use native.Mathlib.Omega.{arith}
-use lib.ListN.{length, take, getD, set, length-set, length-take, length-append, List·getD-append}
+use lib.ListN.{length, getD, set, length-set, length-append, List·getD-append}
 use lib.Seq.{set-append-left}
 use Rattle.lists.specs.Pad.{pad}
 use Rattle.lists.proofs.Pads.{take-pad}
@@ -15,7 +15,7 @@ use Rattle.parts.specs.declared.Waiting.{Waiting}
 use Rattle.parts.specs.Model.{entryLimit, waitingLimit, noEntry, noRemoval, entriesOf, entriesAs, waitingOf, waitingAs}
 use Rattle.register.specs.declared.Value.{Value}
 use Rattle.register.specs.declared.Register.{Register}
-use Rattle.register.specs.Values.{valueLimit, noValue, valuesOf, registerOf}
+use Rattle.register.specs.Values.{valueLimit, noValue, registerOf}
 
 module _ {A : Type 0} (z : A) (n : ℕ) where
   pub set-pad : (l : List A) (j : ℕ) (a : A) → j < length l → set (pad z n l) j a ≡ pad z n (set l j a)

@@ -1,6 +1,6 @@
 -- A reader of a map's image with one record more.
 -- Assumes nothing.
-use mathlib.Core.Path.{_≡_, refl, ap, sym, _∙_}
+use mathlib.Core.Path.{_≡_, refl, sym, _∙_}
 use mathlib.Core.Bool.{Bool, true, false, not, _&&_, _||_}
 use mathlib.Core.List.{List, [], _∷_, _++_}
 use borrow.Author.Tests.{not-true, not-false}
@@ -8,7 +8,7 @@ use Rattle.lists.proofs.Orders.{apart}
 use Rattle.records.specs.declared.Record.{Record}
 use Rattle.scan.specs.declared.Scan.{Scan}
 use Rattle.scan.specs.Each.{each, every}
-use Rattle.scan.specs.Scanned.{Scanned, scanNumber}
+use Rattle.scan.specs.Scanned.{Scanned}
 use Rattle.scan.proofs.Eachs.{both-left, both-right, each-snoc}
 use Rattle.scan.proofs.Scanning.{scan-before}
 use Rattle.clock.specs.Dots.{dotsOf}

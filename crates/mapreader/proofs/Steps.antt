@@ -1,24 +1,23 @@
 -- What each function that adds a record to the entries needs, and gives.
 -- Assumes nothing.
 use mathlib.Core.Path.{_≡_, refl, ap, ap₂, sym, _∙_}
-use mathlib.Core.Bool.{Bool, true, false, cond, not, _&&_}
+use mathlib.Core.Bool.{true, false}
 use mathlib.Core.List.{List, [], _∷_, _++_, map}
 use Prim.Native.Nat.{ℕ, _+_, _≤_, _<_}
 use native.Mathlib.Omega.{arith}
 use lib.Dec.{eqb, ltb}
 use lib.ListN.{length, getD, set, length-map}
-use borrow.Author.Tests.{eq-eqb, ne-eqb, eqb-true, eqb-false, lt-ltb, le-ltb}
+use borrow.Author.Tests.{eq-eqb, ne-eqb, eqb-true, lt-ltb, le-ltb}
 use Rattle.lists.specs.Order.{_∈_}
 use Rattle.lists.specs.First.{some}
 use Rattle.lists.proofs.Orders.{apart}
 use Rattle.lists.proofs.Pads.{take-pad}
-use Rattle.clock.specs.declared.Dot.{Dot}
 use Rattle.clock.specs.Dots.{clockOf}
 use Rattle.register.specs.declared.Value.{Value}
 use Rattle.register.specs.Values.{valueLimit, noValue, registerOf}
 use Rattle.parts.specs.declared.Entry.{Entry}
 use Rattle.parts.specs.declared.Entries.{Entries}
-use Rattle.parts.specs.Model.{noEntry, entryAs, entriesOf, entriesAs, valuesIn}
+use Rattle.parts.specs.Model.{entryAs, entriesOf, entriesAs, valuesIn}
 use Rattle.records.specs.declared.Record.{Record}
 use Rattle.scan.specs.Scanned.{scanNumber}
 use Rattle.scan.proofs.Eachs.{decide, some-of, both-left, both-right}
@@ -30,8 +29,8 @@ use Rattle.mapreader.specs.Related.{entryFits}
 use Rattle.mapreader.specs.SoFar.{placeOf, EntriesSoFar, EntriesNow}
 use Rattle.mapreader.proofs.Keys.{length-places, get-places}
 use Rattle.mapreader.proofs.Entries.{keys-more, keys-same, entry-other, dot-entry, value-entry, value-dot-entry}
-use Rattle.mapreader.proofs.Counts.{kinds-ascend, KeysCounted, keys-counted, entry-dots-room, values-room, value-dots-room, entries-room}
-use Rattle.mapreader.proofs.Finding.{same-length, in-entries, entry-at, key-known, entries-changed, fits-at, key-new, fits-none}
+use Rattle.mapreader.proofs.Counts.{kinds-ascend, keys-counted, entry-dots-room, values-room, value-dots-room, entries-room}
+use Rattle.mapreader.proofs.Finding.{entry-at, key-known, entries-changed, fits-at, key-new, fits-none}
 
 pub map-on-members : {A B : Type 0} (f g : A → B) (l : List A) → ((x : A) → x ∈ l → g x ≡ f x) → map g l ≡ map f l
 map-on-members f g [] h = refl

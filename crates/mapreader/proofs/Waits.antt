@@ -1,18 +1,16 @@
 -- The waiting removals that records stand for, with one record more.
 -- Assumes nothing.
 use mathlib.Core.Path.{_≡_, refl, ap, ap₂, sym, _∙_}
-use mathlib.Core.Bool.{Bool, true, false, cond, not, _&&_}
+use mathlib.Core.Bool.{Bool, true, false, cond, _&&_}
 use mathlib.Core.Logic.{⊎-elim}
 use mathlib.Core.List.{List, [], _∷_, _++_, map, List·Memᴰ·not-nil, List·Memᴰ·append-cases, List·Memᴰ·eq-of-singleton}
 use Prim.Native.Nat.{ℕ, zero, suc, _+_, _≤_, _<_, max}
 use native.Mathlib.Omega.{arith}
-use native.Mathlib.Numerals.{add-one}
 use lib.Dec.{eqb, ltb, leb}
 use lib.ListN.{length, getD, set, length-map}
 use borrow.Author.Tests.{eq-eqb, ne-eqb, eqb-true, eqb-false, leb-true, le-leb, lt-leb, lt-ltb, le-ltb}
 use Rattle.lists.specs.Order.{_∈_}
 use Rattle.lists.specs.Fold.{fold}
-use Rattle.lists.specs.First.{some}
 use Rattle.lists.specs.Sift.{those}
 use Rattle.lists.proofs.Folds.{fold-append}
 use Rattle.lists.proofs.Orders.{apart}
@@ -23,10 +21,10 @@ use Rattle.records.specs.declared.Record.{Record}
 use Rattle.records.specs.Kinds.{recordOk, maskOf}
 use Rattle.scan.specs.Each.{each}
 use Rattle.scan.specs.Formed.{follows, wellFormed}
-use Rattle.scan.specs.Limits.{outer, middle, middleLimits, limitAt, sameOuter, tally}
+use Rattle.scan.specs.Limits.{outer, middle, middleLimits, limitAt, tally}
 use Rattle.scan.specs.Scanned.{scanNumber}
 use Rattle.scan.proofs.Eachs.{decide, both, both-left, both-right, each-snoc, some-none}
-use Rattle.scan.proofs.Tallies.{tally-new, tally-other}
+use Rattle.scan.proofs.Tallies.{tally-new}
 use Rattle.scan.proofs.Scans.{formed-snoc, outer-key, middle-index}
 use Rattle.scan.proofs.Scanning.{scan-good, scan-last}
 use Rattle.scan.proofs.Rooms.{those-yes, those-no, middle-few, no-key}

@@ -4,7 +4,6 @@ use Prim.Native.Nat.{ℕ, zero, suc, _+_, max}
 use mathlib.Core.Bool.{Bool, cond, _&&_}
 use mathlib.Core.List.{List, [], _∷_, _++_, map}
 use lib.Dec.{eqb}
-use lib.ListN.{length}
 use Rattle.lists.specs.Sift.{those}
 use Rattle.lists.specs.Fold.{fold}
 use Rattle.lists.specs.First.{some}
@@ -17,7 +16,7 @@ use Rattle.parts.specs.Model.{entryAs, removalAs}
 use Rattle.map.specs.declared.Map.{Map}
 use Rattle.map.specs.Model.{mapAs}
 use Rattle.records.specs.declared.Record.{Record}
-use Rattle.clockimage.specs.Image.{isKind, dotOf, dotsIn}
+use Rattle.clockimage.specs.Image.{isKind, dotsIn}
 
 -- records of a kind under a key, under an index, under both
 abbrev pub underKey : ℕ → ℕ → Record → Bool

@@ -1,6 +1,6 @@
 // Images of maps, read: one record at a time.
 ghost use mathlib.Core.Path.{_≡_};
-ghost use mathlib.Core.Bool.{Bool, true, not, _&&_};
+ghost use mathlib.Core.Bool.{true, not};
 ghost use mathlib.Core.List.{List, [], _∷_, _++_};
 ghost use Prim.Native.Nat.{ℕ, _+_, _≤_, _<_};
 ghost use lib.Dec.{eqb};
@@ -11,15 +11,14 @@ ghost use Rattle.register.specs.declared.Value.{Value};
 ghost use Rattle.register.specs.Values.{valueLimit, noValue, valuesOf, registerOf};
 ghost use Rattle.parts.specs.declared.Entry.{Entry};
 ghost use Rattle.parts.specs.declared.Removal.{Removal};
-ghost use Rattle.parts.specs.Model.{entryLimit, waitingLimit, keyLimit, entryAs, entriesOf, entriesAs, removalAs, waitingOf, waitingAs, keysAs};
+ghost use Rattle.parts.specs.Model.{keyLimit, entryAs, entriesOf, entriesAs, removalAs, waitingOf, waitingAs};
 ghost use Rattle.records.specs.declared.Record.{Record};
-ghost use Rattle.scan.specs.Scanned.{scanNumber};
 ghost use Rattle.clockimage.specs.Image.{dotOf};
-ghost use Rattle.mapreader.specs.Reading.{entriesFor, waitingFor};
+ghost use Rattle.mapreader.specs.Reading.{entriesFor};
 ghost use Rattle.map.specs.Model.{noMap};
-ghost use Rattle.mapreader.specs.Related.{entryFits, waitingFits, dotted, entryWhole, ascend, refusedMap, judgedMap, readMap};
+ghost use Rattle.mapreader.specs.Related.{dotted, entryWhole, ascend, refusedMap, judgedMap, readMap};
 ghost use Rattle.scan.specs.Each.{every};
-ghost use Rattle.mapreader.specs.SoFar.{placeOf, EntriesSoFar, EntriesNow, WaitingSoFar, WaitingNow, MapParts, MapSoFar, Growable};
+ghost use Rattle.mapreader.specs.SoFar.{placeOf, EntriesSoFar, EntriesNow, WaitingSoFar, WaitingNow, MapSoFar, Growable};
 use clock::Clock;
 use clock::Dot;
 use map::Map;

@@ -3,7 +3,6 @@
 use mathlib.Core.Path.{_≡_, ap, sym, _∙_}
 use mathlib.Core.List.{List}
 use Prim.Native.Nat.{ℕ}
-use Rattle.clock.specs.declared.Clock.{Clock}
 use Rattle.clock.specs.Dots.{dotsOf, clockOf}
 use Rattle.clock.proofs.Packs.{dots-of}
 use Rattle.records.specs.Bytes.{Bytes}

@@ -1,11 +1,7 @@
 -- What is counted of records: the keys of entries ascend and are those of entry dots, and the waiting removals are one more than the highest index.
 -- Assumes nothing.
 use mathlib.Core.Path.{_≡_, refl, ap, sym, _∙_}
-<<<<<<< HEAD
 use mathlib.Core.Bool.{true, false, cond}
-=======
-use mathlib.Core.Bool.{Bool, true, false, cond}
->>>>>>> back
 use mathlib.Core.Logic.{⊎-elim}
 use mathlib.Core.List.{List, [], _∷_, _++_, List·Memᴰ·head, List·Memᴰ·tail, List·Memᴰ·not-nil, List·Memᴰ·cases-cons, List·Memᴰ·append-cases, List·Memᴰ·eq-of-singleton, Memᴰ·cast}
 use Prim.Native.Nat.{ℕ, _+_, _≤_, _<_, max}

@@ -1,12 +1,9 @@
 pub mod Narrows
 pub mod Fields
 pub mod Sizes
-pub mod Written
-pub mod Rising
-pub mod One
-pub mod Clocks
-pub mod Ops
 pub mod Stands
+pub mod Rising
+pub mod Written
 pub mod Selected
 pub mod Places
 pub mod Keyed
@@ -20,3 +17,7 @@ pub mod Remade
 pub mod Standing
 pub mod Coming
 pub mod Rewritten
+pub mod One
+pub mod Clocks
+pub mod Ops
+pub mod Maps

@@ -1,28 +1,25 @@
 -- An operation has one image.
 -- Assumes nothing.
 use mathlib.Core.Path.{_≡_, refl, ap, ap₂, sym, _∙_}
-use mathlib.Core.Bool.{Bool, true, false, cond, _&&_}
+use mathlib.Core.Bool.{Bool, true, false, cond}
 use mathlib.Core.List.{List, [], _∷_, map}
 use Prim.Native.Nat.{ℕ}
 use native.Mathlib.Omega.{arith}
-use borrow.Author.Tests.{eqb-true, eqb-false}
+use borrow.Author.Tests.{eqb-true}
 use lib.Dec.{eqb}
 use lib.ListN.{length}
 use Rattle.lists.specs.Fold.{fold}
 use Rattle.lists.specs.Sift.{those}
 use Rattle.clock.specs.Dots.{dotsOf, clockOf}
-use Rattle.parts.specs.declared.Update.{Update}
 use Rattle.parts.specs.Model.{underOf, listedIn, removalAs, noRemoval, noUpdate}
 use Rattle.map.specs.declared.Op.{Op}
 use Rattle.records.specs.declared.Record.{Record}
-use Rattle.records.specs.Bytes.{Bytes}
 use Rattle.records.specs.Records.{recordsOf}
 use Rattle.scan.specs.Scanned.{scanNumber}
 use Rattle.scan.proofs.Eachs.{decide, both-left, both-right}
 use Rattle.clockimage.specs.Image.{isKind, dotOf}
 use Rattle.clockimage.proofs.RoundTrip.{accepted}
-use Rattle.opimage.specs.OpImage.{opLongest, opImage, howMany, removes, updates, opRelated, noRecord, recordOf, removalIn, updateIn, opIn, refusedOp, judgedOp, readOp}
-use Rattle.opimage.specs.declared.ReadOp.{ReadOp}
+use Rattle.opimage.specs.OpImage.{opLongest, opImage, howMany, removes, updates, opRelated, noRecord, recordOf, opIn, refusedOp, judgedOp, readOp}
 use Rattle.opimage.proofs.RoundTrip.{last-of, op-accepted}
 use Rattle.opimage.proofs.Written.{read-removal-written, read-update-written}
 use Rattle.accepted.proofs.Ops.{op-within}

@@ -6,6 +6,7 @@ use mathlib.Core.Logic.{⊎-elim}
 use mathlib.Core.List.{List, [], _∷_, _++_, map, List·Memᴰ·head, List·Memᴰ·tail, List·Memᴰ·not-nil, List·Memᴰ·append-cases, List·Memᴰ·eq-of-singleton, Memᴰ·of-map}
 use Prim.Native.Nat.{ℕ, _+_, _≤_, _<_}
 use native.Mathlib.Omega.{arith}
+use lib.ListN.{length}
 use borrow.Author.Tests.{ltb-true}
 use Rattle.lists.specs.Order.{_∈_, Ascending, nil, next, by}
 use Rattle.lists.proofs.Orders.{tail-ascends, head-before}
@@ -26,7 +27,14 @@ use Rattle.clockimage.proofs.RoundTrip.{dots-ascend}
 use Rattle.mapimage.specs.Sorted.{inOrder}
 use Rattle.mapimage.specs.MapImage.{flatFrom, valueRecord, valueRecords, entryRecords, waitingDots, keyNumbers, numberRecord, waitingKeys, mapRecords}
 use Rattle.mapimage.proofs.Sorts.{order-ascends}
-use Rattle.oneimage.proofs.Written.{flat-every}
+
+-- what holds of all that f gives, at every place, holds of the whole
+flat-every : {A B : Type 0} (P : B → Type 0) (f : ℕ → A → List B) (i : ℕ) (l : List A) → ((j : ℕ) (x : A) → j < i + length l → x ∈ l → (z : B) → z ∈ f j x → P z) → (z : B) → z ∈ flatFrom f i l → P z
+unfolding flatFrom
+flat-every P f i [] g z m = absurd (List·Memᴰ·not-nil m)
+flat-every P f i (x ∷ l) g z m =
+    ⊎-elim (λ a. g i x (omega arith) (List·Memᴰ·head refl) z a)
+    (λ a. flat-every P f (i + 1) l (λ j y p b. g j y (omega arith) (List·Memᴰ·tail b)) z a) (List·Memᴰ·append-cases (f i x) m)
 
 pub by-kind : (x y : Record) → x .kind < y .kind → before x y ≡ true
 by-kind x y k = fields-before (record { kind = omega arith; key = λ e. absurd (omega arith); index = λ e _. absurd (omega arith); actor = λ e _ _. absurd (omega arith) })

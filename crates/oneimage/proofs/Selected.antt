@@ -1,11 +1,7 @@
 -- Those of ascending records that pass a test are an ascending list of which each stands there and passes, and that holds all that pass.
 -- Assumes nothing.
 use mathlib.Core.Path.{_≡_, refl, ap, ap₂, _∙_}
-<<<<<<< HEAD
 use mathlib.Core.Bool.{Bool, true}
-=======
-use mathlib.Core.Bool.{Bool, true, false}
->>>>>>> back
 use mathlib.Core.List.{List, [], _∷_, map, List·Memᴰ·head, List·Memᴰ·tail, Memᴰ·cast, Memᴰ·map, Memᴰ·of-map}
 use native.Mathlib.Omega.{arith}
 use Rattle.lists.specs.Order.{_∈_, Ascending, Strict}

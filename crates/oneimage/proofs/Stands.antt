@@ -3,11 +3,7 @@
 use mathlib.Core.Path.{_≡_, refl, ap, sym, _∙_}
 use mathlib.Core.Bool.{cond}
 use mathlib.Core.Logic.{⊎-elim}
-<<<<<<< HEAD
 use mathlib.Core.List.{List, [], _∷_, List·Memᴰ·head, List·Memᴰ·tail, List·Memᴰ·not-nil, List·Memᴰ·append-cases, List·Memᴰ·eq-of-singleton, Memᴰ·cast, Memᴰ·map, Memᴰ·of-map, Memᴰ·append-left, Memᴰ·append-right}
-=======
-use mathlib.Core.List.{List, [], _∷_, map, List·Memᴰ·head, List·Memᴰ·tail, List·Memᴰ·not-nil, List·Memᴰ·append-cases, List·Memᴰ·eq-of-singleton, Memᴰ·cast, Memᴰ·map, Memᴰ·of-map, Memᴰ·append-left, Memᴰ·append-right}
->>>>>>> back
 use Prim.Native.Nat.{ℕ, zero, suc, _+_, _<_}
 use native.Mathlib.Omega.{arith}
 use native.Mathlib.Nat.{not-suc-le-zero, le-of-suc-le-suc}
@@ -23,11 +19,7 @@ use Rattle.parts.specs.Model.{dotsIn, valuesIn, underOf, listedIn}
 use Rattle.records.specs.declared.Record.{Record}
 use Rattle.clockimage.specs.Image.{dotRecord, dotRecords}
 use Rattle.mapimage.specs.Sorted.{inOrder}
-<<<<<<< HEAD
 use Rattle.mapimage.specs.MapImage.{flatFrom, valueRecord, valueRecords, entryRecords, waitingDots, keyNumber, keyNumbers, numberRecord, recordsIn}
-=======
-use Rattle.mapimage.specs.MapImage.{flatFrom, valueRecord, valueRecords, entryRecords, waitingDots, keyNumber, keyNumbers, numberRecord, waitingKeys, recordsIn}
->>>>>>> back
 use Rattle.mapimage.proofs.Sorts.{order-has, order-from-list}
 
 -- x stands at place j, counted from 0
@@ -65,11 +57,7 @@ module _ {A : Type 0} where
 
 -- what f gives at a place stands in the whole, and nothing else
 module _ {A B : Type 0} (f : ℕ → A → List B) where
-<<<<<<< HEAD
   pub flat-has-from : (i : ℕ) {x : A} {j : ℕ} {l : List A} → Place x j l → (z : B) → z ∈ f (i + j) x → z ∈ flatFrom f i l
-=======
-  flat-has-from : (i : ℕ) {x : A} {j : ℕ} {l : List A} → Place x j l → (z : B) → z ∈ f (i + j) x → z ∈ flatFrom f i l
->>>>>>> back
   unfolding flatFrom
   flat-has-from i (first {l = l} e) z m = let same : i + 0 ≡ i = omega arith in Memᴰ·append-left (flatFrom f (i + 1) l) (rw (e, same) at m)
   flat-has-from i {x} (later {y = y} {l = l} {j = j} p) z m =
@@ -81,11 +69,7 @@ module _ {A B : Type 0} (f : ℕ → A → List B) where
     pub stands : Place source place l
     pub given : z ∈ f (i + place) source
 
-<<<<<<< HEAD
   pub flat-means-from : (i : ℕ) (l : List A) (z : B) → z ∈ flatFrom f i l → Flat i l z
-=======
-  flat-means-from : (i : ℕ) (l : List A) (z : B) → z ∈ flatFrom f i l → Flat i l z
->>>>>>> back
   unfolding flatFrom
   flat-means-from i [] z m = absurd (List·Memᴰ·not-nil m)
   flat-means-from i (x ∷ l) z m =

@@ -1,8 +1,7 @@
 -- The longest operation, computed: a removal with every place in use.
 -- Assumes nothing.
 use mathlib.Core.Path.{_≡_, refl}
-use mathlib.Core.List.{List, [], _∷_}
-use Prim.Native.Nat.{ℕ, _*_}
+use Prim.Native.Nat.{_*_}
 use lib.ListN.{length, replicate}
 use Rattle.lists.specs.Pad.{pad}
 use Rattle.clock.specs.Dots.{noDot}

@@ -1,24 +1,23 @@
 -- The parts of an operation with one record more.
 -- Assumes nothing.
 use mathlib.Core.Path.{_≡_, refl, ap, sym, _∙_}
-use mathlib.Core.Bool.{Bool, true, false, cond}
+use mathlib.Core.Bool.{Bool, true, cond}
 use mathlib.Core.List.{List, [], _∷_, _++_, map}
-use Prim.Native.Nat.{ℕ, _+_, _≤_, _<_, min}
+use Prim.Native.Nat.{ℕ, _+_, _<_, min}
 use native.Mathlib.Omega.{arith}
 use lib.Dec.{eqb}
 use lib.ListN.{length, getD, set, length-append, length-map}
 use lib.Seq.{getD-set-same, getD-set-other}
-use borrow.Author.Tests.{eqb-true, eqb-false, eq-eqb, ne-eqb}
+use borrow.Author.Tests.{eqb-true, eqb-false}
 use Rattle.lists.specs.Sift.{those}
 use Rattle.lists.specs.Fold.{fold}
 use Rattle.lists.proofs.Folds.{fold-append}
-use Rattle.clock.specs.declared.Dot.{Dot}
 use Rattle.records.specs.declared.Record.{Record}
 use Rattle.scan.specs.Scanned.{scanNumber}
 use Rattle.scan.proofs.Eachs.{decide}
 use Rattle.scan.proofs.Rooms.{those-yes, those-no, outer-room, kind-range}
 use Rattle.scan.proofs.Scanning.{scan-good, scan-last}
-use Rattle.clockimage.specs.Image.{isKind, dotOf, dotsIn}
+use Rattle.clockimage.specs.Image.{isKind}
 use Rattle.clockimage.proofs.Dots.{map-snoc}
 use Rattle.parts.specs.Model.{keyLimit}
 use Rattle.opimage.specs.OpImage.{howMany, recordOf, keysIn}

@@ -1,18 +1,17 @@
 -- What was read as an operation writes as it was.
 -- Assumes nothing.
 use mathlib.Core.Path.{_≡_, refl, ap, ap₂, sym, _∙_}
-use mathlib.Core.Bool.{Bool, true, false, cond, _&&_, _||_}
+use mathlib.Core.Bool.{Bool, true, cond}
 use mathlib.Core.List.{List, [], _∷_, _++_, map, append-nil, List·Memᴰ·head, List·Memᴰ·tail}
-use Prim.Native.Nat.{ℕ, suc, _+_, _≤_, _<_}
+use Prim.Native.Nat.{ℕ, _+_}
 use native.Mathlib.Omega.{arith}
 use lib.Dec.{eqb, leb}
 use lib.Bits.{bitAnd}
 use lib.ListN.{length}
-use borrow.Author.Tests.{eq-eqb, ne-eqb, eqb-true, eqb-false, le-leb, lt-leb}
-use Rattle.lists.specs.Order.{_∈_, Ascending}
+use borrow.Author.Tests.{eqb-true, eqb-false, le-leb, lt-leb}
+use Rattle.lists.specs.Order.{_∈_}
 use Rattle.lists.specs.Sift.{sift, those}
 use Rattle.lists.specs.Fold.{fold}
-use Rattle.lists.proofs.Orders.{apart}
 use Rattle.lists.proofs.Pads.{take-pad}
 use Rattle.clock.specs.Dots.{dotLimit, noDot, dotsOf}
 use Rattle.parts.specs.Model.{keyLimit}
@@ -29,7 +28,7 @@ use Rattle.scan.proofs.Builds.{formed-ascends}
 use Rattle.scan.proofs.Splits.{ofKind, from, split, those-none}
 use Rattle.clockimage.specs.Image.{isKind, dotOf, dotRecord, dotRecords, dotsIn}
 use Rattle.clockimage.proofs.RoundTrip.{those-all, accepted}
-use Rattle.opimage.specs.OpImage.{opLongest, keyRecord, removalHead, updateHead, putValue, opRecords, opImage, howMany, removes, updates, opRelated, noRecord, recordOf, keysIn, removalIn, updateIn, opIn, judgedOp, refusedOp, readOp}
+use Rattle.opimage.specs.OpImage.{opLongest, keyRecord, removalHead, updateHead, putValue, opRecords, opImage, howMany, removes, updates, opRelated, noRecord, recordOf, keysIn, updateIn, opIn, judgedOp, refusedOp, readOp}
 
 -- members of those that pass
 pub those-member : {A : Type 0} (test : A → Bool) (l : List A) (x : A) → x ∈ those test l → (x ∈ l) × (test x ≡ true)

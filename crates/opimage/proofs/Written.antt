@@ -1,12 +1,12 @@
 -- What was written as an operation reads as it was.
 -- Assumes nothing.
 use mathlib.Core.Path.{_≡_, refl, ap, ap₂, sym, _∙_}
-use mathlib.Core.Bool.{Bool, true, false, cond, _&&_, _||_}
-use mathlib.Core.Logic.{_⊎_, inl, inr, ⊎-elim}
-use mathlib.Core.List.{List, [], _∷_, _++_, map, append-nil, List·Memᴰ·head, List·Memᴰ·tail, List·Memᴰ·not-nil, List·Memᴰ·cases-cons, List·Memᴰ·append-cases, Memᴰ·append-left, Memᴰ·append-right, Memᴰ·map, Memᴰ·of-map}
-use Prim.Native.Nat.{ℕ, _+_, _*_, _%_, _^_, _≤_, _<_}
+use mathlib.Core.Bool.{true, false, cond}
+use mathlib.Core.Logic.{_⊎_, ⊎-elim}
+use mathlib.Core.List.{List, [], _∷_, _++_, map, append-nil, List·Memᴰ·head, List·Memᴰ·tail, List·Memᴰ·not-nil, List·Memᴰ·cases-cons, List·Memᴰ·append-cases, Memᴰ·map, Memᴰ·of-map}
+use Prim.Native.Nat.{ℕ, _+_, _%_, _^_, _≤_, _<_}
 use native.Mathlib.Omega.{arith}
-use lib.Dec.{eqb, ltb}
+use lib.Dec.{eqb}
 use lib.ListN.{length, length-append, length-map}
 use borrow.Author.Tests.{eq-eqb, ne-eqb, eqb-true, lt-ltb, le-ltb, ltb-true}
 use Rattle.lists.specs.Order.{_∈_, Ascending, nil, next, by}
@@ -24,14 +24,13 @@ use Rattle.records.specs.Kinds.{before, recordOk}
 use Rattle.records.specs.Records.{bytesOf}
 use Rattle.records.proofs.RoundTrips.{Fitting, length-bytes, read-written}
 use Rattle.scan.specs.Limits.{outer, middle, inner, sameKind, sameOuter, sameMiddle}
-use Rattle.scan.specs.Scanned.{scanNumber}
-use Rattle.scan.proofs.Eachs.{decide, both-left}
-use Rattle.scan.proofs.Befores.{Before, fields-before}
+use Rattle.scan.proofs.Eachs.{both-left}
+use Rattle.scan.proofs.Befores.{fields-before}
 use Rattle.scan.proofs.Builds.{Among, scan-of}
 use Rattle.scan.proofs.Splits.{those-none}
-use Rattle.clockimage.specs.Image.{isKind, dotOf, dotRecord, dotRecords, dotsIn, imageOf, DotFits}
+use Rattle.clockimage.specs.Image.{isKind, dotOf, dotRecord, dotRecords, DotFits}
 use Rattle.clockimage.proofs.RoundTrip.{dots-ascend, dots-back, those-all}
-use Rattle.opimage.specs.OpImage.{opLongest, keyRecord, removalHead, updateHead, putValue, howMany, opRelated, removes, updates, noRecord, recordOf, keysIn, removalIn, updateIn, opIn, judgedOp, readOp}
+use Rattle.opimage.specs.OpImage.{opLongest, keyRecord, removalHead, updateHead, putValue, opRelated, noRecord, recordOf, opIn, readOp}
 use Rattle.opimage.proofs.RoundTrip.{last-of, only}
 
 -- lists one behind the other, by kind

@@ -7,7 +7,8 @@ use native.Mathlib.Omega.{arith}
 use lib.ListN.{length, drop}
 use Rattle.mapimage.specs.MapImage.{mapLongest}
 use Rattle.answers.specs.Answer.{wordOf, outOf, Answered}
-use Rattle.order.specs.Calls.{applyAnswer, Done, step}
+use Rattle.castribba.specs.Calls.{applyAnswer}
+use Rattle.order.specs.Calls.{Done, step}
 
 pub record Left (s o entry exit : List ℕ) (word : ℕ) : Type 0 where
   pub length-given : word ≡ length (step s o)

@@ -4,7 +4,7 @@ use mathlib.Core.Path.{_≡_, refl}
 use mathlib.Core.Bool.{Bool, true, false, cond}
 use mathlib.Core.Logic.{⊎-elim}
 use mathlib.Core.List.{List, [], _∷_, List·Memᴰ·not-nil, List·Memᴰ·eq-of-singleton}
-use Prim.Native.Nat.{ℕ, _<_, _^_}
+use Prim.Native.Nat.{_<_}
 use lib.Dec.{ltb, leb}
 use Rattle.lists.specs.Order.{_∈_, by}
 use Rattle.lists.proofs.Orders.{by-strict}
@@ -17,7 +17,6 @@ use Rattle.clock.specs.declared.Dot.{Dot}
 use Rattle.clock.specs.Dots.{dotLimit, noDot, dotsOf, counterIn, cutDots, beyond, largerDot, joinDots, addDot}
 use Rattle.clock.specs.Lawful.{Lawful}
 use Rattle.clock.proofs.Joins.{lawful-nil, lawful-one}
-use Rattle.register.specs.declared.Value.{Value}
 use Rattle.register.specs.Values.{cutValues, putValues}
 use Rattle.register.proofs.Kept.{cut-each, put-each}
 use Rattle.parts.specs.declared.Entry.{Entry}
@@ -27,19 +26,19 @@ use Rattle.parts.specs.Model.{dotsIn, valuesIn, entryAs, underOf, listedIn}
 use Rattle.parts.specs.Entries.{cutEntry, listed, removeFrom, removeEntries, putEntry, putEntries}
 use Rattle.parts.specs.Waits.{waits, unite, uniteInto}
 use Rattle.parts.specs.Valid.{ValidRemoval, ValidWaiting}
-use Rattle.parts.proofs.Pieces.{dots-in, values-in, entries-of, waiting-of}
+use Rattle.parts.proofs.Pieces.{dots-in, entries-of}
 use Rattle.parts.proofs.Wholes.{at-every, put-every}
 use Rattle.parts.proofs.Listed.{remove-entries-each}
 use Rattle.parts.proofs.Waits.{unite-each, union-means, unite-keys}
 use Rattle.parts.proofs.Trades.{waits-some, waiting-one}
 use Rattle.map.specs.declared.Map.{Map}
 use Rattle.map.specs.declared.Op.{Op}
-use Rattle.map.specs.Model.{seenBy, entriesIn, waitingIn, mapAs}
+use Rattle.map.specs.Model.{seenBy, entriesIn, waitingIn}
 use Rattle.map.specs.Removing.{remove, afresh}
 use Rattle.map.specs.Updating.{update}
 use Rattle.map.specs.Applying.{apply}
 use Rattle.map.specs.Valid.{Valid, ValidUpdate, ValidOp}
-use Rattle.map.proofs.Kept.{seen-of, Under, under-own, heldAfter, remove-laid, under-remove, cleared, valid-cleared, updated, valid-updated}
+use Rattle.map.proofs.Kept.{Under, under-own, heldAfter, remove-laid, under-remove, cleared, valid-cleared, updated, valid-updated}
 use Rattle.clockimage.specs.Image.{DotFits}
 use Rattle.oneimage.specs.Narrow.{NarrowDots, NarrowValue, NarrowEntry, NarrowRemoval, Narrow, NarrowUpdate, NarrowOp}
 use Rattle.oneimage.proofs.Narrows.{narrow-as, narrow-map}

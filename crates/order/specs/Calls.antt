@@ -7,21 +7,12 @@ use Prim.Native.Nat.{ℕ, _≤_}
 use lib.ListN.{length}
 use Rattle.lists.specs.Fold.{fold}
 use Rattle.parts.specs.declared.Removal.{Removal}
-use Rattle.map.specs.declared.Judged.{Judged}
-use Rattle.map.specs.Applying.{apply}
-use Rattle.map.specs.Judging.{judged}
 use Rattle.records.specs.Bytes.{Bytes}
 use Rattle.opimage.specs.OpImage.{readOp}
-use Rattle.mapimage.specs.MapImage.{mapLongest, mapImage}
+use Rattle.mapimage.specs.MapImage.{mapLongest}
 use Rattle.mapreader.specs.Related.{readMap}
-use Rattle.answers.specs.Answer.{Answer, numberOf}
-
--- what castribba_apply answers, as its contract has it
-abbrev pub mapAnswer : ℕ → ℕ → Judged → Answer
-mapAnswer first second j = record { first = first; second = second; own = j .number; bytes = mapImage (j .map) }
-
-abbrev pub applyAnswer : List ℕ → List ℕ → Answer
-applyAnswer map op = mapAnswer (readMap map .number) (readOp op .number) (judged (apply (readMap map .map) (readOp op .op)))
+use Rattle.answers.specs.Answer.{numberOf}
+use Rattle.castribba.specs.Calls.{applyAnswer}
 
 -- the call answers 0 with every output of the longest size
 abbrev pub Done : List ℕ → List ℕ → Type 0

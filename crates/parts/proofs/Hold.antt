@@ -1,30 +1,27 @@
 -- Laws of removals united one after the other, as a reset leaves them.
 -- Assumes nothing.
 use mathlib.Core.Path.{_≡_, refl, ap, sym, _∙_}
-use mathlib.Core.Bool.{Bool, true, false, not, cond}
+use mathlib.Core.Bool.{Bool, true, false, not}
 use mathlib.Core.Logic.{⊎-elim}
 use mathlib.Core.List.{List, [], _∷_, List·Memᴰ·not-nil}
 use Prim.Native.Nat.{ℕ, _+_, _≤_, _<_}
 use native.Mathlib.Omega.{arith}
-use borrow.Author.Tests.{ltb-true, lt-ltb, le-leb}
+use borrow.Author.Tests.{ltb-true, lt-ltb}
 use lib.ListN.{length, drop, getD, take}
 use Rattle.lists.specs.First.{some}
 use Rattle.lists.specs.Fold.{fold}
-use Rattle.lists.specs.Order.{_∈_, by}
+use Rattle.lists.specs.Order.{_∈_}
 use Rattle.lists.specs.Sift.{sift}
-use Rattle.lists.specs.Weave.{weave}
-use Rattle.lists.proofs.Orders.{apart}
 use Rattle.lists.proofs.Sifts.{length-sift}
 use Rattle.lists.proofs.Somes.{some-means, some-holds}
-use Rattle.lists.proofs.Rests.{sift-yes, sift-no, drop-end}
-use Rattle.lists.proofs.Weaves.{weave-longer, weave-shorter}
+use Rattle.lists.proofs.Rests.{sift-yes, sift-no}
+use Rattle.lists.proofs.Weaves.{weave-shorter}
 use Rattle.clock.specs.declared.Dot.{Dot}
 use Rattle.clock.specs.Dots.{isEmpty}
 use Rattle.parts.specs.declared.Removal.{Removal}
-use Rattle.parts.specs.declared.Gathered.{Gathered}
 use Rattle.parts.specs.declared.Remnant.{Remnant}
-use Rattle.parts.specs.Model.{waitingLimit, keyLimit, keysAs, underOf, listedIn, waitingOf, waitingAs, overlong, gathered, remnantOf}
-use Rattle.parts.specs.Waits.{removalBefore, unionKeys, unite, uniteAll, uniteInto, cutRemoval, remains, resetWaiting}
+use Rattle.parts.specs.Model.{keyLimit, underOf, listedIn, waitingOf, waitingAs, overlong, remnantOf}
+use Rattle.parts.specs.Waits.{removalBefore, unite, uniteAll, uniteInto, cutRemoval, remains, resetWaiting}
 use Rattle.parts.specs.Valid.{ValidRemoval, ValidWaiting}
 use Rattle.parts.proofs.Packs.{noRemovalRead, waiting-from}
 use Rattle.parts.proofs.Waits.{unite-left, unite-keys}

@@ -1,6 +1,6 @@
 -- An entry stays valid: cut, with a dot and a put, merged, and under a larger clock.
 -- Assumes nothing.
-use mathlib.Core.Path.{_≡_, ap, ap₂, sym, _∙_}
+use mathlib.Core.Path.{_≡_, ap, sym, _∙_}
 use mathlib.Core.Bool.{Bool, true, false, cond}
 use mathlib.Core.List.{List, [], List·Memᴰ·not-nil}
 use Prim.Native.Nat.{ℕ, _<_}
@@ -19,7 +19,7 @@ use Rattle.register.proofs.Kept.{put-each, merge-each}
 use Rattle.parts.specs.declared.Entry.{Entry}
 use Rattle.parts.specs.declared.Removal.{Removal}
 use Rattle.parts.specs.declared.Update.{Update}
-use Rattle.parts.specs.Model.{dotsIn, valuesIn, entryAs, Laid, underOf, listedIn}
+use Rattle.parts.specs.Model.{dotsIn, valuesIn, entryAs, underOf, listedIn}
 use Rattle.parts.specs.Entries.{cutEntry, listed, removeFrom, putEntry, alone, keepDots, together}
 use Rattle.parts.specs.Valid.{ValidValue, ValidEntry}
 use Rattle.parts.proofs.Pieces.{dots-in, values-in}

@@ -1,6 +1,6 @@
 -- Laws of entries and removals as packs of their lists.
 -- Assumes nothing.
-use mathlib.Core.Path.{_≡_, refl, ap, sym, _∙_}
+use mathlib.Core.Path.{_≡_, ap, _∙_}
 use mathlib.Core.Bool.{Bool, true, false, cond}
 use mathlib.Core.List.{List, [], _∷_, _++_}
 use Prim.Native.Nat.{ℕ, _+_, _≤_, _<_}
@@ -8,16 +8,15 @@ use lib.ListN.{length, set}
 use Rattle.lists.proofs.Pads.{push-pad, length-snoc}
 use Rattle.lists.proofs.Sifts.{length-sift}
 use Rattle.clock.specs.declared.Dot.{Dot}
-use Rattle.clock.specs.Dots.{noDot, dotLimit, clockOf, covers, cutDots}
+use Rattle.clock.specs.Dots.{clockOf, covers, cutDots}
 use Rattle.register.specs.declared.Value.{Value}
-use Rattle.register.specs.Values.{noValue, valueLimit, wideOf, cutValues}
+use Rattle.register.specs.Values.{wideOf, cutValues}
 use Rattle.parts.specs.declared.Entry.{Entry}
 use Rattle.parts.specs.declared.Entries.{Entries}
-use Rattle.parts.specs.declared.Hand.{Hand}
 use Rattle.parts.specs.declared.Removal.{Removal}
 use Rattle.parts.specs.declared.Waiting.{Waiting}
 use Rattle.parts.specs.declared.Update.{Update}
-use Rattle.parts.specs.Model.{entryLimit, waitingLimit, noEntry, noRemoval, dotsIn, valuesIn, entryAs, underOf, listedIn, entriesOf, entriesAs, waitingOf, waitingAs, handOf, Laid}
+use Rattle.parts.specs.Model.{entryLimit, waitingLimit, noEntry, noRemoval, dotsIn, valuesIn, entryAs, entriesAs, waitingOf, waitingAs, handOf, Laid}
 use Rattle.parts.specs.Entries.{stays, removeFrom, removeEntries, putEntry, alone, together}
 use Rattle.parts.proofs.Pieces.{dots-in, values-in, waiting-of}
 

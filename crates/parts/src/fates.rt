@@ -1,8 +1,8 @@
 // What becomes of an entry, and of all entries, in the order of their keys.
 ghost use mathlib.Core.Path.{_≡_};
-ghost use mathlib.Core.Bool.{Bool, true, false};
+ghost use mathlib.Core.Bool.{false};
 ghost use mathlib.Core.List.{List, [], _∷_, _++_, map};
-ghost use Prim.Native.Nat.{ℕ, _≤_, _<_, _+_};
+ghost use Prim.Native.Nat.{_≤_, _<_, _+_};
 ghost use lib.Dec.{eqb};
 ghost use lib.ListN.{length, drop};
 ghost use Rattle.lists.specs.Sift.{sift, those};

@@ -1,13 +1,13 @@
 -- Laws of bytes put in place, one behind the other.
 -- Assumes nothing.
-use mathlib.Core.Path.{_≡_, refl, sym, ap, _∙_}
+use mathlib.Core.Path.{_≡_, sym, _∙_}
 use mathlib.Core.List.{List, [], _∷_, _++_, append-assoc}
-use Prim.Native.Nat.{ℕ, _+_, _≤_, _<_}
+use Prim.Native.Nat.{ℕ, _+_, _≤_}
 use native.Mathlib.Nat.{add-assoc}
 use native.Mathlib.Numerals.{add-one}
 use native.Mathlib.Omega.{arith}
 use lib.ListN.{length, take, drop, set, length-append, length-drop}
-use lib.Seq.{set-split, take-at, drop-at, drop-drop, length-take-le, take-add, take-append-seam}
+use lib.Seq.{set-split, take-at, drop-at, drop-drop, length-take-le}
 use Rattle.records.specs.Bytes.{placed}
 
 pub length-placed : (at : ℕ) (b s : List ℕ) → at + length b ≤ length s → length (placed at b s) ≡ length s

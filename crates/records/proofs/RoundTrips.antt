@@ -4,12 +4,11 @@ use mathlib.Core.Path.{_≡_, refl, sym, ap, ap₂, _∙_}
 use mathlib.Core.List.{List, [], _∷_, _++_, append-assoc, append-nil, List·Memᴰ·head, List·Memᴰ·tail, List·Memᴰ·not-nil, List·Memᴰ·cases-cons}
 use mathlib.Core.Logic.{⊎-elim}
 use Prim.Native.Nat.{ℕ, zero, suc, _+_, _*_, _/_, _%_, _^_, _≤_, _<_}
-use native.Mathlib.Nat.{add-assoc}
 use native.Mathlib.Omega.{arith}
 use lib.ListN.{length, take, drop, length-append}
 use lib.Seq.{take-add, drop-drop, take-length}
 use Rattle.lists.specs.Order.{_∈_}
-use Rattle.records.specs.Bytes.{numAt, numBytes, Bytes}
+use Rattle.records.specs.Bytes.{numBytes, Bytes}
 use Rattle.records.specs.Records.{recordFrom, recordsFrom, recordsOf, recordBytes, bytesOf}
 use Rattle.records.specs.declared.Record.{Record}
 use Rattle.records.proofs.Numbers.{num-bytes, bytes-num, num-lt}

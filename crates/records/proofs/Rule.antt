@@ -1,11 +1,9 @@
 -- A rule of the whole table of masks, by one test that antt computes at each row.
 -- Assumes nothing.
-use mathlib.Core.Path.{_≡_}
-use mathlib.Core.Bool.{Bool, true, false, _&&_, _||_, not, Bool·beq}
+use mathlib.Core.Bool.{Bool, _&&_, _||_, Bool·beq}
 use Prim.Native.Nat.{ℕ, _<_}
-use lib.Dec.{T, eqb, ltb, ltb→lt}
+use lib.Dec.{T, eqb, ltb}
 use lib.Bits.{bitAnd}
-use lib.ListN.{getD, length}
 use Rattle.records.specs.Kinds.{masks, maskOf}
 use Rattle.records.proofs.Table.{at}
 

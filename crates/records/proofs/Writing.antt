@@ -5,7 +5,6 @@ use mathlib.Core.List.{List, [], _∷_, _++_, append-nil, append-assoc}
 use Prim.Native.Nat.{ℕ, _+_, _*_, _≤_}
 use native.Mathlib.Omega.{arith}
 use lib.ListN.{length, length-append}
-use Rattle.records.specs.Bytes.{placed}
 use Rattle.records.specs.Records.{recordBytes, bytesOf, Wrote}
 use Rattle.records.specs.declared.Record.{Record}
 use Rattle.records.proofs.Placing.{placed-none, placed-on, length-placed}

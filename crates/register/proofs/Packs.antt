@@ -1,12 +1,11 @@
 -- Laws of a register as a pack of its values, and of the limit.
 -- Assumes nothing.
-use mathlib.Core.Path.{_≡_, refl, ap, sym, _∙_}
+use mathlib.Core.Path.{_≡_, refl}
 use mathlib.Core.Bool.{true, false}
 use mathlib.Core.List.{List, [], _∷_, _++_}
-use Prim.Native.Nat.{ℕ, _+_, _≤_, _<_}
-use native.Mathlib.Omega.{arith}
+use Prim.Native.Nat.{_+_, _≤_, _<_}
 use lib.Dec.{ltb}
-use lib.ListN.{length, set, length-append}
+use lib.ListN.{length, set}
 use Rattle.lists.proofs.Pads.{take-pad, push-pad, length-snoc}
 use Rattle.lists.proofs.Sifts.{length-sift}
 use Rattle.lists.proofs.Limits.{within-fits, within-exceeds, flag-set, flag-clear, flag-is}
@@ -15,7 +14,7 @@ use Rattle.register.specs.declared.Value.{Value}
 use Rattle.register.specs.declared.Register.{Register}
 use Rattle.register.specs.declared.Wide.{Wide}
 use Rattle.register.specs.declared.Settled.{Settled}
-use Rattle.register.specs.Values.{valueLimit, wideRoom, noValue, valuesOf, wideValues, registerOf, wideOf, settled, alive, cutValue, cutValues, standing, remaining, putValues, oursLeft, mergeValues}
+use Rattle.register.specs.Values.{valueLimit, wideRoom, noValue, valuesOf, wideValues, registerOf, wideOf, settled, alive, cutValue, cutValues, standing, remaining}
 
 -- what the logic reads past the end of an array of values
 abbrev pub noneRead : Value

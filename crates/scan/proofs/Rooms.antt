@@ -1,9 +1,9 @@
 -- What well-formed records within the limits leave room for: one more of each thing that an image's reader stores.
 -- Assumes nothing.
 use mathlib.Core.Path.{_≡_, refl, ap, sym, _∙_}
-use mathlib.Core.Bool.{Bool, true, false, not, cond, _&&_, _||_}
+use mathlib.Core.Bool.{Bool, true, false, _&&_}
 use mathlib.Core.Logic.{⊎-elim}
-use mathlib.Core.List.{List, [], _∷_, _++_, append-assoc, List·Memᴰ·head, List·Memᴰ·tail, List·Memᴰ·not-nil, List·Memᴰ·cases-cons, Memᴰ·append-left, Memᴰ·append-right}
+use mathlib.Core.List.{List, [], _∷_, _++_, List·Memᴰ·head, List·Memᴰ·tail, List·Memᴰ·not-nil, List·Memᴰ·cases-cons}
 use Prim.Native.Nat.{ℕ, zero, suc, _+_, _≤_, _<_}
 use native.Mathlib.Omega.{arith}
 use lib.Dec.{eqb, leb}
@@ -12,16 +12,15 @@ use lib.ListN.{length, length-append}
 use borrow.Author.Tests.{eq-eqb, ne-eqb, eqb-true, leb-true, ltb-true}
 use Rattle.lists.specs.Order.{_∈_}
 use Rattle.lists.specs.Sift.{sift, those}
-use Rattle.lists.specs.First.{some}
 use Rattle.lists.proofs.Orders.{apart}
 use Rattle.records.specs.declared.Record.{Record}
-use Rattle.records.specs.Kinds.{before, recordOk, fieldsOk, counterOk, fieldOk, maskOf}
-use Rattle.scan.specs.Each.{every, eachAfter, countAfter}
+use Rattle.records.specs.Kinds.{before, recordOk, fieldsOk, fieldOk, maskOf}
+use Rattle.scan.specs.Each.{eachAfter, countAfter}
 use Rattle.scan.specs.Formed.{follows, wellFormed}
-use Rattle.scan.specs.Limits.{outer, middle, inner, outerLimits, middleLimits, innerLimits, limitAt, sameKind, sameOuter, sameMiddle, fresh, tally, within, room, withinLimits}
+use Rattle.scan.specs.Limits.{outer, middle, inner, outerLimits, middleLimits, innerLimits, limitAt, sameKind, sameOuter, sameMiddle, fresh, tally, within, room}
 use Rattle.scan.proofs.Eachs.{both-left, both-right, both, decide, every-at, some-none}
 use Rattle.scan.proofs.Befores.{Before, before-fields}
-use Rattle.scan.proofs.Scans.{formed-snoc, within-snoc, Alike, alike, alike-outer, alike-index, outer-key}
+use Rattle.scan.proofs.Scans.{within-snoc, alike, alike-outer, alike-index, outer-key}
 
 -- those that pass, with one element more
 pub those-yes : {A : Type 0} (test : A → Bool) (l : List A) (x : A) → test x ≡ true → those test (l ++ (x ∷ [])) ≡ those test l ++ (x ∷ [])

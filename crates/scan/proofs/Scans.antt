@@ -1,27 +1,25 @@
 -- A scan with one record more: the machine's tests against the last record decide what the definitions say of all records before.
 -- Assumes nothing.
 use mathlib.Core.Path.{_≡_, refl, ap, sym, _∙_}
-use mathlib.Core.Bool.{Bool, true, false, not, cond, _&&_, _||_, and-false, and-true}
+use mathlib.Core.Bool.{Bool, true, false, not, _&&_, _||_, and-false, and-true}
 use mathlib.Core.Logic.{_⊎_, inl, inr, ⊎-elim}
-use mathlib.Core.List.{List, [], _∷_, _++_, List·Memᴰ·head, List·Memᴰ·not-nil, List·Memᴰ·append-cases, List·Memᴰ·eq-of-singleton, Memᴰ·append-left, Memᴰ·append-right, Memᴰ·cast}
-use Prim.Native.Nat.{ℕ, _+_, _≤_, _<_}
+use mathlib.Core.List.{List, [], _∷_, _++_}
+use Prim.Native.Nat.{ℕ, _+_, _≤_}
 use native.Mathlib.Omega.{arith}
-use lib.Dec.{eqb, ltb, leb}
-use lib.ListN.{getD, set}
-use borrow.Author.Tests.{eq-eqb, ne-eqb, eqb-true, eqb-false, leb-true}
+use lib.Dec.{eqb}
+use borrow.Author.Tests.{eq-eqb, ne-eqb, eqb-true}
 use Rattle.lists.specs.Order.{_∈_}
 use Rattle.lists.specs.First.{some}
 use Rattle.lists.proofs.Orders.{apart}
 use Rattle.records.specs.declared.Record.{Record}
 use Rattle.records.specs.Kinds.{before, recordOk}
-use Rattle.scan.specs.Each.{every, each}
+use Rattle.scan.specs.Each.{every}
 use Rattle.scan.specs.Formed.{follows, wellFormed}
-use Rattle.scan.specs.Limits.{outer, middle, inner, sameKind, sameOuter, sameMiddle, tally, within, room, tallyOn, withinLimits}
-use Rattle.scan.specs.Scanned.{scanNumber, Ends, Tallied, Scanned, byKey, byIndex, judged, countedOn}
-use Rattle.scan.specs.declared.Scan.{Scan}
+use Rattle.scan.specs.Limits.{outer, middle, inner, sameKind, sameOuter, sameMiddle, tally, within, room, tallyOn}
+use Rattle.scan.specs.Scanned.{Ends}
 use Rattle.scan.proofs.Eachs.{both-left, both-right, both, decide, each-snoc, every-snoc, every-at, every-of, some-of, some-none}
 use Rattle.scan.proofs.Befores.{Before, before-fields, fields-before, before-trans}
-use Rattle.scan.proofs.Tallies.{tally-step, tally-new, tally-other, tally-some, tally-none}
+use Rattle.scan.proofs.Tallies.{tally-step}
 
 pub formed-snoc : (low high : ℕ) (l : List Record) (r : Record) → wellFormed low high (l ++ (r ∷ [])) ≡ wellFormed low high l && follows low high l r
 unfolding wellFormed

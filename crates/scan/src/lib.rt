@@ -6,7 +6,7 @@ ghost use lib.Dec.{eqb};
 ghost use Prim.Native.Nat.{ℕ, _≤_, _<_};
 ghost use lib.ListN.{length, getD};
 ghost use Rattle.records.specs.declared.Record.{Record};
-ghost use Rattle.scan.specs.Limits.{limitAt, outerLimits, middleLimits, innerLimits, tallyOn, withinLimits};
+ghost use Rattle.scan.specs.Limits.{limitAt, tallyOn, withinLimits};
 ghost use Rattle.scan.specs.Formed.{wellFormed, follows};
 ghost use Rattle.scan.specs.Scanned.{Scanned, Tallied, Ends, byKey, byIndex, judged, countedOn};
 use records::Record;

@@ -1,10 +1,7 @@
 -- `advance` meets its contract: each way out is a law of `Advances`. Assumes nothing.
-use mathlib.Core.Path.{_≡_, ap, sym, _∙_}
-use lib.ListN.{length}
+use mathlib.Core.Path.{ap, sym, _∙_}
 use native.Mathlib.Omega.{arith}
-use Rattle.clock.specs.declared.Clock.{Clock}
 use Rattle.clock.specs.declared.Joined.{Joined}
-use Rattle.advance.specs.declared.Advanced.{Advanced}
 use Rattle.advance.proofs.Advances.{refused-stays, full-stays, grows, seen-stays}
 use borrow.Author.Needs.{needs}
 use Rattle.advance.proofs.advance.Statement.{statement}

@@ -1,9 +1,7 @@
 -- `rises` meets its contract: each dot stands from the place behind the last actor on. Assumes nothing.
 use mathlib.Core.Path.{_≡_, refl, sym, _∙_}
-use mathlib.Core.Bool.{_&&_}
-use Prim.Native.Nat.{_+_, _≤_, _-_}
-use lib.Dec.{leb, ltb}
-use lib.ListN.{drop, take, getD}
+use Prim.Native.Nat.{_≤_, _-_}
+use lib.ListN.{drop}
 use Rattle.clock.specs.Dots.{noDot, dotsOf}
 use Rattle.advance.specs.Advancing.{rising}
 use Rattle.advance.proofs.Risings.{rising-stops, rising-goes, rising-end}

@@ -1,6 +1,4 @@
 -- `op_length` meets its contract: the head, the put value or the keys, and the dots of the clock. Assumes nothing.
-use mathlib.Core.Path.{ap, _∙_}
-use Prim.Native.Nat.{_*_}
 use native.Mathlib.Omega.{arith}
 use lib.ListN.{length-append, length-map}
 use Rattle.records.proofs.RoundTrips.{length-bytes}

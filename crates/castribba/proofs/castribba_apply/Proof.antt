@@ -1,6 +1,5 @@
 -- `castribba_apply` meets its contract: each way out is a law of `Ways`. Assumes nothing.
-use mathlib.Core.Path.{_≡_, refl, ap, ap₂, sym, _∙_}
-use Prim.Native.Nat.{_*_, _^_}
+use mathlib.Core.Path.{ap, ap₂, sym, _∙_}
 use Rattle.mapreader.specs.declared.ReadMap.{ReadMap}
 use Rattle.opimage.specs.declared.ReadOp.{ReadOp}
 use Rattle.map.specs.Judging.{judged}

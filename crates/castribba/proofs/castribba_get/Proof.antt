@@ -1,11 +1,8 @@
 -- `castribba_get` meets its contract: each way out is a law of `Ways`. Assumes nothing.
-use mathlib.Core.Path.{_≡_, refl, ap, ap₂, sym, _∙_}
-use Prim.Native.Nat.{_*_, _^_}
+use mathlib.Core.Path.{refl, ap, sym, _∙_}
 use Rattle.mapreader.specs.declared.ReadMap.{ReadMap}
 use Rattle.map.specs.declared.Map.{Map}
-use Rattle.map.specs.declared.Judged.{Judged}
 use Rattle.map.specs.Asking.{readKey}
-use Rattle.map.specs.Valid.{Valid}
 use Rattle.map.proofs.Kept.{valid-read}
 use native.Mathlib.Omega.{arith}
 use Rattle.castribba.proofs.Ways.{first-out, map-out, read-within}

@@ -1,5 +1,5 @@
 -- `castribba_len` meets its contract. Assumes nothing.
-use mathlib.Core.Path.{_≡_, refl, ap, ap₂, sym, _∙_}
+use mathlib.Core.Path.{refl, ap, _∙_}
 use Prim.Native.Nat.{_*_, _^_}
 use Rattle.mapreader.specs.declared.ReadMap.{ReadMap}
 use Rattle.answers.proofs.Answers.{bare}

@@ -1,6 +1,5 @@
 -- `castribba_len_count` meets its contract. Assumes nothing.
-use mathlib.Core.Path.{_≡_, refl, ap, ap₂, sym, _∙_}
-use Prim.Native.Nat.{_*_, _^_}
+use mathlib.Core.Path.{refl, ap, sym, _∙_}
 use Rattle.mapreader.specs.declared.ReadMap.{ReadMap}
 use Rattle.map.specs.Asking.{count}
 use Rattle.answers.proofs.Answers.{both-pass, one-fails}

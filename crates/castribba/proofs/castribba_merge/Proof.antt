@@ -1,11 +1,10 @@
 -- `castribba_merge` meets its contract: each way out is a law of `Ways`. Assumes nothing.
-use mathlib.Core.Path.{_≡_, refl, ap, ap₂, sym, _∙_}
-use Prim.Native.Nat.{_*_, _^_}
+use mathlib.Core.Path.{ap, ap₂, sym, _∙_}
 use Rattle.mapreader.specs.declared.ReadMap.{ReadMap}
 use Rattle.map.specs.Judging.{judged}
 use Rattle.map.specs.Merging.{merge}
 use Rattle.map.proofs.Kept.{valid-merge}
-use Rattle.castribba.proofs.Ways.{first-out, second-out, map-out, read-within, read-op-within, op-valid, judged-out}
+use Rattle.castribba.proofs.Ways.{first-out, second-out, map-out, read-within, judged-out}
 use borrow.Author.Needs.{needs}
 use Rattle.castribba.proofs.castribba_merge.Statement.{statement}
 use Rattle.castribba.proofs.castribba_merge.Tie as tie

@@ -1,13 +1,12 @@
 -- `castribba_reset_remove` meets its contract: each way out is a law of `Ways`. Assumes nothing.
-use mathlib.Core.Path.{_≡_, refl, ap, ap₂, sym, _∙_}
-use Prim.Native.Nat.{_*_, _^_}
+use mathlib.Core.Path.{ap, ap₂, sym, _∙_}
 use Rattle.mapreader.specs.declared.ReadMap.{ReadMap}
 use Rattle.clock.specs.Dots.{dotsOf}
 use Rattle.clockimage.specs.declared.ReadClock.{ReadClock}
 use Rattle.map.specs.Judging.{judged}
 use Rattle.map.specs.Resetting.{reset}
 use Rattle.map.proofs.Kept.{valid-reset}
-use Rattle.castribba.proofs.Ways.{first-out, second-out, map-out, read-within, read-op-within, op-valid, judged-out}
+use Rattle.castribba.proofs.Ways.{first-out, second-out, map-out, read-within, judged-out}
 use borrow.Author.Needs.{needs}
 use Rattle.castribba.proofs.castribba_reset_remove.Statement.{statement}
 use Rattle.castribba.proofs.castribba_reset_remove.Tie as tie

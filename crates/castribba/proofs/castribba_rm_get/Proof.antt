@@ -1,9 +1,7 @@
 -- `castribba_rm_get` meets its contract: each way out is a law of `Ways`. Assumes nothing.
-use mathlib.Core.Path.{_≡_, refl, ap, ap₂, sym, _∙_}
-use Prim.Native.Nat.{_*_, _^_}
+use mathlib.Core.Path.{ap, sym, _∙_}
 use Rattle.mapreader.specs.declared.ReadMap.{ReadMap}
 use Rattle.map.specs.declared.Op.{Op}
-use Rattle.map.specs.declared.Made.{Made}
 use Rattle.map.specs.Asking.{removalOp, clockAt}
 use Rattle.castribba.proofs.Ways.{first-out, op-out, read-within}
 use borrow.Author.Needs.{needs}

@@ -1,6 +1,5 @@
 -- `castribba_update` meets its contract: each way out is a law of `Ways`. Assumes nothing.
-use mathlib.Core.Path.{_≡_, refl, ap, ap₂, sym, _∙_}
-use Prim.Native.Nat.{_*_, _^_}
+use mathlib.Core.Path.{ap, sym, _∙_}
 use Rattle.mapreader.specs.declared.ReadMap.{ReadMap}
 use Rattle.map.specs.Asking.{makeUpdate}
 use Rattle.castribba.proofs.Ways.{first-out, op-out, made-out}

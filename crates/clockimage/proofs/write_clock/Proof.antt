@@ -1,6 +1,5 @@
 -- `write_clock` meets its contract. Assumes nothing.
-use mathlib.Core.Path.{_∙_}
-use lib.ListN.{length, length-map}
+use lib.ListN.{length-map}
 use Rattle.clock.specs.Dots.{dotsOf}
 use Rattle.clockimage.specs.Image.{dotRecord, dotRecords}
 use Rattle.records.proofs.RoundTrips.{length-bytes}

@@ -1,8 +1,6 @@
 -- `least` meets its contract: the loop holds each removal against the least so far. Assumes nothing.
-use mathlib.Core.Path.{_≡_, refl, ap, sym, _∙_}
-use mathlib.Core.List.{List}
 use Prim.Native.Nat.{_≤_, _-_, _^_}
-use lib.ListN.{length, drop, getD}
+use lib.ListN.{drop, getD}
 use Rattle.parts.specs.Model.{waitingOf}
 use Rattle.mapimage.specs.MapImage.{flatFrom, keyNumbers}
 use Rattle.mapimage.proofs.Flats.{flat-on, flat-end, Least, least-start, least-all, least-end, noRemovalRead}

@@ -1,15 +1,12 @@
 -- `least_in` meets its contract: the loop holds each number against the least so far. Assumes nothing.
-use mathlib.Core.Path.{_≡_, refl, ap, sym, _∙_}
-use mathlib.Core.Bool.{true}
-use mathlib.Core.List.{List, _∷_, map}
-use Prim.Native.Nat.{_≤_, _-_, _+_, _*_, _^_}
-use lib.Dec.{ltb}
-use lib.ListN.{length, drop}
+use mathlib.Core.Path.{ap, _∙_}
+use mathlib.Core.List.{map}
+use Prim.Native.Nat.{_≤_, _-_, _^_}
+use lib.ListN.{drop}
 use borrow.Author.Tests.{lt-ltb}
 use Rattle.lists.proofs.Rests.{map-on, drop-end}
 use Rattle.parts.specs.Model.{keysOf}
-use Rattle.scan.specs.Each.{every}
-use Rattle.mapimage.specs.Sorted.{lesser, leastFrom}
+use Rattle.mapimage.specs.Sorted.{lesser}
 use Rattle.mapimage.specs.MapImage.{keyNumber}
 use Rattle.mapimage.proofs.Flats.{Least, least-start, least-on, least-end}
 use borrow.Author.Needs.{needs}

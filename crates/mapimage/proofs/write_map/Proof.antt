@@ -1,13 +1,13 @@
 -- `write_map` meets its contract: one kind of record behind the other. Assumes nothing.
-use mathlib.Core.Path.{_≡_, refl}
-use mathlib.Core.List.{List, _∷_, _++_}
+use mathlib.Core.Path.{refl}
+use mathlib.Core.List.{List}
 use Prim.Native.Nat.{ℕ, _+_, _*_, _≤_}
 use lib.ListN.{length, length-map}
 use Rattle.map.specs.declared.Map.{Map}
 use Rattle.map.specs.Model.{seenBy, entriesIn, waitingIn}
 use Rattle.clockimage.specs.Image.{dotRecord, dotRecords}
 use Rattle.records.proofs.RoundTrips.{length-bytes}
-use Rattle.records.proofs.Writing.{Writing, write-start, write-room, write-on, write-last, last-room}
+use Rattle.records.proofs.Writing.{write-start, write-room, write-on, write-last, last-room}
 use Rattle.mapimage.specs.MapImage.{flatFrom, entryRecords, waitingDots, mapRecords, mapImage}
 use borrow.Author.Needs.{needs}
 use native.Mathlib.Omega.{arith}

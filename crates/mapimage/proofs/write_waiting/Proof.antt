@@ -1,8 +1,8 @@
 -- `write_waiting` meets its contract: one clock after the other. Assumes nothing.
-use mathlib.Core.Path.{_≡_, refl, ap, sym, _∙_}
-use mathlib.Core.List.{List, [], _∷_, _++_, map}
-use Prim.Native.Nat.{_≤_, _<_, _-_, _*_}
-use lib.ListN.{length, take, drop, getD, length-map}
+use mathlib.Core.Path.{refl}
+use mathlib.Core.List.{[]}
+use Prim.Native.Nat.{_≤_, _-_}
+use lib.ListN.{drop, getD, length-map}
 use Rattle.records.proofs.Writing.{Writing, write-start, write-room, write-on, write-end}
 use Rattle.mapimage.specs.MapImage.{flatFrom}
 use Rattle.parts.specs.Model.{waitingOf, underOf}

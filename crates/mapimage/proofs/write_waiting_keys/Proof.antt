@@ -1,7 +1,7 @@
 -- `write_waiting_keys` meets its contract: the least number that is left, again and again. Assumes nothing.
-use mathlib.Core.Path.{_≡_, refl, sym, _∙_}
+use mathlib.Core.Path.{_≡_}
 use mathlib.Core.Bool.{true}
-use Prim.Native.Nat.{ℕ, _≤_, _-_, _^_}
+use Prim.Native.Nat.{_-_, _^_}
 use lib.Dec.{ltb}
 use Rattle.parts.specs.Model.{waitingOf}
 use Rattle.scan.specs.Each.{every}

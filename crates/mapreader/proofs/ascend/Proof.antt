@@ -1,7 +1,7 @@
 -- `ascend` meets its contract: the loop stops at a clock that does not stand behind the one before it. Assumes nothing.
-use mathlib.Core.Path.{_≡_, refl, ap, sym, _∙_}
+use mathlib.Core.Path.{_≡_, sym, _∙_}
 use Prim.Native.Nat.{_≤_, _-_}
-use lib.ListN.{length, drop}
+use lib.ListN.{drop}
 use borrow.Author.Tests.{not-true, not-false}
 use Rattle.parts.specs.Model.{waitingOf}
 use Rattle.mapimage.proofs.Flats.{noRemovalRead}

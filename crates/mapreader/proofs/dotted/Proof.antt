@@ -2,7 +2,7 @@
 use mathlib.Core.Path.{_≡_, refl, ap, sym, _∙_}
 use mathlib.Core.Bool.{not}
 use Prim.Native.Nat.{_≤_, _-_}
-use lib.ListN.{length, drop}
+use lib.ListN.{drop}
 use Rattle.register.specs.Values.{valuesOf}
 use Rattle.scan.specs.Each.{every}
 use Rattle.mapimage.proofs.Flats.{noValueRead}

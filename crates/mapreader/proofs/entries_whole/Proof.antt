@@ -1,7 +1,7 @@
 -- `entries_whole` meets its contract: the loop stops at an entry that is not whole. Assumes nothing.
-use mathlib.Core.Path.{_≡_, refl, ap, sym, _∙_}
+use mathlib.Core.Path.{_≡_, refl, sym, _∙_}
 use Prim.Native.Nat.{_≤_, _-_}
-use lib.ListN.{length, drop}
+use lib.ListN.{drop}
 use borrow.Author.Tests.{not-true, not-false}
 use Rattle.clock.specs.Dots.{dotsOf}
 use Rattle.parts.specs.Model.{entriesOf}

@@ -1,6 +1,6 @@
 -- `entries_with` meets its contract: by kind. Assumes nothing.
-use mathlib.Core.Path.{_≡_, refl, ap, sym, _∙_}
-use borrow.Author.Tests.{eq-eqb, ne-eqb}
+use mathlib.Core.Path.{ap, sym, _∙_}
+use borrow.Author.Tests.{ne-eqb}
 use Rattle.parts.specs.Model.{entriesAs}
 use Rattle.mapreader.proofs.Entries.{entries-same}
 use borrow.Author.Needs.{needs}

@@ -1,8 +1,8 @@
 -- `place` meets its contract: the loop stops at the first entry of the key. Assumes nothing.
-use mathlib.Core.Path.{_≡_, refl, ap, sym, _∙_}
+use mathlib.Core.Path.{_≡_, sym, _∙_}
 use Prim.Native.Nat.{_≤_, _-_, _+_}
 use lib.Dec.{eqb}
-use lib.ListN.{length, drop}
+use lib.ListN.{drop}
 use borrow.Author.Tests.{eq-eqb, ne-eqb}
 use Rattle.parts.specs.Model.{entriesOf}
 use Rattle.mapimage.proofs.Flats.{noEntryRead}

@@ -1,6 +1,6 @@
 -- `read_map` meets its contract: every record is handed to the reader, which is then asked. Assumes nothing.
-use mathlib.Core.Path.{_≡_, refl, ap, sym, _∙_}
-use Prim.Native.Nat.{_≤_, _-_, _/_, _%_}
+use mathlib.Core.Path.{_≡_, refl}
+use Prim.Native.Nat.{_≤_, _-_, _/_}
 use lib.ListN.{length}
 use borrow.Author.Tests.{lt-ltb, le-ltb, eq-eqb, ne-eqb}
 use Rattle.records.proofs.Feeding.{Feeding, feed-start, feed-on, feed-end}

@@ -1,7 +1,6 @@
 -- `counted` meets its contract. Assumes nothing.
-use mathlib.Core.Path.{_≡_, ap}
+use mathlib.Core.Path.{ap}
 use lib.ListN.{set}
-use Prim.Native.Nat.{min}
 use borrow.Author.Needs.{needs}
 use native.Mathlib.Omega.{arith}
 use Rattle.opimage.proofs.counted.Statement.{statement}

@@ -1,8 +1,8 @@
 -- `write_keys` meets its contract: a record for each key, one behind the other. Assumes nothing.
-use mathlib.Core.Path.{_≡_, refl, ap, _∙_}
-use mathlib.Core.List.{List, [], _∷_, map}
-use Prim.Native.Nat.{_≤_, _<_, _-_, _*_}
-use lib.ListN.{length, take, drop, getD, length-map}
+use mathlib.Core.Path.{refl, ap}
+use mathlib.Core.List.{[], _∷_, map}
+use Prim.Native.Nat.{_≤_, _-_}
+use lib.ListN.{drop, getD, length-map}
 use Rattle.lists.proofs.Rests.{map-on, drop-end}
 use Rattle.parts.specs.Model.{keysOf}
 use Rattle.records.proofs.Writing.{Writing, write-start, write-room, write-on, write-end, wrote-one}

@@ -1,5 +1,4 @@
 -- `write_op` meets its contract. Assumes nothing.
-use lib.ListN.{length}
 use Rattle.records.proofs.RoundTrips.{length-bytes}
 use Rattle.opimage.specs.OpImage.{opRecords}
 use borrow.Author.Needs.{needs}

@@ -1,10 +1,10 @@
 -- `write_removal` meets its contract: head, dots, keys. Assumes nothing.
-use mathlib.Core.Path.{_≡_, refl, ap, _∙_}
-use mathlib.Core.List.{List, [], _∷_, _++_, map}
-use lib.ListN.{length, length-map}
+use mathlib.Core.Path.{refl}
+use mathlib.Core.List.{[], _∷_, map}
+use lib.ListN.{length-map}
 use Rattle.clockimage.specs.Image.{dotRecord, dotRecords}
 use Rattle.parts.specs.Model.{underOf, listedIn}
-use Rattle.records.proofs.Writing.{Writing, write-start, write-room, write-on, write-last, last-room, wrote-one}
+use Rattle.records.proofs.Writing.{write-start, write-room, write-on, write-last, last-room, wrote-one}
 use Rattle.opimage.specs.OpImage.{keyRecord, removalHead, removalRecords}
 use borrow.Author.Needs.{needs}
 use native.Mathlib.Omega.{arith}

@@ -1,10 +1,10 @@
 -- `write_update` meets its contract: head, value, dots. Assumes nothing.
-use mathlib.Core.Path.{_≡_, refl, ap, _∙_}
-use mathlib.Core.List.{List, [], _∷_, _++_}
-use lib.ListN.{length, length-map}
+use mathlib.Core.Path.{refl}
+use mathlib.Core.List.{[], _∷_}
+use lib.ListN.{length-map}
 use Rattle.clock.specs.Dots.{dotsOf}
-use Rattle.clockimage.specs.Image.{dotRecord, dotRecords}
-use Rattle.records.proofs.Writing.{Writing, write-start, write-on, write-last, last-room, wrote-one}
+use Rattle.clockimage.specs.Image.{dotRecord}
+use Rattle.records.proofs.Writing.{write-start, write-on, write-last, last-room, wrote-one}
 use Rattle.opimage.specs.OpImage.{updateHead, putValue, updateRecords}
 use borrow.Author.Needs.{needs}
 use native.Mathlib.Omega.{arith}

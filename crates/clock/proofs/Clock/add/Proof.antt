@@ -1,6 +1,6 @@
 -- `Clock::add` meets its contract: the dot is joined where it is beyond the clock, and nothing is where it is not. Assumes nothing.
 use mathlib.Core.Path.{ap}
-use mathlib.Core.List.{[], _∷_}
+use mathlib.Core.List.{[]}
 use borrow.Author.Tests.{lt-ltb, le-ltb}
 use Rattle.clock.specs.Dots.{addDot}
 use Rattle.clock.proofs.Packs.{dots-of}

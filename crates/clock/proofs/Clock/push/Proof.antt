@@ -1,5 +1,5 @@
 -- `Clock::push` meets its contract: a store behind the last dot. Assumes nothing.
-use mathlib.Core.Path.{_≡_, ap, sym, _∙_}
+use mathlib.Core.Path.{ap}
 use Rattle.clock.proofs.Packs.{pushed}
 use borrow.Author.Needs.{needs}
 use native.Mathlib.Omega.{arith}

@@ -1,9 +1,6 @@
 -- `Joined::push` meets its contract: over the limit stays over, and the ninth dot goes over. Assumes nothing.
-use mathlib.Core.Path.{_≡_, ap, sym, _∙_}
-use mathlib.Core.List.{[], _∷_, _++_}
-use lib.ListN.{length}
+use mathlib.Core.Path.{ap, sym, _∙_}
 use Rattle.lists.proofs.Pads.{length-snoc}
-use Rattle.clock.specs.Dots.{dotLimit}
 use Rattle.clock.proofs.Packs.{fits, exceeds, over-means, within-clock}
 use borrow.Author.Needs.{needs}
 use native.Mathlib.Omega.{arith}

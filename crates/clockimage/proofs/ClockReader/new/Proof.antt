@@ -1,5 +1,4 @@
 -- `ClockReader::new` meets its contract. Assumes nothing.
-use mathlib.Core.Path.{refl, _∙_}
 use Rattle.lists.specs.Sift.{sift}
 use borrow.Author.Needs.{needs}
 use Rattle.clockimage.proofs.ClockReader.new.Statement.{statement}

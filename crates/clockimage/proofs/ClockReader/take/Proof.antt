@@ -1,16 +1,8 @@
 -- `ClockReader::take` meets its contract: a dot more, where nothing is wrong. Assumes nothing.
-use mathlib.Core.Path.{_≡_, refl, ap, sym, _∙_}
-use mathlib.Core.Bool.{true}
-use mathlib.Core.List.{List, [], _∷_, _++_}
-use Prim.Native.Nat.{_<_}
-use lib.ListN.{length}
+use mathlib.Core.Path.{refl, ap, sym, _∙_}
 use borrow.Author.Tests.{eq-eqb}
-use Rattle.records.specs.declared.Record.{Record}
-use Rattle.scan.specs.Scanned.{scanNumber}
-use Rattle.scan.proofs.Scanning.{scan-before, scan-last}
-use Rattle.scan.proofs.Rooms.{kind-range}
+use Rattle.scan.proofs.Scanning.{scan-before}
 use Rattle.clockimage.specs.Image.{isKind}
-use Rattle.clockimage.specs.ClockImage.{clockIn}
 use Rattle.clock.specs.Dots.{clockOf}
 use Rattle.clockimage.proofs.Dots.{dots-more, dots-room}
 use Rattle.clockimage.proofs.Clocks.{is-first}

@@ -1,5 +1,5 @@
 -- `ClockReader::verdict` meets its contract. Assumes nothing.
-use mathlib.Core.Path.{refl, sym, _∙_}
+use mathlib.Core.Path.{sym, _∙_}
 use borrow.Author.Tests.{eq-eqb, ne-eqb}
 use borrow.Author.Needs.{needs}
 use Rattle.clockimage.proofs.ClockReader.verdict.Statement.{statement}

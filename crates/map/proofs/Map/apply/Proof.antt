@@ -1,6 +1,5 @@
 -- `Map::apply` meets its contract, by those of the update and the removal. Assumes nothing.
-use mathlib.Core.Path.{_∙_, ap}
-use Rattle.map.specs.Judging.{judged}
+use mathlib.Core.Path.{_∙_}
 use Rattle.map.specs.Applying.{apply}
 use borrow.Author.Needs.{needs}
 use Rattle.map.proofs.Map.apply.Statement.{statement}

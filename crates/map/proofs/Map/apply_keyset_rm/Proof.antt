@@ -1,13 +1,10 @@
 -- `Map::apply_keyset_rm` meets its contract: the entries, and what waits then, judged. Assumes nothing.
 use mathlib.Core.Path.{_≡_, refl, ap, sym, _∙_}
-use mathlib.Core.Bool.{Bool, true, false, not}
-use mathlib.Core.List.{List, [], _∷_, List·Memᴰ·eq-of-singleton}
+use mathlib.Core.Bool.{true, false}
+use mathlib.Core.List.{[], List·Memᴰ·eq-of-singleton}
 use borrow.Author.Tests.{lt-ltb, le-ltb, not-true, not-false}
-use lib.ListN.{length}
-use Rattle.lists.specs.First.{some}
-use Rattle.parts.specs.declared.Removal.{Removal}
-use Rattle.parts.specs.Model.{waitingLimit, overlong, gathered}
-use Rattle.parts.specs.Waits.{waits, uniteInto}
+use Rattle.parts.specs.Model.{waitingLimit, gathered}
+use Rattle.parts.specs.Waits.{waits}
 use Rattle.parts.proofs.Packs.{waiting-from}
 use Rattle.parts.proofs.Gather.{gather-count, gather-long, gather-open}
 use Rattle.map.specs.Model.{seenBy, waitingIn}

@@ -1,7 +1,7 @@
 -- `Map::apply_update` meets its contract: a seen dot changes nothing; else the finished entries, and what still waits, judged. Assumes nothing.
 use mathlib.Core.Path.{_≡_, refl, ap, sym, _∙_}
-use mathlib.Core.Bool.{Bool, true, false}
-use mathlib.Core.List.{List, [], _∷_, _++_, append-assoc}
+use mathlib.Core.Bool.{true, false}
+use mathlib.Core.List.{[], _++_, append-assoc}
 use Prim.Native.Nat.{_≤_, _<_}
 use borrow.Author.Tests.{lt-ltb, le-ltb, le-leb}
 use lib.ListN.{length}
@@ -11,7 +11,7 @@ use Rattle.lists.proofs.Sifts.{sift-append, sift-one}
 use Rattle.clock.specs.Dots.{dotLimit, counterIn, addDot}
 use Rattle.clock.proofs.Packs.{over-means, within-means, within-clock, dots-of}
 use Rattle.parts.specs.declared.Entry.{Entry}
-use Rattle.parts.specs.Model.{entryLimit, Laid, finished, waitingAs}
+use Rattle.parts.specs.Model.{Laid, finished, waitingAs}
 use Rattle.parts.specs.Waits.{waits}
 use Rattle.parts.specs.Entries.{stays, run, aside, putEntry, entryAt, putEntries}
 use Rattle.parts.proofs.Runs.{run-laid}
@@ -19,7 +19,7 @@ use Rattle.parts.proofs.Packs.{laid-put}
 use Rattle.parts.proofs.Finish.{finish-none, finish-count, finish-wide, finish-open}
 use Rattle.map.specs.Model.{seenBy, entriesIn, waitingIn}
 use Rattle.map.specs.Updating.{update}
-use Rattle.map.proofs.Verdicts.{judged-within, not-over}
+use Rattle.map.proofs.Verdicts.{judged-within}
 use Rattle.map.proofs.Outcomes.{update-outcome, put-fits}
 use borrow.Author.Needs.{needs}
 use native.Mathlib.Omega.{arith}

@@ -1,5 +1,5 @@
 -- `Map::rm_get` meets its contract: the entry's clock is laid down, and empty where there is none. Assumes nothing.
-use mathlib.Core.Path.{_≡_, refl, ap, _∙_}
+use mathlib.Core.Path.{_≡_, ap, _∙_}
 use mathlib.Core.Bool.{false}
 use mathlib.Core.List.{[], _∷_}
 use Rattle.clock.specs.Dots.{clockOf}

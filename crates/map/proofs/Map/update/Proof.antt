@@ -1,10 +1,7 @@
 -- `Map::update` meets its contract: 9 at the last counter, 4 for a ninth dot, else the operation. Assumes nothing.
-use mathlib.Core.Path.{_≡_, refl, ap, sym, _∙_}
+use mathlib.Core.Path.{_∙_}
 use borrow.Author.Tests.{le-leb, lt-leb, lt-ltb, le-ltb}
-use Prim.Native.Nat.{_+_}
-use Rattle.clock.specs.Dots.{counterIn}
 use Rattle.clock.proofs.Packs.{over-means, within-means, within-clock}
-use Rattle.map.specs.Model.{seenBy}
 use Rattle.map.specs.Asking.{nextDot, makeUpdate}
 use borrow.Author.Needs.{needs}
 use Rattle.map.proofs.Map.update.Statement.{statement}

@@ -1,5 +1,5 @@
 -- `Map::validate_update` meets its contract: the map clock first, then the entry's. Assumes nothing.
-use mathlib.Core.Path.{_≡_, refl, ap, sym, _∙_}
+use mathlib.Core.Path.{sym, _∙_}
 use Prim.Native.Nat.{_+_}
 use borrow.Author.Tests.{ltb-true}
 use Rattle.map.specs.Asking.{following, validateUpdate}

@@ -1,6 +1,4 @@
 -- `spent_by` meets its contract: the loop looks for a dot that both hold. Assumes nothing.
-use mathlib.Core.Path.{_∙_}
-use mathlib.Core.Path.{_≡_}
 use Prim.Native.Nat.{_≤_, _-_}
 use borrow.Author.Tests.{eq-eqb, ne-eqb}
 use Rattle.lists.proofs.Passing.{Passing, passing-start, passing-here, passing-on, passing-end}

@@ -1,6 +1,6 @@
 -- `MapReader::verdict` meets its contract. Assumes nothing.
-use mathlib.Core.Path.{_≡_, refl, ap, sym, _∙_}
-use mathlib.Core.Bool.{true, false, not}
+use mathlib.Core.Path.{_≡_, sym, _∙_}
+use mathlib.Core.Bool.{true, false}
 use borrow.Author.Tests.{eq-eqb, ne-eqb, not-true, not-false}
 use Rattle.mapreader.specs.Related.{related}
 use Rattle.mapreader.proofs.Readers.{related-now, unrelated-now}

@@ -1,5 +1,5 @@
 -- `MapReader::with` meets its contract: each part with what the record adds. Assumes nothing.
-use mathlib.Core.Path.{_≡_, refl, ap, sym, _∙_}
+use mathlib.Core.Path.{refl, ap, sym, _∙_}
 use borrow.Author.Tests.{eqb-true}
 use Rattle.clock.specs.Dots.{clockOf}
 use Rattle.clockimage.specs.Image.{isKind}

@@ -1,5 +1,5 @@
 -- `OpReader::take` meets its contract. Assumes nothing.
-use mathlib.Core.Path.{_≡_, sym, _∙_}
+use mathlib.Core.Path.{sym, _∙_}
 use Rattle.scan.proofs.Scanning.{scan-before}
 use Rattle.opimage.proofs.OpReader.take.Statement.{statement}
 use Rattle.opimage.proofs.OpReader.take.Tie as tie

@@ -1,9 +1,5 @@
 -- `OpReader::verdict` meets its contract. Assumes nothing.
-use mathlib.Core.Path.{_≡_, refl, ap, sym, _∙_}
-use mathlib.Core.Bool.{cond, _||_}
 use borrow.Author.Tests.{eq-eqb, ne-eqb}
-use Rattle.clock.specs.Dots.{clockOf}
-use Rattle.opimage.specs.OpImage.{opRelated}
 use Rattle.opimage.proofs.Packs.{related-counts, one-of}
 use borrow.Author.Needs.{needs}
 use Rattle.opimage.proofs.OpReader.verdict.Statement.{statement}

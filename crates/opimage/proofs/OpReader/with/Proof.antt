@@ -1,16 +1,12 @@
 -- `OpReader::with` meets its contract: each part goes on by what its kind says. Assumes nothing.
-use mathlib.Core.Path.{_≡_, refl, ap, sym, _∙_}
-use mathlib.Core.List.{List}
+use mathlib.Core.Path.{refl, ap, sym, _∙_}
 use Prim.Native.Nat.{_<_}
 use lib.ListN.{length}
 use borrow.Author.Tests.{eqb-true}
 use Rattle.clock.specs.Dots.{clockOf}
 use Rattle.parts.specs.Model.{keysAs}
-use Rattle.records.specs.declared.Record.{Record}
-use Rattle.scan.specs.Scanned.{Scanned, scanNumber}
 use Rattle.clockimage.specs.Image.{isKind}
 use Rattle.clockimage.proofs.Dots.{dots-room, dots-snoc}
-use Rattle.opimage.specs.OpImage.{OpParts}
 use Rattle.opimage.proofs.Parts.{keys-snoc, record-snoc, number-snoc, counts-snoc, keys-room, kind-known}
 use borrow.Author.Needs.{needs}
 use native.Mathlib.Omega.{arith}

@@ -1,6 +1,6 @@
 -- `Entries::merge` meets its contract: the loop walks both maps' entries side by side, and the rest of one goes behind. Assumes nothing.
 -- what becomes of each, and of all
-use mathlib.Core.Path.{_≡_, refl, ap, sym, _∙_}
+use mathlib.Core.Path.{_≡_, ap, sym, _∙_}
 use mathlib.Core.Logic.{_⊎_, ⊎-elim, inl, inr}
 use mathlib.Core.List.{List, [], _∷_, _++_, map, append-nil, append-assoc}
 use Prim.Native.Nat.{ℕ, _≤_, _<_, _-_, _+_}
@@ -18,7 +18,7 @@ use Rattle.clock.specs.Dots.{dotsOf}
 use Rattle.parts.specs.declared.Entry.{Entry}
 use Rattle.parts.specs.declared.Removal.{Removal}
 use Rattle.parts.specs.Model.{entriesOf, waitingOf, finished, Counted}
-use Rattle.parts.specs.Entries.{stays, run, alone, together, weaveEntries}
+use Rattle.parts.specs.Entries.{stays, run, alone, together}
 use Rattle.parts.proofs.Runs.{run-laid}
 use Rattle.parts.proofs.Packs.{noneRead, laid-alone, laid-together}
 use borrow.Author.Needs.{needs}

@@ -1,8 +1,7 @@
 -- `Entry::alone` meets its contract. Assumes nothing.
-use mathlib.Core.Path.{ap, sym, _∙_}
+use mathlib.Core.Path.{sym, _∙_}
 use Rattle.clock.proofs.Packs.{dots-of}
 use Rattle.register.proofs.Packs.{wide-values}
-use Rattle.parts.specs.Model.{handOf}
 use Rattle.parts.specs.Entries.{alone}
 use Rattle.parts.proofs.Packs.{hand-as}
 use borrow.Author.Needs.{needs}

@@ -1,6 +1,6 @@
 -- `Finished::add` meets its contract: an emptied entry is left out; one that is kept is laid down where all fit. Assumes nothing.
-use mathlib.Core.Path.{_≡_, refl, ap, sym, _∙_}
-use mathlib.Core.List.{[], _∷_, _++_, append-nil}
+use mathlib.Core.Path.{ap, sym, _∙_}
+use mathlib.Core.List.{append-nil}
 use Rattle.lists.specs.Sift.{sift}
 use Rattle.parts.specs.Model.{finished}
 use Rattle.lists.proofs.Tally.{both-pass}

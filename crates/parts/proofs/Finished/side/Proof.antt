@@ -1,5 +1,5 @@
 -- `Finished::side` meets its contract: the loop adds the entries of that side, each finished. Assumes nothing.
-use mathlib.Core.Path.{_≡_, refl, ap, sym, _∙_}
+use mathlib.Core.Path.{_≡_, ap, sym, _∙_}
 use mathlib.Core.List.{List, [], _∷_, _++_}
 use Prim.Native.Nat.{_≤_, _<_, _-_, _+_}
 use lib.ListN.{length, drop, getD}

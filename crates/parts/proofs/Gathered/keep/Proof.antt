@@ -3,8 +3,7 @@ use mathlib.Core.Path.{_≡_, refl, sym, _∙_}
 use mathlib.Core.Bool.{false}
 use lib.ListN.{length}
 use Rattle.lists.proofs.Pads.{unmapped, used}
-use Rattle.parts.specs.declared.United.{United}
-use Rattle.parts.specs.Model.{keysAs, keysFit, listedIn}
+use Rattle.parts.specs.Model.{listedIn}
 use Rattle.parts.proofs.Sets.{keys-fit}
 use borrow.Author.Needs.{needs}
 use Rattle.parts.proofs.Gathered.keep.Statement.{statement}

@@ -1,10 +1,9 @@
 -- `Remnant::unite` meets its contract: too many keys stay too many, and the union is kept where it fits. Assumes nothing.
 use mathlib.Core.Path.{_≡_, ap, sym, _∙_}
-use mathlib.Core.List.{List, [], _∷_, List·Memᴰ·eq-of-singleton}
-use Rattle.lists.specs.Order.{_∈_}
+use mathlib.Core.List.{List, [], List·Memᴰ·eq-of-singleton}
 use Rattle.parts.specs.declared.Removal.{Removal}
-use Rattle.parts.specs.Model.{keysAs, listedIn, waitingOf, gathered, remnantOf}
-use Rattle.parts.specs.Waits.{uniteAll, uniteInto}
+use Rattle.parts.specs.Model.{waitingOf, gathered, remnantOf}
+use Rattle.parts.specs.Waits.{uniteInto}
 use Rattle.parts.proofs.Packs.{waiting-from}
 use Rattle.parts.proofs.Hold.{held-long, held-short, held-over, long-stays, unite-few}
 use Rattle.parts.proofs.Gather.{gather-long, gather-open}

@@ -1,16 +1,15 @@
 -- `Waiting::reset` meets its contract: the loop cuts each removal, and unites those that are left. Assumes nothing.
-use mathlib.Core.Path.{_≡_, refl, ap, sym, _∙_}
+use mathlib.Core.Path.{refl, ap, sym, _∙_}
 use mathlib.Core.Bool.{not}
-use mathlib.Core.List.{[], _∷_}
-use Prim.Native.Nat.{_≤_, _<_, _-_}
-use lib.ListN.{length, getD}
-use borrow.Author.Tests.{not-true, not-false}
+use mathlib.Core.List.{[]}
+use Prim.Native.Nat.{_≤_, _-_}
+use borrow.Author.Tests.{not-true}
 use Rattle.lists.specs.First.{firstIn}
 use Rattle.lists.specs.Fold.{fold}
 use Rattle.lists.specs.Sift.{sift}
 use Rattle.lists.proofs.Rests.{in-list, drop-end}
-use Rattle.clock.specs.Dots.{dotsOf, isEmpty}
-use Rattle.parts.specs.Model.{keysAs, underOf, listedIn, waitingOf, remnantOf}
+use Rattle.clock.specs.Dots.{dotsOf}
+use Rattle.parts.specs.Model.{waitingOf, remnantOf}
 use Rattle.parts.specs.Waits.{uniteInto, cutRemoval, remains, resetWaiting}
 use Rattle.parts.specs.Valid.{ValidRemoval}
 use Rattle.parts.proofs.Packs.{noRemovalRead}

@@ -1,10 +1,10 @@
 -- `clock_before` meets its contract: the loop passes equal dots. Assumes nothing.
-use mathlib.Core.Path.{_≡_, refl, ap, sym, _∙_}
+use mathlib.Core.Path.{_≡_, refl, _∙_}
 use mathlib.Core.Logic.{⊎-elim}
 use mathlib.Core.List.{_∷_}
 use Prim.Native.Nat.{_≤_, _<_, _-_, _+_}
 use lib.ListN.{length, drop, getD}
-use borrow.Author.Tests.{lt-ltb, le-ltb, ltb-true, ltb-false}
+use borrow.Author.Tests.{le-ltb, ltb-true, ltb-false}
 use Rattle.lists.proofs.Rests.{drop-step, drop-end}
 use Rattle.clock.specs.Dots.{noDot, dotsOf}
 use Rattle.parts.specs.Waits.{clockBefore}

@@ -1,5 +1,5 @@
 -- `Register::merge` meets its contract: ours that stand, and theirs that stand against those. Assumes nothing.
-use mathlib.Core.Path.{_≡_, ap, sym, _∙_}
+use mathlib.Core.Path.{_≡_, ap, _∙_}
 use mathlib.Core.Bool.{true, false}
 use lib.ListN.{length}
 use Rattle.lists.specs.Sift.{those}

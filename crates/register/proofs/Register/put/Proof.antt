@@ -1,9 +1,9 @@
 -- `Register::put` meets its contract. Assumes nothing.
 use mathlib.Core.Path.{_≡_, ap, sym, _∙_}
-use mathlib.Core.List.{[], _∷_}
+use mathlib.Core.List.{[]}
 use lib.ListN.{length}
 use Rattle.lists.proofs.Pads.{unmapped, used}
-use Rattle.register.specs.Values.{valuesOf, registerOf, wideOf, remaining, putValues}
+use Rattle.register.specs.Values.{valuesOf, registerOf, remaining, putValues}
 use Rattle.register.proofs.Packs.{values-of, remaining-length}
 use borrow.Author.Needs.{needs}
 use native.Mathlib.Omega.{arith}

@@ -1,5 +1,5 @@
 -- `Wide::trail` meets its contract: the loop adds one value after the other. Assumes nothing.
-use mathlib.Core.Path.{_≡_, refl, ap, sym}
+use mathlib.Core.Path.{_≡_, ap, sym}
 use mathlib.Core.List.{List, _++_, map-id}
 use Prim.Native.Nat.{_+_, _-_, _≤_}
 use Rattle.lists.proofs.Trailing.{Trailing, trailing-start, trailing-add, trailing-end}
