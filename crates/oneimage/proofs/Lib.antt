@@ -19,5 +19,7 @@ pub mod Coming
 pub mod Rewritten
 pub mod One
 pub mod Clocks
+pub mod OpsRewritten
+pub mod OpsReread
 pub mod Ops
 pub mod Maps

@@ -2,13 +2,10 @@
 -- Assumes nothing.
 use mathlib.Core.Path.{_≡_, refl, ap, ap₂, sym, _∙_}
 use mathlib.Core.Bool.{Bool, true, false, cond}
-use mathlib.Core.List.{List, [], _∷_, map}
+use mathlib.Core.List.{List, map}
 use Prim.Native.Nat.{ℕ}
-use native.Mathlib.Omega.{arith}
 use borrow.Author.Tests.{eqb-true}
 use lib.Dec.{eqb}
-use lib.ListN.{length}
-use Rattle.lists.specs.Fold.{fold}
 use Rattle.lists.specs.Sift.{those}
 use Rattle.clock.specs.Dots.{dotsOf, clockOf}
 use Rattle.parts.specs.Model.{underOf, listedIn, removalAs, noRemoval, noUpdate}
@@ -19,9 +16,9 @@ use Rattle.scan.specs.Scanned.{scanNumber}
 use Rattle.scan.proofs.Eachs.{decide, both-left, both-right}
 use Rattle.clockimage.specs.Image.{isKind, dotOf}
 use Rattle.clockimage.proofs.RoundTrip.{accepted}
-use Rattle.opimage.specs.OpImage.{opLongest, opImage, howMany, removes, updates, opRelated, noRecord, recordOf, opIn, refusedOp, judgedOp, readOp}
-use Rattle.opimage.proofs.RoundTrip.{last-of, op-accepted}
-use Rattle.opimage.proofs.Written.{read-removal-written, read-update-written}
+use Rattle.opimage.specs.OpImage.{opLongest, opImage, howMany, removes, updates, opRelated, opIn, refusedOp, judgedOp, readOp}
+use Rattle.oneimage.proofs.OpsRewritten.{none-left, no-record, op-accepted}
+use Rattle.oneimage.proofs.OpsReread.{read-removal-written, read-update-written}
 use Rattle.accepted.proofs.Ops.{op-within}
 use Rattle.oneimage.specs.One.{OneImage, GoodOp}
 use Rattle.oneimage.proofs.Fields.{op-narrow}
@@ -44,18 +41,6 @@ reads-back op g = go (op .up) refl (g .other)
         rw e (read-removal-written (underOf r) (listedIn r) (h .valid .clock) (h .valid .keys) (n .dots) (n .keys) (h .dots) (h .keys)
         ∙ sym (λ i. record { number = 0; op = record { up = false; removal = h .valid .laid i; update = other i } }))
 
--- what a head does not have is zero
-none-there : (kind : ℕ) (l : List Record) → eqb (howMany kind l) 0 ≡ true → those (isKind kind) l ≡ []
-none-there kind l t = go (those (isKind kind) l) (eqb-true (howMany kind l) 0 t)
-  where
-    go : (m : List Record) → length m ≡ 0 → m ≡ []
-    go [] e = refl
-    go (x ∷ m) e = absurd (omega arith)
-
-no-record : (kind : ℕ) (l : List Record) → eqb (howMany kind l) 0 ≡ true → recordOf kind l ≡ noRecord
-unfolding recordOf fold
-no-record kind l t = last-of kind l noRecord ∙ ap (fold (λ q r. r) noRecord) (none-there kind l t)
-
 -- the half that an accepted operation does not use
 other-zero : (l : List Record) → opRelated l ≡ true → cond (opIn l .up) (opIn l .removal ≡ noRemoval) (opIn l .update ≡ noUpdate)
 unfolding opRelated
@@ -67,17 +52,17 @@ other-zero l t = decide (removes (λ k. howMany k l)) removal (λ f. update (rw 
         let ten = both-left (eqb (howMany 10 l) 0) _ b in
         let c = both-right (eqb (howMany 10 l) 0) _ b in
         let none = eqb-true (howMany 10 l) 0 ten in
-        let head = no-record 10 l ten in
-        let value = no-record 11 l (both-left (eqb (howMany 11 l) 0) _ c) in
-        let dots = none-there 12 l (both-right (eqb (howMany 11 l) 0) _ c) in
+        let head = no-record 10 l (none-left (those (isKind 10) l) ten) in
+        let value = no-record 11 l (none-left (those (isKind 11) l) (both-left (eqb (howMany 11 l) 0) _ c)) in
+        let dots = none-left (those (isKind 12) l) (both-right (eqb (howMany 11 l) 0) _ c) in
         rw none (λ i. record { dot = dotOf (head i); key = head i .key; put = record { clock = clockOf (map dotOf (dots i)); value = value i .number } })
 
     update : updates (λ k. howMany k l) ≡ true → cond (opIn l .up) (opIn l .removal ≡ noRemoval) (opIn l .update ≡ noUpdate)
     update a =
         let b = both-right (eqb (howMany 11 l) 1) _ (both-right (eqb (howMany 10 l) 1) _ a) in
         let c = both-right (eqb (howMany 7 l) 0) _ b in
-        let dots = none-there 8 l (both-left (eqb (howMany 8 l) 0) _ c) in
-        let keys = none-there 9 l (both-right (eqb (howMany 8 l) 0) _ c) in
+        let dots = none-left (those (isKind 8) l) (both-left (eqb (howMany 8 l) 0) _ c) in
+        let keys = none-left (those (isKind 9) l) (both-right (eqb (howMany 8 l) 0) _ c) in
         rw (both-left (eqb (howMany 10 l) 1) _ a) (ap₂ (λ d k. removalAs (map dotOf d) (map (λ (r : Record). r .key) k)) dots keys)
 
 read-other : (s : List ℕ) → readOp s .number ≡ 0 → cond (readOp s .op .up) (readOp s .op .removal ≡ noRemoval) (readOp s .op .update ≡ noUpdate)

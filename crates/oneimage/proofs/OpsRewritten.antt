@@ -1,7 +1,7 @@
 -- What was read as an operation writes as it was.
 -- Assumes nothing.
 use mathlib.Core.Path.{_≡_, refl, ap, ap₂, sym, _∙_}
-use mathlib.Core.Bool.{Bool, true, cond}
+use mathlib.Core.Bool.{true, cond}
 use mathlib.Core.List.{List, [], _∷_, _++_, map, append-nil, List·Memᴰ·head, List·Memᴰ·tail}
 use Prim.Native.Nat.{ℕ, _+_}
 use native.Mathlib.Omega.{arith}
@@ -13,6 +13,7 @@ use Rattle.lists.specs.Order.{_∈_}
 use Rattle.lists.specs.Sift.{sift, those}
 use Rattle.lists.specs.Fold.{fold}
 use Rattle.lists.proofs.Pads.{take-pad}
+use Rattle.lists.proofs.Those.{those-means, those-all, those-none}
 use Rattle.clock.specs.Dots.{dotLimit, noDot, dotsOf}
 use Rattle.parts.specs.Model.{keyLimit}
 use Rattle.records.specs.declared.Record.{Record}
@@ -25,22 +26,13 @@ use Rattle.scan.proofs.Eachs.{decide, both-left, both-right}
 use Rattle.scan.proofs.Rooms.{good-at, kind-range, no-index, no-actor, no-key, no-number}
 use Rattle.scan.proofs.Scanning.{scan-good}
 use Rattle.scan.proofs.Builds.{formed-ascends}
-use Rattle.scan.proofs.Splits.{ofKind, from, split, those-none}
+use Rattle.scan.proofs.Splits.{ofKind, from, split}
 use Rattle.clockimage.specs.Image.{isKind, dotOf, dotRecord, dotRecords, dotsIn}
-use Rattle.clockimage.proofs.RoundTrip.{those-all, accepted}
+use Rattle.clockimage.proofs.RoundTrip.{accepted}
 use Rattle.opimage.specs.OpImage.{opLongest, keyRecord, removalHead, updateHead, putValue, opRecords, opImage, howMany, removes, updates, opRelated, noRecord, recordOf, keysIn, updateIn, opIn, judgedOp, refusedOp, readOp}
-
--- members of those that pass
-pub those-member : {A : Type 0} (test : A → Bool) (l : List A) (x : A) → x ∈ those test l → (x ∈ l) × (test x ≡ true)
-unfolding sift
-those-member test [] x i = absurd (mathlib.Core.List.List·Memᴰ·not-nil i)
-those-member test (y ∷ l) x i =
-    decide (test y)
-    (λ t. mathlib.Core.Logic.⊎-elim (λ (q : x ≡ y). (List·Memᴰ·head q, ap test q ∙ t)) (λ j. let m = those-member test l x j in (List·Memᴰ·tail (m .0), m .1)) (mathlib.Core.List.List·Memᴰ·cases-cons (rw t at i)))
-    (λ f. let m = those-member test l x (rw f at i) in (List·Memᴰ·tail (m .0), m .1))
 
 -- a list of no elements, and of one
-none-left : {A : Type 0} (l : List A) → eqb (length l) 0 ≡ true → l ≡ []
+pub none-left : {A : Type 0} (l : List A) → eqb (length l) 0 ≡ true → l ≡ []
 none-left [] e = refl
 none-left (x ∷ l) e = absurd (let z = eqb-true (length (x ∷ l)) 0 e in omega arith)
 
@@ -50,7 +42,7 @@ one-left (x ∷ []) e = (x, refl)
 one-left (x ∷ (y ∷ l)) e = absurd (let z = eqb-true (length (x ∷ (y ∷ l))) 1 e in omega arith)
 
 -- the last record of a kind is the last of those of the kind
-pub last-of : (kind : ℕ) (l : List Record) (q : Record) → fold (λ q r. cond (isKind kind r) r q) q l ≡ fold (λ q r. r) q (those (isKind kind) l)
+last-of : (kind : ℕ) (l : List Record) (q : Record) → fold (λ q r. cond (isKind kind r) r q) q l ≡ fold (λ q r. r) q (those (isKind kind) l)
 unfolding fold sift
 last-of kind [] q = refl
 last-of kind (x ∷ l) q = decide (isKind kind x) (λ t. rw t (last-of kind l x)) (λ f. rw f (last-of kind l q))
@@ -58,6 +50,10 @@ last-of kind (x ∷ l) q = decide (isKind kind x) (λ t. rw t (last-of kind l x)
 pub only : (kind : ℕ) (l : List Record) (x : Record) → those (isKind kind) l ≡ x ∷ [] → recordOf kind l ≡ x
 unfolding recordOf fold
 only kind l x e = last-of kind l noRecord ∙ ap (fold (λ q r. r) noRecord) e
+
+pub no-record : (kind : ℕ) (l : List Record) → those (isKind kind) l ≡ [] → recordOf kind l ≡ noRecord
+unfolding recordOf fold
+no-record kind l e = last-of kind l noRecord ∙ ap (fold (λ q r. r) noRecord) e
 
 -- records that are made again of what they hold
 made-again : {A : Type 0} (f : Record → A) (g : A → Record) (l : List Record) → ((x : Record) → x ∈ l → g (f x) ≡ x) → map g (map f l) ≡ l
@@ -97,7 +93,7 @@ module _ (l : List Record) (z : scanNumber 7 12 l ≡ 0) where
       pub fine : recordOk 7 12 x ≡ true
 
     plain : (x : Record) → x ∈ those (isKind kind) l → Plain x
-    plain x i = let m = those-member (isKind kind) l x i in record { kind-is = eqb-true (x .kind) kind (m .1); fine = good x (m .0) }
+    plain x i = let m = those-means (isKind kind) l i in record { kind-is = eqb-true (x .kind) kind (m .1); fine = good x (m .0) }
 
     dots-again : eqb (bitAnd (maskOf kind) 1) 0 ≡ true → eqb (bitAnd (maskOf kind) 4) 0 ≡ true → dotRecords kind 0 0 (dotsIn (isKind kind) l) ≡ ofKind kind l
     dots-again a b =

@@ -11,9 +11,9 @@ use lib.ListN.{length, length-append, length-map}
 use borrow.Author.Tests.{eq-eqb, ne-eqb, eqb-true, lt-ltb, le-ltb, ltb-true}
 use Rattle.lists.specs.Order.{_∈_, Ascending, nil, next, by}
 use Rattle.lists.specs.Sift.{sift, those}
-use Rattle.lists.specs.Fold.{fold}
 use Rattle.lists.proofs.Orders.{head-before, tail-ascends}
 use Rattle.lists.proofs.Sifts.{sift-append}
+use Rattle.lists.proofs.Those.{those-all, those-none}
 use Rattle.clock.specs.declared.Dot.{Dot}
 use Rattle.clock.specs.Dots.{dotLimit, clockOf}
 use Rattle.clock.specs.Lawful.{Lawful}
@@ -27,11 +27,10 @@ use Rattle.scan.specs.Limits.{outer, middle, inner, sameKind, sameOuter, sameMi
 use Rattle.scan.proofs.Eachs.{both-left}
 use Rattle.scan.proofs.Befores.{fields-before}
 use Rattle.scan.proofs.Builds.{Among, scan-of}
-use Rattle.scan.proofs.Splits.{those-none}
 use Rattle.clockimage.specs.Image.{isKind, dotOf, dotRecord, dotRecords, DotFits}
-use Rattle.clockimage.proofs.RoundTrip.{dots-ascend, dots-back, those-all}
-use Rattle.opimage.specs.OpImage.{opLongest, keyRecord, removalHead, updateHead, putValue, opRelated, noRecord, recordOf, opIn, readOp}
-use Rattle.opimage.proofs.RoundTrip.{last-of, only}
+use Rattle.clockimage.proofs.RoundTrip.{dots-ascend, dots-back}
+use Rattle.opimage.specs.OpImage.{opLongest, keyRecord, removalHead, updateHead, putValue, opRelated, opIn, readOp}
+use Rattle.oneimage.proofs.OpsRewritten.{only, no-record}
 
 -- lists one behind the other, by kind
 pub behind : (l m : List Record) → Ascending before l → Ascending before m → ((x y : Record) → x ∈ l → y ∈ m → x .kind < y .kind) → Ascending before (l ++ m)
@@ -214,10 +213,6 @@ module _ (d : List Dot) (k : List ℕ) where
   unfolding opRelated
   related = rw (head-part, ten, eleven, twelve)
 
-  none-of : (n : ℕ) → those (isKind n) whole ≡ [] → recordOf n whole ≡ noRecord
-  unfolding recordOf fold
-  none-of n e = last-of n whole noRecord ∙ ap (fold (λ q r. r) noRecord) e
-
   removal-stands : opIn whole ≡ record { up = false; removal = removalAs d k; update = noUpdate }
   removal-stands =
       let u = ap length ten in
@@ -225,9 +220,9 @@ module _ (d : List Dot) (k : List ℕ) where
         up = eqb (u i) 1;
         removal = removalAs ((ap (map dotOf) dot-part ∙ dots-back 8 0 0 d) i) ((ap (map (λ r. r .key)) key-part ∙ keys-back 9 0 k) i);
         update = record {
-          dot = dotOf (none-of 10 ten i);
-          key = none-of 10 ten i .key;
-          put = record { clock = clockOf (map dotOf (twelve i)); value = none-of 11 eleven i .number };
+          dot = dotOf (no-record 10 whole ten i);
+          key = no-record 10 whole ten i .key;
+          put = record { clock = clockOf (map dotOf (twelve i)); value = no-record 11 whole eleven i .number };
         };
       }
 
