@@ -2,7 +2,7 @@
 
 use oracle::full::{full_clock, full_map};
 use oracle::image::{clock_image, map_image, operation_image, LONGEST_MAP};
-use oracle::model::Operation;
+use oracle::model::{Clock, Operation};
 
 pub enum Work {
     Apply { op: Vec<u8> },
@@ -15,6 +15,8 @@ pub struct Task {
     pub name: &'static str,
     pub map: Vec<u8>,
     pub work: Work,
+    /// Whether a byte call's time is that of the image, so that a record's share says something.
+    pub of_image: bool,
 }
 
 pub fn tasks() -> Vec<Task> {
@@ -29,13 +31,20 @@ pub fn tasks() -> Vec<Task> {
     let removal = Operation::Removal { clock: map.clock.clone(), keys: [8].into() };
     let reset = full_clock(|actor| if actor % 2 == 1 { 90 } else { 1 });
 
-    let task = |name, work| Task { name, map: image.clone(), work };
+    let none = clock_image(&Clock::new());
+
+    let task = |name, work| Task { name, map: image.clone(), work, of_image: false };
+    let of_image = |name, work| Task { of_image: true, ..task(name, work) };
     vec![
         task("apply an update of one entry", Work::Apply { op: operation_image(&update) }),
         task("apply a removal of one entry", Work::Apply { op: operation_image(&removal) }),
         task("merge with an equal map", Work::Merge { other: image.clone() }),
         task("merge with a map of which half is newer", Work::Merge { other: newer_half }),
         task("reset_remove", Work::ResetRemove { clock: clock_image(&reset) }),
-        task("read the count (len)", Work::Len),
+        of_image("read: len", Work::Len),
+        of_image(
+            "read and write back: reset_remove by the empty clock",
+            Work::ResetRemove { clock: none },
+        ),
     ]
 }
