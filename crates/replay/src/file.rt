@@ -127,7 +127,7 @@ fn wide(x: u8) -> u64 {
     x as u64
 }
 
-// Adler-32 of the whole file, so that no change of it goes unseen.
+// Adler-32 of the whole file, so that a changed file shows.
 pub fn sum(file: &[u8]) -> u64 {
     let mut low: u64 = 1;
     let mut high: u64 = 0;
