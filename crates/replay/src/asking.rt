@@ -26,6 +26,7 @@ fn put(out: &mut [u8; BUFFER], place: usize, d: Dot) {
     records::write_record(out, at, record);
 }
 
+// What `castribba_clock_advance` stores back, by value: lending a local struct would be a proof by hand.
 // A lent clock is written as its eight places and, in a ninth record, its length.
 pub fn advance(asked: Question, lent: &[u8; BUFFER], out: &mut [u8; BUFFER]) -> u64 {
     let dots = [

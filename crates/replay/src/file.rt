@@ -61,6 +61,7 @@ pub fn number(file: &[u8], from: usize) -> Found {
     Found { value, at }
 }
 
+// A field too large for its type is cut to it: the host writes none, and the file's sum tells of others.
 pub fn read_question(file: &[u8], from: usize) -> Question {
     let call = number(file, from);
     let fresh = number(file, call.at);
@@ -127,7 +128,8 @@ fn wide(x: u8) -> u64 {
     x as u64
 }
 
-// Adler-32 of the whole file, so that a changed file shows.
+// Adler-32 of the whole file, so that a changed file shows. A remainder is taken where it is used, so that
+// no invariant has to carry it.
 pub fn sum(file: &[u8]) -> u64 {
     let mut low: u64 = 1;
     let mut high: u64 = 0;
