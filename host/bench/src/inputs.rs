@@ -1,7 +1,8 @@
 //! Full maps and what is done with them.
 
+use oracle::full::{full_clock, full_map};
 use oracle::image::{clock_image, map_image, operation_image, LONGEST_MAP};
-use oracle::model::{Clock, Entry, Map, Operation};
+use oracle::model::{Clock, Operation};
 
 pub enum Work {
     Apply { op: Vec<u8> },
@@ -14,37 +15,8 @@ pub struct Task {
     pub name: &'static str,
     pub map: Vec<u8>,
     pub work: Work,
-}
-
-const ACTORS: std::ops::RangeInclusive<u16> = 1..=8;
-
-/// A clock of all eight actors.
-fn full_clock(counter: impl Fn(u16) -> u64) -> Clock {
-    ACTORS.map(|actor| (actor, counter(actor))).collect()
-}
-
-/// An entry of eight dots with four concurrent values of eight dots each, all from `base` on.
-fn full_entry(base: u64) -> Entry {
-    let values = (1..=4)
-        .map(|place| {
-            (full_clock(|actor| base + u64::from(actor == place)), base + u64::from(place))
-        })
-        .collect();
-    Entry { clock: full_clock(|actor| base + u64::from(actor)), values }
-}
-
-/// Sixteen full entries and eight full waiting removals of keys that are not there. The entries
-/// whose keys `newer` picks were written later than those of a map that picks none.
-fn full_map(newer: impl Fn(u32) -> bool) -> Map {
-    let base = |key: u32| u64::from(key) * 10 + if newer(key) { 1000 } else { 0 };
-    let seen = if (1..=16).any(&newer) { 2000 } else { 1000 };
-    Map {
-        clock: full_clock(|_| seen),
-        entries: (1..=16).map(|key| (key, full_entry(base(key)))).collect(),
-        waiting: (1..=8)
-            .map(|place| (full_clock(|_| 3000 + place), (101..=116).collect()))
-            .collect(),
-    }
+    /// Whether a byte call's time is that of the image, so that a record's share says something.
+    pub of_image: bool,
 }
 
 pub fn tasks() -> Vec<Task> {
@@ -59,13 +31,20 @@ pub fn tasks() -> Vec<Task> {
     let removal = Operation::Removal { clock: map.clock.clone(), keys: [8].into() };
     let reset = full_clock(|actor| if actor % 2 == 1 { 90 } else { 1 });
 
-    let task = |name, work| Task { name, map: image.clone(), work };
+    let none = clock_image(&Clock::new());
+
+    let task = |name, work| Task { name, map: image.clone(), work, of_image: false };
+    let of_image = |name, work| Task { of_image: true, ..task(name, work) };
     vec![
         task("apply an update of one entry", Work::Apply { op: operation_image(&update) }),
         task("apply a removal of one entry", Work::Apply { op: operation_image(&removal) }),
         task("merge with an equal map", Work::Merge { other: image.clone() }),
         task("merge with a map of which half is newer", Work::Merge { other: newer_half }),
         task("reset_remove", Work::ResetRemove { clock: clock_image(&reset) }),
-        task("read the count (len)", Work::Len),
+        of_image("read: len", Work::Len),
+        of_image(
+            "read and write back: reset_remove by the empty clock",
+            Work::ResetRemove { clock: none },
+        ),
     ]
 }

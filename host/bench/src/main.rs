@@ -1,8 +1,10 @@
-//! Times apply, merge, reset_remove and len of full maps: bench [ROUNDS], medians and spread.
+//! Times apply, merge, reset_remove and len of full maps: bench [ROUNDS] prints a table of medians,
+//! with their spread, and how many times as long the first subject takes.
 
 mod inputs;
 mod subjects;
 
+use calls::LONGEST_MAP;
 use inputs::Task;
 use std::hint::black_box;
 use std::time::{Duration, Instant};
@@ -31,18 +33,26 @@ fn batch_for(subject: &dyn Subject, task: &Task) -> usize {
     batch
 }
 
-/// The value below which the given part of the sorted samples lies.
-fn quantile(sorted: &[f64], part: f64) -> f64 {
-    sorted[((sorted.len() - 1) as f64 * part).round() as usize]
+/// Least, median and most.
+fn spread(mut values: Vec<f64>) -> [f64; 3] {
+    values.sort_by(f64::total_cmp);
+    [values[0], values[values.len() / 2], values[values.len() - 1]]
+}
+
+fn columns(values: Vec<f64>) -> String {
+    let [least, median, most] = spread(values);
+    format!("{median:.2} ({least:.2} to {most:.2})")
 }
 
 fn main() {
     let rounds =
         std::env::args().nth(1).and_then(|text| text.parse().ok()).unwrap_or(DEFAULT_ROUNDS);
     let subjects = subjects::all();
-    println!("microseconds for one run: median (tenth to ninetieth percentile), {rounds} rounds");
+    let first = subjects[0].name();
+    println!("Median (least to most) of {rounds} rounds; the longest map, {LONGEST_MAP} bytes.\n");
+    println!("| task | subject | microseconds | nanoseconds a record | {first}: so many times |");
+    println!("|---|---|---|---|---|");
     for task in inputs::tasks() {
-        println!("\n{}", task.name);
         for subject in &subjects {
             subject.check(&task);
         }
@@ -55,10 +65,21 @@ fn main() {
                 samples[place].push(sample(&**subject, &task, batches[place]));
             }
         }
-        for (subject, times) in subjects.iter().zip(&mut samples) {
-            times.sort_by(f64::total_cmp);
-            let [low, middle, high] = [0.1, 0.5, 0.9].map(|part| quantile(times, part) / 1000.0);
-            println!("  {:<34} {middle:>9.3} ({low:.3} to {high:.3})", subject.name());
+        for (subject, times) in subjects.iter().zip(&samples) {
+            let microseconds = columns(times.iter().map(|time| time / 1000.0).collect());
+            let a_record = if task.of_image && subject.reads_image() {
+                columns(times.iter().map(|time| time / (LONGEST_MAP / 16) as f64).collect())
+            } else {
+                String::new()
+            };
+            // round by round, so that what slows both of them cancels out
+            let ratio =
+                columns(samples[0].iter().zip(times).map(|(own, other)| own / other).collect());
+            println!(
+                "| {} | {} | {microseconds} | {a_record} | {ratio} |",
+                task.name,
+                subject.name()
+            );
         }
     }
 }

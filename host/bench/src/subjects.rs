@@ -16,6 +16,10 @@ pub trait Prepared {
 pub trait Subject {
     fn name(&self) -> String;
     fn prepare<'a>(&'a self, task: &'a Task, batch: usize) -> Box<dyn Prepared + 'a>;
+    /// Whether it starts from the image, and not from what was read before.
+    fn reads_image(&self) -> bool {
+        false
+    }
     /// Stops the program if the subject's answer is wrong.
     fn check(&self, task: &Task);
 }
@@ -57,7 +61,7 @@ impl<C: Calls> ByByte<C> {
             Work::Apply { op } => self.0.apply(&task.map, op, out),
             Work::Merge { other } => self.0.merge(&task.map, other, out),
             Work::ResetRemove { clock } => self.0.reset_remove(&task.map, clock, out),
-            Work::Len => self.0.len_count(&task.map),
+            Work::Len => self.0.len(&task.map),
         }
     }
 }
@@ -74,6 +78,9 @@ impl<C: Calls> Subject for ByByte<C> {
     fn name(&self) -> String {
         format!("{}, byte call", self.0.name())
     }
+    fn reads_image(&self) -> bool {
+        true
+    }
     fn prepare<'a>(&'a self, task: &'a Task, batch: usize) -> Box<dyn Prepared + 'a> {
         Box::new(ByteRuns { subject: self, task, out: vec![0; LONGEST_MAP], batch })
     }
@@ -81,7 +88,7 @@ impl<C: Calls> Subject for ByByte<C> {
         let mut out = vec![0; LONGEST_MAP];
         let word = self.once(task, &mut out);
         if let Work::Len = task.work {
-            assert_eq!(word, 16);
+            assert_eq!((word, self.0.len_count(&task.map)), (0, 16));
         } else {
             assert_eq!(out[..length_of(word)], expected_image(task));
         }

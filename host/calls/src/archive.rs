@@ -1,32 +1,7 @@
 //! The proved version behind the trait: libcastribba.a, called as castribba.h declares it.
 
 use crate::{Calls, LentClock};
-
-mod declared {
-    use crate::LentClock;
-
-    #[rustfmt::skip]
-    extern "C" {
-        pub fn castribba_apply(map: *const u8, map_len: usize, op: *const u8, op_len: usize, out: *mut u8, out_len: usize) -> u64;
-        pub fn castribba_merge(map: *const u8, map_len: usize, other: *const u8, other_len: usize, out: *mut u8, out_len: usize) -> u64;
-        pub fn castribba_reset_remove(map: *const u8, map_len: usize, clock: *const u8, clock_len: usize, out: *mut u8, out_len: usize) -> u64;
-        pub fn castribba_update(map: *const u8, map_len: usize, actor: u16, key: u32, value: u64, out: *mut u8, out_len: usize) -> u64;
-        pub fn castribba_rm_get(map: *const u8, map_len: usize, key: u32, out: *mut u8, out_len: usize) -> u64;
-        pub fn castribba_rm_read_ctx(map: *const u8, map_len: usize, key: u32, out: *mut u8, out_len: usize) -> u64;
-        pub fn castribba_get(map: *const u8, map_len: usize, key: u32, out: *mut u8, out_len: usize) -> u64;
-        pub fn castribba_len(map: *const u8, map_len: usize) -> u64;
-        pub fn castribba_len_count(map: *const u8, map_len: usize) -> u64;
-        pub fn castribba_validate_op(map: *const u8, map_len: usize, op: *const u8, op_len: usize) -> u64;
-        pub fn castribba_validate_op_start(map: *const u8, map_len: usize, op: *const u8, op_len: usize) -> u64;
-        pub fn castribba_validate_op_end(map: *const u8, map_len: usize, op: *const u8, op_len: usize) -> u64;
-        pub fn castribba_validate_merge(map: *const u8, map_len: usize, other: *const u8, other_len: usize) -> u64;
-        pub fn castribba_validate_merge_actor(map: *const u8, map_len: usize, other: *const u8, other_len: usize) -> u64;
-        pub fn castribba_validate_merge_counter(map: *const u8, map_len: usize, other: *const u8, other_len: usize) -> u64;
-        pub fn castribba_validate_merge_our_key(map: *const u8, map_len: usize, other: *const u8, other_len: usize) -> u64;
-        pub fn castribba_validate_merge_their_key(map: *const u8, map_len: usize, other: *const u8, other_len: usize) -> u64;
-        pub fn castribba_clock_advance(clock: *mut LentClock, actor: u16, counter: u64) -> u64;
-    }
-}
+use castribba::declared;
 
 pub struct Archive;
 
@@ -111,7 +86,8 @@ impl Calls for Archive {
         from_two!(castribba_validate_merge_their_key, map, other)
     }
     fn clock_advance(&self, clock: &mut LentClock, actor: u16, counter: u64) -> u64 {
+        let clock: *mut LentClock = clock;
         // SAFETY: a LentClock has the layout of castribba_clock.
-        unsafe { declared::castribba_clock_advance(clock, actor, counter) }
+        unsafe { declared::castribba_clock_advance(clock.cast(), actor, counter) }
     }
 }

@@ -1,4 +1,5 @@
-//! castribba.h, declared for Rust.
+//! castribba.h, declared for Rust: what a pointer points to, and for how long, is the caller's to see
+//! to. [`slices`](crate::slices) has the same calls, safe.
 
 use crate::slices::LentClock;
 

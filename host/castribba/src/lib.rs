@@ -32,7 +32,7 @@
 //! it was judged when they were made. [`slices`] has the same calls on byte slices, for callers who
 //! have no heap. A refused call answers a [`Refusal`] and changes nothing.
 
-mod declared;
+pub mod declared;
 mod image;
 mod refusal;
 pub mod slices;

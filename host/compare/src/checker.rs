@@ -1,5 +1,6 @@
 //! Runs calls of the implementation under test and compares everything that they did.
 
+use crate::asks::Asks;
 use crate::panics::caught;
 use crate::question::{dump, Call, Question};
 use crate::random::Random;
@@ -28,7 +29,7 @@ fn pattern(place: usize) -> u8 {
 }
 
 /// The oracle's answer; a panic inside the published crate is a disagreement too.
-fn oracle_answer(question: &Question) -> Result<Answer, String> {
+pub fn oracle_answer(question: &Question) -> Result<Answer, String> {
     caught(|| question.expected()).unwrap_or_else(|| Err("the published crate panics".to_string()))
 }
 
@@ -162,100 +163,6 @@ impl<'a> Checker<'a> {
         println!("DIFFERENCE in {smallest}\n  {fault}\n");
     }
 
-    /// The answer that the oracle gives, after comparing; None when the oracle itself failed.
-    fn check(&mut self, question: Question) -> Option<Answer> {
-        let full = match oracle_answer(&question) {
-            Ok(full) => full,
-            Err(disagreement) => {
-                self.differs(&question, disagreement);
-                return None;
-            }
-        };
-        let rooms = if question.writes() { self.rooms(&full) } else { vec![0] };
-        for room in rooms {
-            let expected = full.in_room(room);
-            self.count(question.call, expected.number);
-            if let Some(fault) = self.fault(&question, &expected, room) {
-                self.differs(&question, fault);
-            }
-        }
-        Some(full)
-    }
-
-    pub fn apply(&mut self, map: &[u8], op: &[u8]) -> Option<Answer> {
-        self.check(Question::of_two(Call::Apply, map, op))
-    }
-
-    pub fn merge(&mut self, map: &[u8], other: &[u8]) -> Option<Answer> {
-        self.check(Question::of_two(Call::Merge, map, other))
-    }
-
-    pub fn reset_remove(&mut self, map: &[u8], clock: &[u8]) -> Option<Answer> {
-        self.check(Question::of_two(Call::ResetRemove, map, clock))
-    }
-
-    pub fn update(&mut self, map: &[u8], actor: u16, key: u32, value: u64) -> Option<Answer> {
-        self.check(Question { actor, key, value, ..Question::of_one(Call::Update, map) })
-    }
-
-    pub fn rm_get(&mut self, map: &[u8], key: u32) -> Option<Answer> {
-        self.check(Question { key, ..Question::of_one(Call::RmGet, map) })
-    }
-
-    pub fn rm_read_ctx(&mut self, map: &[u8], key: u32) -> Option<Answer> {
-        self.check(Question { key, ..Question::of_one(Call::RmReadCtx, map) })
-    }
-
-    pub fn get(&mut self, map: &[u8], key: u32) -> Option<Answer> {
-        self.check(Question { key, ..Question::of_one(Call::Get, map) })
-    }
-
-    pub fn len(&mut self, map: &[u8]) -> Option<Answer> {
-        self.check(Question::of_one(Call::Len, map))
-    }
-
-    pub fn validate_op(&mut self, map: &[u8], op: &[u8]) -> Option<Answer> {
-        self.check(Question::of_two(Call::ValidateOp, map, op))
-    }
-
-    pub fn validate_merge(&mut self, map: &[u8], other: &[u8]) -> Option<Answer> {
-        self.check(Question::of_two(Call::ValidateMerge, map, other))
-    }
-
-    /// Every call that takes a map, the second image as whatever the call takes.
-    pub fn every_call(&mut self, map: &[u8], second: &[u8], actor: u16, key: u32, value: u64) {
-        self.apply(map, second);
-        self.merge(map, second);
-        self.reset_remove(map, second);
-        self.validate_op(map, second);
-        self.validate_merge(map, second);
-        self.update(map, actor, key, value);
-        self.rm_get(map, key);
-        self.rm_read_ctx(map, key);
-        self.get(map, key);
-        self.len(map);
-    }
-
-    pub fn clock_advance(&mut self, dots: &[(u16, u64); 8], len: usize, actor: u16, counter: u64) {
-        let (number, after, after_len) = expected::clock_advance(dots, len, actor, counter);
-        let lent_dots =
-            |dots: &[(u16, u64); 8]| dots.map(|(actor, counter)| LentDot { actor, counter });
-        let mut lent = LentClock { dots: lent_dots(dots), len };
-        let calls = self.calls;
-        let word = caught(|| calls.clock_advance(&mut lent, actor, counter));
-        self.count(Call::ClockAdvance, number);
-        let expected = LentClock { dots: lent_dots(&after), len: after_len };
-        if word != Some(u64::from(number) << 32) || lent != expected {
-            self.differences += 1;
-            if self.differences <= PRINTED {
-                println!(
-                    "DIFFERENCE in clock_advance of {dots:?}, length {len}, by {actor}:{counter}\n  \
-                     answers {word:?} and leaves {lent:?}, for {number} and {expected:?}\n"
-                );
-            }
-        }
-    }
-
     /// How often each number was met per call.
     pub fn print_table(&self) {
         let cell = |call: Call, number: u32| match self.met.get(&(call, number)) {
@@ -280,5 +187,47 @@ impl<'a> Checker<'a> {
                 self.met.contains_key(&(*call, number)) == call.possible().contains(&number)
             })
         })
+    }
+}
+
+impl Asks for Checker<'_> {
+    /// Compares before it answers.
+    fn ask(&mut self, question: Question) -> Option<Answer> {
+        let full = match oracle_answer(&question) {
+            Ok(full) => full,
+            Err(disagreement) => {
+                self.differs(&question, disagreement);
+                return None;
+            }
+        };
+        let rooms = if question.writes() { self.rooms(&full) } else { vec![0] };
+        for room in rooms {
+            let expected = full.in_room(room);
+            self.count(question.call, expected.number);
+            if let Some(fault) = self.fault(&question, &expected, room) {
+                self.differs(&question, fault);
+            }
+        }
+        Some(full)
+    }
+
+    fn clock_advance(&mut self, dots: &[(u16, u64); 8], len: usize, actor: u16, counter: u64) {
+        let (number, after, after_len) = expected::clock_advance(dots, len, actor, counter);
+        let lent_dots =
+            |dots: &[(u16, u64); 8]| dots.map(|(actor, counter)| LentDot { actor, counter });
+        let mut lent = LentClock { dots: lent_dots(dots), len };
+        let calls = self.calls;
+        let word = caught(|| calls.clock_advance(&mut lent, actor, counter));
+        self.count(Call::ClockAdvance, number);
+        let expected = LentClock { dots: lent_dots(&after), len: after_len };
+        if word != Some(u64::from(number) << 32) || lent != expected {
+            self.differences += 1;
+            if self.differences <= PRINTED {
+                println!(
+                    "DIFFERENCE in clock_advance of {dots:?}, length {len}, by {actor}:{counter}\n  \
+                     answers {word:?} and leaves {lent:?}, for {number} and {expected:?}\n"
+                );
+            }
+        }
     }
 }

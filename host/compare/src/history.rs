@@ -1,6 +1,6 @@
 //! Long histories of three replicas whose operations arrive late, twice and in another order.
 
-use crate::checker::Checker;
+use crate::asks::Asks;
 use crate::random::Random;
 use oracle::image::{clock_image, map_image, operation_image, read_map, read_operation};
 use oracle::model::{Map, Operation};
@@ -17,7 +17,7 @@ struct History {
 }
 
 /// One history of so many steps; every call on the way is compared.
-pub fn history(random: &mut Random, checker: &mut Checker, steps: usize) {
+pub fn history(random: &mut Random, asks: &mut dyn Asks, steps: usize) {
     let mut history = History {
         maps: vec![map_image(&Map::default()); REPLICAS],
         mail: vec![Vec::new(); REPLICAS],
@@ -28,12 +28,12 @@ pub fn history(random: &mut Random, checker: &mut Checker, steps: usize) {
     for _ in 0..steps {
         let at = random.below(REPLICAS);
         match random.below(16) {
-            0..=4 => history.make_update(random, checker, at),
-            5 | 6 => history.make_removal(random, checker, at),
-            7..=11 => history.deliver(random, checker, at),
-            12 | 13 => history.merge(random, checker, at),
-            14 => history.read(random, checker, at),
-            _ => history.reset(random, checker, at),
+            0..=4 => history.make_update(random, asks, at),
+            5 | 6 => history.make_removal(random, asks, at),
+            7..=11 => history.deliver(random, asks, at),
+            12 | 13 => history.merge(random, asks, at),
+            14 => history.read(random, asks, at),
+            _ => history.reset(random, asks, at),
         }
     }
 }
@@ -43,8 +43,8 @@ impl History {
         random.below(self.keys) as u32
     }
 
-    fn apply(&mut self, checker: &mut Checker, at: usize, op: &[u8]) {
-        if let Some(answer) = checker.apply(&self.maps[at], op) {
+    fn apply(&mut self, asks: &mut dyn Asks, at: usize, op: &[u8]) {
+        if let Some(answer) = asks.apply(&self.maps[at], op) {
             if answer.number == 0 {
                 self.maps[at] = answer.bytes;
             }
@@ -52,9 +52,9 @@ impl History {
     }
 
     /// Applies at home at once, mostly, and sends it to all others.
-    fn publish(&mut self, random: &mut Random, checker: &mut Checker, at: usize, op: Vec<u8>) {
+    fn publish(&mut self, random: &mut Random, asks: &mut dyn Asks, at: usize, op: Vec<u8>) {
         if !random.one_in(10) {
-            self.apply(checker, at, &op);
+            self.apply(asks, at, &op);
         }
         for other in 0..REPLICAS {
             if other != at || random.one_in(10) {
@@ -63,22 +63,22 @@ impl History {
         }
     }
 
-    fn make_update(&mut self, random: &mut Random, checker: &mut Checker, at: usize) {
+    fn make_update(&mut self, random: &mut Random, asks: &mut dyn Asks, at: usize) {
         let actor = (at * self.actors_each + random.below(self.actors_each) + 1) as u16;
         let (key, value) = (self.key(random), random.next() % 100);
-        if let Some(answer) = checker.update(&self.maps[at], actor, key, value) {
+        if let Some(answer) = asks.update(&self.maps[at], actor, key, value) {
             if answer.number == 0 {
-                self.publish(random, checker, at, answer.bytes);
+                self.publish(random, asks, at, answer.bytes);
             }
         }
     }
 
-    fn make_removal(&mut self, random: &mut Random, checker: &mut Checker, at: usize) {
+    fn make_removal(&mut self, random: &mut Random, asks: &mut dyn Asks, at: usize) {
         let key = self.key(random);
         let answer = if random.one_in(2) {
-            checker.rm_get(&self.maps[at], key)
+            asks.rm_get(&self.maps[at], key)
         } else {
-            checker.rm_read_ctx(&self.maps[at], key)
+            asks.rm_read_ctx(&self.maps[at], key)
         };
         let Some(answer) = answer.filter(|answer| answer.number == 0) else { return };
         let mut op = answer.bytes;
@@ -94,10 +94,10 @@ impl History {
                 op = operation_image(&Operation::Removal { clock, keys });
             }
         }
-        self.publish(random, checker, at, op);
+        self.publish(random, asks, at, op);
     }
 
-    fn deliver(&mut self, random: &mut Random, checker: &mut Checker, at: usize) {
+    fn deliver(&mut self, random: &mut Random, asks: &mut dyn Asks, at: usize) {
         if self.mail[at].is_empty() {
             return;
         }
@@ -108,38 +108,38 @@ impl History {
             self.mail[at].remove(place)
         };
         if random.one_in(3) {
-            checker.validate_op(&self.maps[at], &op);
+            asks.validate_op(&self.maps[at], &op);
         }
-        self.apply(checker, at, &op);
+        self.apply(asks, at, &op);
     }
 
-    fn merge(&mut self, random: &mut Random, checker: &mut Checker, at: usize) {
+    fn merge(&mut self, random: &mut Random, asks: &mut dyn Asks, at: usize) {
         let from = random.below(REPLICAS);
         let other = self.maps[from].clone();
         if random.one_in(3) {
-            checker.validate_merge(&self.maps[at], &other);
+            asks.validate_merge(&self.maps[at], &other);
         }
-        if let Some(answer) = checker.merge(&self.maps[at], &other) {
+        if let Some(answer) = asks.merge(&self.maps[at], &other) {
             if answer.number == 0 {
                 self.maps[at] = answer.bytes;
             }
         }
     }
 
-    fn read(&mut self, random: &mut Random, checker: &mut Checker, at: usize) {
-        checker.len(&self.maps[at]);
+    fn read(&mut self, random: &mut Random, asks: &mut dyn Asks, at: usize) {
+        asks.len(&self.maps[at]);
         let key = self.key(random);
-        checker.get(&self.maps[at], key);
+        asks.get(&self.maps[at], key);
     }
 
-    fn reset(&mut self, random: &mut Random, checker: &mut Checker, at: usize) {
+    fn reset(&mut self, random: &mut Random, asks: &mut dyn Asks, at: usize) {
         let from = random.below(REPLICAS);
         let Ok(mut by) = read_map(&self.maps[from]).map(|map| map.clock) else { return };
         by.retain(|_, _| random.one_in(2));
         for counter in by.values_mut() {
             *counter -= (random.below(2) as u64).min(*counter - 1);
         }
-        if let Some(answer) = checker.reset_remove(&self.maps[at], &clock_image(&by)) {
+        if let Some(answer) = asks.reset_remove(&self.maps[at], &clock_image(&by)) {
             // mostly only asked, since a reset map forgets what it has seen
             if answer.number == 0 && random.one_in(3) {
                 self.maps[at] = answer.bytes;

@@ -1,6 +1,6 @@
 //! Every short input: all short lists of small records, and all small maps with all small partners.
 
-use crate::checker::Checker;
+use crate::asks::Asks;
 use oracle::image::{bytes_of, clock_image, operation_image, read_map, Record};
 use oracle::model::{Clock, Operation};
 use std::collections::BTreeSet;
@@ -107,23 +107,23 @@ fn small_operations() -> Vec<Vec<u8>> {
 }
 
 /// All images of at most two arbitrary records, as a map, an operation and a clock.
-pub fn short_images(checker: &mut Checker) {
+pub fn short_images(asks: &mut dyn Asks) {
     let records = any_records();
-    checker.every_call(&[], &[], 1, 5, 7);
+    asks.every_call(&[], &[], 1, 5, 7);
     for first in &records {
         let one = bytes_of(&[*first]);
-        checker.every_call(&one, &[], 1, 5, 7);
-        checker.every_call(&[], &one, 1, 5, 7);
+        asks.every_call(&one, &[], 1, 5, 7);
+        asks.every_call(&[], &one, 1, 5, 7);
         for second in &records {
             let two = bytes_of(&[*first, *second]);
-            checker.len(&two);
-            checker.validate_op(&[], &two);
+            asks.len(&two);
+            asks.validate_op(&[], &two);
         }
     }
 }
 
 /// Every length of a good map, operation and clock, cut off or followed by zeros.
-pub fn every_length(checker: &mut Checker) {
+pub fn every_length(asks: &mut dyn Asks) {
     let clock: Clock = Clock::from([(1, 1), (2, 1)]);
     let map = bytes_of(&[
         Record { kind: 1, actor: 1, number: 1, ..Record::default() },
@@ -140,35 +140,35 @@ pub fn every_length(checker: &mut Checker) {
         image
     };
     for length in 0..=map.len() + 17 {
-        checker.every_call(&resized(&map, length), &map, 1, 5, 7);
-        checker.every_call(&map, &resized(&map, length), 1, 5, 7);
+        asks.every_call(&resized(&map, length), &map, 1, 5, 7);
+        asks.every_call(&map, &resized(&map, length), 1, 5, 7);
     }
     for length in 0..=removal.len() + 17 {
-        checker.apply(&map, &resized(&removal, length));
-        checker.validate_op(&map, &resized(&removal, length));
+        asks.apply(&map, &resized(&removal, length));
+        asks.validate_op(&map, &resized(&removal, length));
     }
     for length in 0..=clock.len() + 17 {
-        checker.reset_remove(&map, &resized(&clock, length));
+        asks.reset_remove(&map, &resized(&clock, length));
     }
     for (longest, around) in [(14_464, 14_449..=14_482), (400, 385..=418), (128, 113..=146)] {
         for length in around {
             // form is bad everywhere here, so only the length can answer 2
             let zeros = vec![0; length];
             assert!(zeros.len().abs_diff(longest) <= 18);
-            checker.every_call(&zeros, &map, 1, 5, 7);
-            checker.every_call(&map, &zeros, 1, 5, 7);
+            asks.every_call(&zeros, &map, 1, 5, 7);
+            asks.every_call(&map, &zeros, 1, 5, 7);
         }
     }
 }
 
 /// All images of up to four well-formed map records, and every small partner of the good ones.
-pub fn small_maps(checker: &mut Checker) {
+pub fn small_maps(asks: &mut dyn Asks) {
     let records = map_records();
     let mut good = Vec::new();
     for length in 0..=4 {
         each_choice(&records, length, &mut Vec::new(), &mut |chosen| {
             let image = bytes_of(chosen);
-            checker.len(&image);
+            asks.len(&image);
             if read_map(&image).is_ok() {
                 good.push(image);
             }
@@ -178,33 +178,33 @@ pub fn small_maps(checker: &mut Checker) {
     let operations = small_operations();
     for map in &good {
         for clock in &clocks {
-            checker.reset_remove(map, clock);
+            asks.reset_remove(map, clock);
         }
         for operation in &operations {
-            checker.apply(map, operation);
-            checker.validate_op(map, operation);
+            asks.apply(map, operation);
+            asks.validate_op(map, operation);
         }
         for actor in 1..=3 {
-            checker.update(map, actor, 5, 9);
+            asks.update(map, actor, 5, 9);
         }
         for key in 5..=7 {
-            checker.rm_get(map, key);
-            checker.rm_read_ctx(map, key);
-            checker.get(map, key);
+            asks.rm_get(map, key);
+            asks.rm_read_ctx(map, key);
+            asks.get(map, key);
         }
     }
     let shortest: Vec<&Vec<u8>> = good.iter().filter(|map| map.len() <= 3 * 16).collect();
     for map in &shortest {
         for other in &shortest {
-            checker.merge(map, other);
-            checker.validate_merge(map, other);
+            asks.merge(map, other);
+            asks.validate_merge(map, other);
         }
     }
     println!("{} small maps, {} of them with each other", good.len(), shortest.len());
 }
 
 /// Every lent clock over few dots, every length, every dot added.
-pub fn small_lent_clocks(checker: &mut Checker) {
+pub fn small_lent_clocks(asks: &mut dyn Asks) {
     let dots = [(1, 0), (1, 1), (1, 2), (2, 1), (3, u64::MAX)];
     for first in dots {
         for second in dots {
@@ -214,7 +214,7 @@ pub fn small_lent_clocks(checker: &mut Checker) {
                     lent[..3].copy_from_slice(&[first, second, third]);
                     for actor in 0..=4 {
                         for counter in [0, 1, 2, u64::MAX] {
-                            checker.clock_advance(&lent, len, actor, counter);
+                            asks.clock_advance(&lent, len, actor, counter);
                         }
                     }
                 }

@@ -123,8 +123,8 @@ pub fn validate_merge(map: &[u8], other: &[u8]) -> Answer {
     Answer { number, bytes: vec![], carried }
 }
 
-/// The number, and the dots after the call: checked on all eight places that are lent, since dots
-/// behind `len` are neither read nor changed.
+/// The number, and the dots after the call, on all eight places that are lent: dots behind `len`
+/// are not read, and become zero where the call has an effect (docs/DECISIONS.md, 26).
 pub fn clock_advance(
     dots: &[(u16, u64); 8],
     len: usize,
@@ -145,7 +145,10 @@ pub fn clock_advance(
     if clock.dots.len() > 8 {
         return unchanged(4);
     }
-    let mut after = *dots;
+    if clock.dots.iter().map(|(actor, counter)| (*actor, *counter)).eq(held.iter().copied()) {
+        return unchanged(0);
+    }
+    let mut after = [(0, 0); 8];
     let new_len = clock.dots.len();
     for (place, dot) in clock.dots.into_iter().enumerate() {
         after[place] = dot;

@@ -1,6 +1,7 @@
 //! The oracle: what every call must answer, from document 01's image rules and the published crate.
 
 pub mod expected;
+pub mod full;
 pub mod image;
 pub mod model;
 pub mod published;

@@ -160,7 +160,8 @@ impl Clock {
         Some(())
     }
 
-    /// The controller's own clock, lent with any content, advanced by one dot.
+    /// The controller's own clock, lent with any content, advanced by one dot; with effect, the
+    /// places behind `len` become zero.
     pub fn advance(&mut self, dot: Dot) -> Result<(), u32> {
         if self.len > MOST_DOTS {
             return Err(number::IMAGE_OVER_LIMIT);
@@ -169,6 +170,11 @@ impl Clock {
         if !ascends || self.dots().iter().any(|dot| dot.counter == 0) {
             return Err(number::BAD_FORM);
         }
-        self.add(dot).ok_or(number::OVER_DOTS)
+        let before = *self;
+        self.add(dot).ok_or(number::OVER_DOTS)?;
+        if *self != before {
+            self.dots[self.len..].fill(Dot { actor: 0, counter: 0 });
+        }
+        Ok(())
     }
 }

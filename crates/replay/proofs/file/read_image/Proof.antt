@@ -1,0 +1,28 @@
+-- `read_image` writes its records within the buffer. Assumes nothing.
+use Prim.Native.Nat.{_≤_, _-_}
+use borrow.Author.Needs.{needs}
+use Rattle.replay.proofs.file.read_image.Statement.{statement}
+use Rattle.replay.proofs.file.read_image.Tie as tie
+
+abbrev Inv-loop : tie.InvT-loop
+Inv-loop file from into₀ len at₀ i₀ into at i = i ≤ 916
+
+abbrev μ-loop : tie.MeasureT-loop
+μ-loop file from into₀ len at₀ i₀ into at i = 916 - i
+
+pub read-image-spec : {M : Type 1} → statement M
+read-image-spec =
+    tie.close
+    (tie.spec
+    Inv-loop
+    μ-loop
+    (λ c κs. search needs)
+    (λ c. search needs)
+    (λ c. search needs)
+    (λ c κs. search needs)
+    (λ c. search needs)
+    (λ c κs. search needs)
+    (λ c. search needs)
+    (λ c. search needs)
+    (λ c. search needs)
+    (λ c. search needs))

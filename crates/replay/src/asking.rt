@@ -1,0 +1,113 @@
+// The calls of castribba.h, by their number in the file.
+use crate::file::BUFFER;
+use crate::file::Question;
+use clock::Clock;
+use clock::Dot;
+use records::Record;
+
+fn dot(image: &[u8; BUFFER], place: usize) -> Dot {
+    let at = (place % 9) * 16;
+    let r = records::read_record(image, at);
+    Dot {
+        actor: r.actor,
+        counter: r.number,
+    }
+}
+
+fn put(out: &mut [u8; BUFFER], place: usize, d: Dot) {
+    let at = (place % 9) * 16;
+    let record = Record {
+        kind: 1,
+        index: 0,
+        actor: d.actor,
+        key: 0,
+        number: d.counter,
+    };
+    records::write_record(out, at, record);
+}
+
+// What `castribba_clock_advance` stores back, by value: lending a local struct would be a proof by hand.
+// A lent clock is written as its eight places and, in a ninth record, its length.
+pub fn advance(asked: Question, lent: &[u8; BUFFER], out: &mut [u8; BUFFER]) -> u64 {
+    let dots = [
+        dot(lent, 0),
+        dot(lent, 1),
+        dot(lent, 2),
+        dot(lent, 3),
+        dot(lent, 4),
+        dot(lent, 5),
+        dot(lent, 6),
+        dot(lent, 7),
+    ];
+    let last = dot(lent, 8);
+    let given = Clock {
+        dots,
+        len: last.counter as usize,
+    };
+    let a = advance::advance(given, asked.actor, asked.value);
+    let after = a.clock;
+    put(out, 0, after.dots[0]);
+    put(out, 1, after.dots[1]);
+    put(out, 2, after.dots[2]);
+    put(out, 3, after.dots[3]);
+    put(out, 4, after.dots[4]);
+    put(out, 5, after.dots[5]);
+    put(out, 6, after.dots[6]);
+    put(out, 7, after.dots[7]);
+    let length = Dot {
+        actor: 0,
+        counter: after.len as u64,
+    };
+    put(out, 8, length);
+    a.word
+}
+
+fn ask_within(asked: Question, first: &[u8], second: &[u8], out: &mut [u8]) -> u64 {
+    let call = asked.call;
+    match call {
+        1 => castribba::castribba_apply(first, second, out),
+        2 => castribba::castribba_merge(first, second, out),
+        3 => castribba::castribba_reset_remove(first, second, out),
+        4 => castribba::castribba_update(first, asked.actor, asked.key, asked.value, out),
+        5 => castribba::castribba_rm_get(first, asked.key, out),
+        6 => castribba::castribba_rm_read_ctx(first, asked.key, out),
+        7 => castribba::castribba_get(first, asked.key, out),
+        8 => castribba::castribba_len(first),
+        9 => castribba::castribba_len_count(first),
+        10 => castribba::castribba_validate_op(first, second),
+        11 => castribba::castribba_validate_op_start(first, second),
+        12 => castribba::castribba_validate_op_end(first, second),
+        13 => castribba::castribba_validate_merge(first, second),
+        14 => castribba::castribba_validate_merge_actor(first, second),
+        15 => castribba::castribba_validate_merge_counter(first, second),
+        16 => castribba::castribba_validate_merge_our_key(first, second),
+        _ => castribba::castribba_validate_merge_their_key(first, second),
+    }
+}
+
+// The call on as much of the three buffers as is its own.
+pub fn ask(
+    asked: Question,
+    first: &[u8],
+    first_len: usize,
+    second: &[u8],
+    second_len: usize,
+    out: &mut [u8],
+) -> u64 {
+    let room = asked.room;
+    if first.len() < first_len {
+        return 0;
+    }
+    if second.len() < second_len {
+        return 0;
+    }
+    if out.len() < room {
+        return 0;
+    }
+    ask_within(
+        asked,
+        &first[0..first_len],
+        &second[0..second_len],
+        &mut out[0..room],
+    )
+}

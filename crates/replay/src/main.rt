@@ -1,0 +1,95 @@
+// Replays a sample of the oracle's answers: makes each call of the file on the file's images, and counts the answers that differ from the file's.
+mod asking;
+mod file;
+mod tally;
+
+use crate::file::BUFFER;
+use crate::file::Question;
+use libc::STDIN_FILENO;
+
+// Every byte of an output buffer before a call.
+const PAINT: u8 = 165;
+
+fn same(a: &[u8; BUFFER], b: &[u8; BUFFER]) -> bool {
+    for i in 0..BUFFER {
+        if a[i] != b[i] {
+            return false;
+        }
+    }
+    true
+}
+
+// One case: the call into a painted buffer, and whether the word and every byte of the buffer are as the file says.
+fn agrees(
+    asked: Question,
+    first: &[u8; BUFFER],
+    first_len: usize,
+    second: &[u8; BUFFER],
+    second_len: usize,
+    wanted: &[u8; BUFFER],
+) -> bool {
+    let mut out = [PAINT; BUFFER];
+    let word = if asked.call == 18 {
+        asking::advance(asked, first, &mut out)
+    } else {
+        asking::ask(asked, first, first_len, second, second_len, &mut out)
+    };
+    (word == asked.word) & same(&out, wanted)
+}
+
+fn replay(file: &[u8]) {
+    let mut first = [0u8; BUFFER];
+    let mut second = [0u8; BUFFER];
+    let mut cases = [0u64; 19];
+    let mut differences = [0u64; 19];
+    let mut first_case = [0u64; 19];
+    let mut numbers = [0u64; 19];
+    let mut first_len = 0;
+    let mut second_len = 0;
+    let start = file::number(file, 0);
+    let mut at = start.at;
+    let end = start.value % 65536;
+    for case in 0..end {
+        let asked = file::read_question(file, at);
+        at = asked.at;
+        if asked.fresh {
+            let one = file::read_image(file, at, &mut first);
+            let two = file::read_image(file, one.at, &mut second);
+            at = two.at;
+            first_len = one.len;
+            second_len = two.len;
+        }
+        let mut wanted = [PAINT; BUFFER];
+        let three = file::read_image(file, at, &mut wanted);
+        at = three.at;
+        tally::count(&mut cases, asked.call);
+        if tally::answers_number(asked.call) {
+            tally::count(&mut numbers, asked.number);
+        }
+        if !agrees(asked, &first, first_len, &second, second_len, &wanted) {
+            tally::count(&mut differences, asked.call);
+            tally::note(&mut first_case, asked.call, case + 1);
+        }
+    }
+    tally::print_calls(&cases, &differences, &first_case);
+    tally::print_numbers(&numbers);
+}
+
+fn print_file(file: &[u8]) {
+    tally::say(b"file of ");
+    tally::say_number(file.len() as u64);
+    tally::say(b" bytes, adler-32 ");
+    tally::say_number(file::sum(file));
+    tally::say(b"\n");
+}
+
+// The longest file.
+const LONGEST: usize = 524288;
+
+// One byte more than the file may have is read, so that a longer one is seen to be longer.
+fn main() {
+    let mut space = [0u8; LONGEST + 1];
+    let n = io::read_full(STDIN_FILENO, &mut space);
+    replay(&space[..n]);
+    print_file(&space[..n]);
+}

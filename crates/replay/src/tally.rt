@@ -1,0 +1,89 @@
+// What is counted, in tables with a place for each call (from 1) or for each number (from 0), and how it is printed.
+use libc::STDOUT_FILENO;
+use std::num::wrapping_add_u64;
+
+pub fn say(text: &[u8]) {
+    io::write_all(STDOUT_FILENO, text);
+}
+
+pub fn say_number(x: u64) {
+    io::print_decimal(STDOUT_FILENO, x);
+}
+
+fn say_name(call: usize) {
+    match call {
+        1 => say(b"castribba_apply"),
+        2 => say(b"castribba_merge"),
+        3 => say(b"castribba_reset_remove"),
+        4 => say(b"castribba_update"),
+        5 => say(b"castribba_rm_get"),
+        6 => say(b"castribba_rm_read_ctx"),
+        7 => say(b"castribba_get"),
+        8 => say(b"castribba_len"),
+        9 => say(b"castribba_len_count"),
+        10 => say(b"castribba_validate_op"),
+        11 => say(b"castribba_validate_op_start"),
+        12 => say(b"castribba_validate_op_end"),
+        13 => say(b"castribba_validate_merge"),
+        14 => say(b"castribba_validate_merge_actor"),
+        15 => say(b"castribba_validate_merge_counter"),
+        16 => say(b"castribba_validate_merge_our_key"),
+        17 => say(b"castribba_validate_merge_their_key"),
+        _ => say(b"castribba_clock_advance"),
+    }
+}
+
+// Whether a call answers a number of 01's; the others answer what such a call carries.
+pub fn answers_number(call: usize) -> bool {
+    match call {
+        9 | 11 | 12 | 14 | 15 | 16 | 17 => false,
+        _ => true,
+    }
+}
+
+pub fn count(table: &mut [u64; 19], place: usize) {
+    let at = place % 19;
+    table[at] = wrapping_add_u64(table[at], 1);
+}
+
+// Keeps the first case that is noted at a place.
+pub fn note(table: &mut [u64; 19], place: usize, case: u64) {
+    let at = place % 19;
+    if table[at] == 0 {
+        table[at] = case;
+    }
+}
+
+fn print_call(call: usize, cases: u64, differences: u64, first: u64) {
+    say_name(call);
+    say(b" ");
+    say_number(cases);
+    say(b" cases, ");
+    say_number(differences);
+    say(b" differences");
+    if first != 0 {
+        say(b", the first in case ");
+        say_number(first);
+    }
+    say(b"\n");
+}
+
+pub fn print_calls(cases: &[u64; 19], differences: &[u64; 19], first: &[u64; 19]) {
+    for call in 1..19 {
+        print_call(call, cases[call], differences[call], first[call]);
+    }
+}
+
+fn print_number(number: u64, times: u64) {
+    say(b"number ");
+    say_number(number);
+    say(b" ");
+    say_number(times);
+    say(b" times\n");
+}
+
+pub fn print_numbers(numbers: &[u64; 19]) {
+    for number in 0..13 {
+        print_number(number as u64, numbers[number]);
+    }
+}
