@@ -136,35 +136,24 @@ impl Entry {
 }
 
 impl Hand {
-    // What a removal leaves of the entry in hand.
-    pub fn removed(self, r: Removal) -> Hand
-        ensures { λ h. ⌜ ((e : Entry) → self ≡ handOf e → h ≡ handOf (removeFrom r e)) ⌝ }
-    {
-        if r.keys.contains(self.key) {
-            let clock = self.clock.cut(r.clock);
-            let wide = self.wide.cut(r.clock);
-            return Hand {
-                key: self.key,
-                clock,
-                wide,
-            };
-        }
-        self
-    }
-
     // What every waiting removal leaves of it.
     pub fn run(self, waiting: Waiting) -> Hand
         ensures { λ h. ⌜ ((e : Entry) → self ≡ handOf e → h ≡ handOf (run (waitingOf waiting) e)) ⌝ }
     {
         let n = waiting.size();
-        let mut out = self;
+        let key = self.key;
+        let mut clock = self.clock;
+        let mut wide = self.wide;
         let mut i: usize = 0;
         while i < n {
             let w = waiting.items[i];
             i += 1;
-            out = out.removed(w);
+            if w.keys.contains(key) {
+                clock = clock.cut(w.clock);
+                wide = wide.cut(w.clock);
+            }
         }
-        out
+        Hand { key, clock, wide }
     }
 }
 
@@ -210,7 +199,9 @@ impl Entries {
             i += 1;
             let left = e.removed(r);
             if !left.clock.is_empty() {
-                out = out.push(left);
+                let k = out.len;
+                out.items[k] = left;
+                out.len = k + 1;
             }
         }
         out
@@ -228,7 +219,9 @@ impl Entries {
             i += 1;
             let left = e.cut(by);
             if !left.clock.is_empty() {
-                out = out.push(left);
+                let k = out.len;
+                out.items[k] = left;
+                out.len = k + 1;
             }
         }
         out
@@ -261,7 +254,9 @@ impl Entries {
             let e = self.items[i];
             i += 1;
             if e.key == key {
-                out = out.push(e);
+                let k = out.len;
+                out.items[k] = e;
+                out.len = k + 1;
             }
         }
         out
