@@ -37,8 +37,7 @@ pub extern "C" fn castribba_apply(map: &[u8], op: &[u8], out: &mut [u8]) -> u64
         return answers::word(o.number);
     }
     let j = m.map.apply(o.op);
-    let next = j.map;
-    answers::give_map(j.number, next, out)
+    answers::give_map(j.number, j.map, out)
 }
 
 #[no_mangle]
@@ -54,8 +53,7 @@ pub extern "C" fn castribba_merge(map: &[u8], other: &[u8], out: &mut [u8]) -> u
         return answers::word(o.number);
     }
     let j = m.map.merge(o.map);
-    let next = j.map;
-    answers::give_map(j.number, next, out)
+    answers::give_map(j.number, j.map, out)
 }
 
 #[no_mangle]
@@ -71,8 +69,7 @@ pub extern "C" fn castribba_reset_remove(map: &[u8], clock: &[u8], out: &mut [u8
         return answers::word(k.number);
     }
     let j = m.map.reset_remove(k.clock);
-    let next = j.map;
-    answers::give_map(j.number, next, out)
+    answers::give_map(j.number, j.map, out)
 }
 
 #[no_mangle]

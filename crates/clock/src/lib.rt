@@ -114,7 +114,9 @@ impl Clock {
             let d = self.dots[i];
             i += 1;
             if by.get(d.actor) < d.counter {
-                out = out.push(d);
+                let k = out.len;
+                out.dots[k] = d;
+                out.len = k + 1;
             }
         }
         out
@@ -131,7 +133,9 @@ impl Clock {
             let d = self.dots[i];
             i += 1;
             if other.get(d.actor) == d.counter {
-                out = out.push(d);
+                let k = out.len;
+                out.dots[k] = d;
+                out.len = k + 1;
             }
         }
         out

@@ -73,11 +73,10 @@ impl Map {
         if grown.over {
             return Judged::refused(4);
         }
-        let entries = self.entries;
-        let waiting = self.waiting;
-        let below = Finished::new().side(entries, u.key, true, waiting);
-        let with = below.add(entries.at(u.key).put(u).run(waiting));
-        let all = with.side(entries, u.key, false, waiting);
+        let mut all = Finished::new();
+        all = all.side(self.entries, u.key, true, self.waiting);
+        all = all.add(self.entries.at(u.key).put(u).run(self.waiting));
+        all = all.side(self.entries, u.key, false, self.waiting);
         if ENTRIES < all.count {
             return Judged::refused(5);
         }
@@ -85,8 +84,12 @@ impl Map {
             return Judged::refused(6);
         }
         let clock = grown.clock;
-        let left = waiting.uncovered(clock);
-        let done = all.entries;
+        let left = self.waiting.uncovered(clock);
+        let items = all.items;
+        let done = Entries {
+            items,
+            len: all.count,
+        };
         Judged::accepted(clock, done, left)
     }
 

@@ -6,6 +6,7 @@ ghost use Rattle.map.specs.Valid.{Within};
 use crate::Judged;
 use crate::Map;
 use parts::ENTRIES;
+use parts::Entries;
 use parts::WAITING;
 
 impl Map {
@@ -37,7 +38,11 @@ impl Map {
         if g.long {
             return Judged::refused(8);
         }
-        let entries = all.entries;
+        let items = all.items;
+        let entries = Entries {
+            items,
+            len: all.count,
+        };
         let waiting = g.waiting;
         Judged::accepted(clock, entries, waiting)
     }

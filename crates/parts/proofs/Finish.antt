@@ -1,77 +1,79 @@
--- Laws of finished entries: one more, within the limits and over them.
+-- Laws of finished entries: one more, within the limits and over them; a loop that finishes a list.
 -- Assumes nothing.
-use mathlib.Core.Path.{_≡_, ap, sym, _∙_}
-use mathlib.Core.Bool.{Bool, true, false, not, _&&_, _||_}
-use mathlib.Core.List.{List, [], _∷_, _++_}
-use Prim.Native.Nat.{_+_, _≤_}
+use mathlib.Core.Path.{_≡_, refl, ap, sym, _∙_}
+use mathlib.Core.Bool.{true, false, _||_}
+use mathlib.Core.List.{List, [], _∷_, _++_, append-nil}
+use Prim.Native.Nat.{ℕ, _+_, _≤_, _<_}
 use native.Mathlib.Omega.{arith}
-use borrow.Author.Tests.{ltb-false, le-leb}
-use lib.Dec.{ltb}
-use lib.ListN.{length}
-use Rattle.lists.specs.First.{firstIn, some}
-use Rattle.lists.proofs.Pads.{length-snoc}
-use Rattle.lists.proofs.Tally.{some-snoc, both-pass, tally-step}
+use borrow.Author.Tests.{ltb-false, lt-ltb}
+use lib.ListN.{length, set}
+use lib.Seq.{append-snoc}
+use Rattle.lists.specs.First.{some}
+use Rattle.lists.specs.Sift.{sift}
+use Rattle.lists.proofs.Pads.{push-pad, length-snoc}
+use Rattle.lists.proofs.Tally.{some-snoc, both-pass}
 use Rattle.register.specs.Values.{valueLimit, wideValues, settled}
 use Rattle.register.proofs.Packs.{fits, settled-over, wide-values}
 use Rattle.parts.specs.declared.Entry.{Entry}
 use Rattle.parts.specs.declared.Finished.{Finished}
 use Rattle.parts.specs.declared.Hand.{Hand}
+use Rattle.parts.specs.declared.Lying.{Lying}
 use Rattle.parts.specs.declared.Entries.{Entries}
-use Rattle.register.specs.declared.Settled.{Settled}
-use Rattle.parts.specs.Model.{entryLimit, valuesIn, entriesAs, handOf, Laid, overfull, finished, Counted}
+use Rattle.parts.specs.Model.{entryLimit, noEntry, valuesIn, entriesAs, handOf, Laid, lying, overfull, Finishes}
+use Rattle.parts.specs.Entries.{stays}
 
-module _ (l : List Entry) where
-  pub finish-open : length l ≤ entryLimit → some overfull l ≡ false → finished l .entries ≡ entriesAs l
-  unfolding finished
-  finish-open h e = rw (le-leb (length l) entryLimit h, e)
-
-  module _ (e : Entry) where
-    pub finish-kept : (ltb (length l) entryLimit && not (some overfull l || overfull e)) ≡ true → record { count = length l + 1; wide = some overfull l || overfull e; entries = entriesAs (l ++ (e ∷ [])) } ≡ finished (l ++ (e ∷ []))
-    unfolding finished
-    finish-kept t = rw (tally-step entryLimit overfull l e, some-snoc overfull l e, length-snoc l e, t)
-
-    pub finish-lost : (ltb (length l) entryLimit && not (some overfull l || overfull e)) ≡ false → record { count = length l + 1; wide = some overfull l || overfull e; entries = entriesAs [] } ≡ finished (l ++ (e ∷ []))
-    unfolding finished
-    finish-lost t = rw (tally-step entryLimit overfull l e, some-snoc overfull l e, length-snoc l e, t)
+-- the entries, where they are within both limits
+pub finish-open : {f : Finished} {l : List Entry} → Finishes l f → length l ≤ entryLimit → some overfull l ≡ false → _≡_ {A = Entries} (record { items = f .items; len = f .count }) (entriesAs l)
+finish-open p few thin = λ i. record { items = p .items few thin i; len = p .count i }
 
 -- one entry more, as it is laid down from the hand
-module _ {f : Finished} {h : Hand} {s : Settled} (l : List Entry) (e : Entry) (q : f ≡ finished l) (p : h ≡ handOf e) (r : s ≡ settled (wideValues (h .wide))) where
-  laid-values : s ≡ settled (valuesIn e)
-  laid-values = r ∙ ap settled (wide-values (valuesIn e) (ap (λ k. k .wide) p))
+pub finish-one : {f : Finished} {h : Hand} {s : Lying} {k : ℕ} (l : List Entry) (e : Entry) → Finishes l f → h ≡ handOf e → Laid e → s ≡ lying h → (f .count < entryLimit → k ≡ f .count)
+    → Finishes (l ++ (e ∷ [])) (record { count = f .count + 1; wide = f .wide || s .over; items = set (f .items) k (s .entry) })
+finish-one {f} {h} {s} {k} l e p q laid r place =
+    let values : wideValues (h .wide) ≡ valuesIn e = wide-values (valuesIn e) (ap (λ x. x .wide) q) in
+    let over : s .over ≡ overfull e = ap (λ x. x .over) r ∙ ap (λ v. settled v .over) values ∙ settled-over (valuesIn e) in
+    record {
+      count = ap (λ n. n + 1) (p .count) ∙ sym (length-snoc l e);
+      wide = rw (p .wide, over) (sym (some-snoc overfull l e));
+      items = λ few thin.
+          let less : length l < entryLimit = omega (arith, length-snoc l e) in
+          let none : (some overfull l || overfull e) ≡ false = sym (some-snoc overfull l e) ∙ thin in
+          let b = both-pass {n = length l} {k = entryLimit} (some overfull l) (overfull e) (rw (lt-ltb (length l) entryLimit less, none)) in
+          let room : length (valuesIn e) ≤ valueLimit = ltb-false valueLimit (length (valuesIn e)) (b .2) in
+          let register : settled (wideValues (h .wide)) .register ≡ e .register = ap (λ v. settled v .register) values ∙ ap (λ x. x .register) (fits (valuesIn e) room) ∙ sym (ap (λ x. x .register) laid) in
+          let item : s .entry ≡ e = ap (λ x. x .entry) r ∙ (λ i. record { key = q i .key; clock = q i .clock; register = register i }) in
+          let at : k ≡ length l = place (omega (arith, p .count)) ∙ p .count in
+          rw (p .items (omega arith) (b .1), at, item) (push-pad noEntry entryLimit l e less);
+    }
 
-  flags : (b : Bool) → (ltb (f .count) entryLimit && not (f .wide || s .over)) ≡ b → (ltb (length l) entryLimit && not (some overfull l || overfull e)) ≡ b
-  unfolding finished
-  flags b t = rw (q, ap (λ k. k .over) laid-values ∙ settled-over (valuesIn e)) at t
+-- f has finished what is done of the whole, and the rest is to come
+pub record Going (whole rest : List Entry) (f : Finished) : Type 0 where
+  pub done : List Entry
+  pub holds : Finishes done f
+  pub parts : whole ≡ done ++ rest
 
-  together : (o : Entries) → _≡_ {A = Finished} (record { count = f .count + 1; wide = f .wide || s .over; entries = o }) (record { count = length l + 1; wide = some overfull l || overfull e; entries = o })
-  unfolding finished
-  together o = rw (q, ap (λ k. k .over) laid-values ∙ settled-over (valuesIn e))
+pub go-start : {f : Finished} (pre : List Entry) {rest : List Entry} → Finishes pre f → Going (pre ++ rest) rest f
+go-start pre p = record { done = pre; holds = p; parts = refl }
 
-  pub keep-one : {o : Entries} → Laid e → (ltb (f .count) entryLimit && not (f .wide || s .over)) ≡ true
-      → ((m : List Entry) → f .entries ≡ entriesAs m → o ≡ entriesAs (m ++ (record { key = h .key; clock = h .clock; register = s .register } ∷ [])))
-      → record { count = f .count + 1; wide = f .wide || s .over; entries = o } ≡ finished (l ++ (e ∷ []))
-  keep-one {o} laid t g =
-      let u = flags true t in
-      let b = both-pass {n = length l} {k = entryLimit} (some overfull l) (overfull e) u in
-      let room : length (valuesIn e) ≤ valueLimit = ltb-false valueLimit (length (valuesIn e)) (b .2) in
-      let register : s .register ≡ e .register = ap (λ k. k .register) (laid-values ∙ fits (valuesIn e) room) ∙ sym (ap (λ k. k .register) laid) in
-      let item : _≡_ {A = Entry} (record { key = h .key; clock = h .clock; register = s .register }) e = λ i. record { key = p i .key; clock = p i .clock; register = register i } in
-      let stored : o ≡ entriesAs (l ++ (e ∷ [])) = g l (ap (λ k. k .entries) q ∙ finish-open l (omega (arith, b .0)) (b .1)) ∙ ap (λ x. entriesAs (l ++ (x ∷ []))) item in
-      together o ∙ ap (λ x. record { count = length l + 1; wide = some overfull l || overfull e; entries = x }) stored ∙ finish-kept l e u
+pub go-keep : {f g : Finished} {whole rest more : List Entry} {e : Entry} → Going whole rest f → rest ≡ e ∷ more → ((l : List Entry) → Finishes l f → Finishes (l ++ (e ∷ [])) g) → Going whole more g
+go-keep {more = more} {e = e} p q step = record {
+  done = p .done ++ (e ∷ []);
+  holds = step (p .done) (p .holds);
+  parts = p .parts ∙ ap (λ r. p .done ++ r) q ∙ sym (append-snoc (p .done) e more);
+}
 
-  pub lose-one : {o : Entries} → (ltb (f .count) entryLimit && not (f .wide || s .over)) ≡ false → o ≡ entriesAs []
-      → record { count = f .count + 1; wide = f .wide || s .over; entries = o } ≡ finished (l ++ (e ∷ []))
-  lose-one {o} t g = together o ∙ ap (λ x. record { count = length l + 1; wide = some overfull l || overfull e; entries = x }) g ∙ finish-lost l e (flags false t)
+pub go-skip : {f : Finished} {whole rest more : List Entry} → Going whole rest f → rest ≡ more → Going whole more f
+go-skip p q = record { done = p .done; holds = p .holds; parts = p .parts ∙ ap (λ r. p .done ++ r) q }
 
--- what is counted of finished entries
-pub finish-none : Counted (finished []) 0
-unfolding finished firstIn
-finish-none = (omega arith, omega arith)
+pub go-end : {f : Finished} {whole rest : List Entry} → Going whole rest f → rest ≡ [] → Finishes whole f
+go-end {f} p q = rw (p .parts ∙ ap (λ r. p .done ++ r) q ∙ append-nil (p .done)) (p .holds)
 
-pub finish-count : {f : Finished} (l : List Entry) → f ≡ finished l → f .count ≡ length l
-unfolding finished
-finish-count l e = ap (λ f. f .count) e
+-- the first of the rest stays, or goes
+module _ (change : Entry → Entry) (e : Entry) (l : List Entry) where
+  pub one-stays : stays (change e) ≡ true → sift stays change (e ∷ l) ≡ change e ∷ sift stays change l
+  unfolding sift
+  one-stays t = rw t
 
-pub finish-wide : {f : Finished} (l : List Entry) → f ≡ finished l → f .wide ≡ some overfull l
-unfolding finished
-finish-wide l e = ap (λ f. f .wide) e
+  pub one-goes : stays (change e) ≡ false → sift stays change (e ∷ l) ≡ sift stays change l
+  unfolding sift
+  one-goes t = rw t

@@ -2,6 +2,7 @@ pub mod Sets
 pub mod Before
 pub mod Packs
 pub mod Finish
+pub mod Meets
 pub mod Gather
 pub mod Clocks
 pub mod Pieces

@@ -1,6 +1,6 @@
 -- 01 "Map", what becomes of an entry: in a removal, an update, a merge; and of all entries, in the order of their keys.
 -- Assumes nothing.
-use mathlib.Core.Bool.{Bool, true, false, not, cond}
+use mathlib.Core.Bool.{Bool, true, false, not, _&&_, _||_, cond}
 use mathlib.Core.List.{List, [], _∷_, _++_}
 use Prim.Native.Nat.{ℕ}
 use lib.Dec.{ltb, eqb}
@@ -15,7 +15,8 @@ use Rattle.register.specs.Values.{putValues, cutValues, mergeValues}
 use Rattle.parts.specs.declared.Entry.{Entry}
 use Rattle.parts.specs.declared.Removal.{Removal}
 use Rattle.parts.specs.declared.Update.{Update}
-use Rattle.parts.specs.Model.{dotsIn, valuesIn, entryAs, underOf, listedIn}
+use Rattle.parts.specs.declared.Met.{Met}
+use Rattle.parts.specs.Model.{dotsIn, valuesIn, entryAs, handOf, underOf, listedIn}
 
 -- "Every entry clock is non-empty": an entry whose clock is emptied goes
 abbrev pub stays : Entry → Bool
@@ -69,6 +70,12 @@ unfoldable pub together : List Dot → List Dot → Entry → Entry → Entry
 together ours theirs e f =
     let keep = keepDots ours theirs (dotsIn e) (dotsIn f) in
     entryAs (e .key) keep (cutValues (cutDots keep (joinDots (dotsIn e) (dotsIn f))) (mergeValues (valuesIn e) (valuesIn f)))
+
+-- the next entry of a merge in hand, and how many it takes of each side, where a side may have no more
+unfoldable pub meeting : List Dot → List Dot → Bool → Bool → Entry → Entry → Met
+meeting ours theirs a b x y =
+    cond (a && (not b || ltb (x .key) (y .key))) (record { hand = handOf (alone theirs x); ours = 1; theirs = 0 })
+    (cond (not a || ltb (y .key) (x .key)) (record { hand = handOf (alone ours y); ours = 0; theirs = 1 }) (record { hand = handOf (together ours theirs x y); ours = 1; theirs = 1 }))
 
 -- what stands on one side only, and what stands on both, by key
 abbrev pub weaveEntries : List Dot → List Dot → List Entry → List Entry → List Entry

@@ -12,7 +12,7 @@ use Rattle.lists.specs.Pad.{pad}
 use Rattle.clock.specs.declared.Dot.{Dot}
 use Rattle.clock.specs.Dots.{noDot, dotsOf, clockOf}
 use Rattle.register.specs.declared.Value.{Value}
-use Rattle.register.specs.Values.{valueLimit, noValue, valuesOf, registerOf, wideOf}
+use Rattle.register.specs.Values.{valueLimit, noValue, valuesOf, wideValues, registerOf, wideOf, settled}
 use Rattle.parts.specs.declared.Entry.{Entry}
 use Rattle.parts.specs.declared.Entries.{Entries}
 use Rattle.parts.specs.declared.Keys.{Keys}
@@ -21,6 +21,7 @@ use Rattle.parts.specs.declared.Waiting.{Waiting}
 use Rattle.parts.specs.declared.Update.{Update}
 use Rattle.parts.specs.declared.United.{United}
 use Rattle.parts.specs.declared.Hand.{Hand}
+use Rattle.parts.specs.declared.Lying.{Lying}
 use Rattle.parts.specs.declared.Finished.{Finished}
 use Rattle.parts.specs.declared.Gathered.{Gathered}
 use Rattle.parts.specs.declared.Remnant.{Remnant}
@@ -96,20 +97,20 @@ handOf e = record { key = e .key; clock = e .clock; wide = wideOf (valuesIn e) }
 abbrev pub Laid : Entry → Type 0
 Laid e = e ≡ entryAs (e .key) (dotsIn e) (valuesIn e)
 
+-- an entry in hand, laid down
+abbrev pub lying : Hand → Lying
+lying h =
+    let s = settled (wideValues (h .wide)) in
+    record { over = s .over; entry = record { key = h .key; clock = h .clock; register = s .register } }
+
 -- finished entries: how many there are, whether one has too many values, and the entries where they are within both limits
 abbrev pub overfull : Entry → Bool
 overfull e = ltb valueLimit (length (valuesIn e))
 
-unfoldable pub finished : List Entry → Finished
-finished l = record {
-  count = length l;
-  wide = some overfull l;
-  entries = cond (leb (length l) entryLimit && not (some overfull l)) (entriesAs l) (entriesAs []);
-}
-
--- so many entries at most have been finished, and no more are stored
-abbrev pub Counted : Finished → ℕ → Type 0
-Counted f n = (f .count ≤ n) × (f .entries .len ≤ f .count)
+pub record Finishes (l : List Entry) (f : Finished) : Type 0 where
+  pub count : f .count ≡ length l
+  pub wide : f .wide ≡ some overfull l
+  pub items : length l ≤ entryLimit → some overfull l ≡ false → f .items ≡ pad noEntry entryLimit l
 
 -- united removals: how many there are, whether one has too many keys, and the removals where they are within both limits
 abbrev pub overlong : Removal → Bool

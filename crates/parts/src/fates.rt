@@ -1,6 +1,6 @@
 // What becomes of an entry, and of all entries, in the order of their keys.
 ghost use mathlib.Core.Path.{_≡_};
-ghost use mathlib.Core.Bool.{false};
+ghost use mathlib.Core.Bool.{true};
 ghost use mathlib.Core.List.{List, [], _∷_, _++_, map};
 ghost use Prim.Native.Nat.{_≤_, _<_, _+_};
 ghost use lib.Dec.{eqb};
@@ -9,13 +9,15 @@ ghost use Rattle.lists.specs.Sift.{sift, those};
 ghost use Rattle.lists.specs.Order.{_∈_};
 ghost use Rattle.clock.specs.Dots.{dotLimit, dotsOf, joinDots, addDot};
 ghost use Rattle.parts.specs.declared.Entry.{Entry};
-ghost use Rattle.parts.specs.Model.{entryLimit, dotsIn, entriesOf, entriesAs, waitingOf, entryAs, handOf, Laid, finished, Counted};
-ghost use Rattle.parts.specs.Entries.{stays, cutEntry, removeFrom, removeEntries, run, putEntry, entryAt, aside, alone, keepDots, together, weaveEntries};
+ghost use Rattle.parts.specs.Model.{entryLimit, dotsIn, entriesOf, entriesAs, waitingOf, entryAs, handOf, Laid, lying, Finishes};
+ghost use Rattle.parts.specs.Entries.{stays, cutEntry, removeFrom, removeEntries, run, putEntry, entryAt, aside, alone, keepDots, together, meeting, weaveEntries};
 use crate::ENTRIES;
 use crate::Entries;
 use crate::Entry;
 use crate::Finished;
 use crate::Hand;
+use crate::Lying;
+use crate::Met;
 use crate::Removal;
 use crate::Update;
 use crate::Waiting;
@@ -136,35 +138,24 @@ impl Entry {
 }
 
 impl Hand {
-    // What a removal leaves of the entry in hand.
-    pub fn removed(self, r: Removal) -> Hand
-        ensures { λ h. ⌜ ((e : Entry) → self ≡ handOf e → h ≡ handOf (removeFrom r e)) ⌝ }
-    {
-        if r.keys.contains(self.key) {
-            let clock = self.clock.cut(r.clock);
-            let wide = self.wide.cut(r.clock);
-            return Hand {
-                key: self.key,
-                clock,
-                wide,
-            };
-        }
-        self
-    }
-
     // What every waiting removal leaves of it.
     pub fn run(self, waiting: Waiting) -> Hand
         ensures { λ h. ⌜ ((e : Entry) → self ≡ handOf e → h ≡ handOf (run (waitingOf waiting) e)) ⌝ }
     {
         let n = waiting.size();
-        let mut out = self;
+        let key = self.key;
+        let mut clock = self.clock;
+        let mut wide = self.wide;
         let mut i: usize = 0;
         while i < n {
             let w = waiting.items[i];
             i += 1;
-            out = out.removed(w);
+            if w.keys.contains(key) {
+                clock = clock.cut(w.clock);
+                wide = wide.cut(w.clock);
+            }
         }
-        out
+        Hand { key, clock, wide }
     }
 }
 
@@ -210,7 +201,9 @@ impl Entries {
             i += 1;
             let left = e.removed(r);
             if !left.clock.is_empty() {
-                out = out.push(left);
+                let k = out.len;
+                out.items[k] = left;
+                out.len = k + 1;
             }
         }
         out
@@ -228,7 +221,9 @@ impl Entries {
             i += 1;
             let left = e.cut(by);
             if !left.clock.is_empty() {
-                out = out.push(left);
+                let k = out.len;
+                out.items[k] = left;
+                out.len = k + 1;
             }
         }
         out
@@ -261,97 +256,123 @@ impl Entries {
             let e = self.items[i];
             i += 1;
             if e.key == key {
-                out = out.push(e);
+                let k = out.len;
+                out.items[k] = e;
+                out.len = k + 1;
             }
         }
         out
     }
 }
 
+impl Hand {
+    // The entry laid down, or that it has too many values.
+    fn lay(self) -> Lying
+        ensures { λ r. ⌜ r ≡ lying self ⌝ }
+    {
+        let clock = self.clock;
+        let laid = self.wide.settle();
+        let register = laid.register;
+        let entry = Entry {
+            key: self.key,
+            clock,
+            register,
+        };
+        Lying {
+            over: laid.over,
+            entry,
+        }
+    }
+}
+
+// The place behind so many entries; the last one where there is none.
+fn slot(count: usize) -> usize
+    ensures { λ r. ⌜ (r < entryLimit) × (count < entryLimit → r ≡ count) ⌝ }
+{
+    if count < ENTRIES { count } else { ENTRIES - 1 }
+}
+
+// The next of both maps' entries, `x` where there is one of ours and `y` where there is one of theirs; `mine` and `yours` are the maps' clocks.
+fn meet(x: Entry, y: Entry, ours: bool, theirs: bool, mine: Clock, yours: Clock) -> Met
+    requires { ⌜ (ours ≡ true → theirs ≡ true → (length (keepDots (dotsOf mine) (dotsOf yours) (dotsIn x) (dotsIn y)) ≤ dotLimit) × (length (joinDots (dotsIn x) (dotsIn y)) ≤ dotLimit)) ⌝ }
+    ensures { λ r. ⌜ r ≡ meeting (dotsOf mine) (dotsOf yours) ours theirs x y ⌝ }
+{
+    if ours & (!theirs | (x.key < y.key)) {
+        let hand = x.alone(yours);
+        return Met {
+            hand,
+            ours: 1,
+            theirs: 0,
+        };
+    }
+    if !ours | (y.key < x.key) {
+        let hand = y.alone(mine);
+        return Met {
+            hand,
+            ours: 0,
+            theirs: 1,
+        };
+    }
+    let hand = x.together(y, mine, yours);
+    Met {
+        hand,
+        ours: 1,
+        theirs: 1,
+    }
+}
+
 impl Finished {
     pub fn new() -> Finished
-        ensures { λ r. ⌜ r ≡ finished [] ⌝ }
+        ensures { λ r. ⌜ (r .count ≡ 0) × Finishes [] r ⌝ }
     {
-        let none = Entries::new();
+        let none = Entry::new(0);
         Finished {
             count: 0,
             wide: false,
-            entries: none,
+            items: [none; ENTRIES],
         }
     }
 
     // One entry more behind the last, unless its clock is empty.
     pub fn add(self, h: Hand) -> Finished
-        requires { ⌜ Counted self 63 ⌝ }
-        ensures { λ r. ⌜ Counted r (self .count + 1) × ((l : List Entry) (e : Entry) → Laid e → self ≡ finished l → h ≡ handOf e → r ≡ finished (l ++ those stays (e ∷ []))) ⌝ }
+        requires { ⌜ self .count ≤ 63 ⌝ }
+        ensures { λ r. ⌜ (r .count ≤ self .count + 1) × ((l : List Entry) (e : Entry) → Laid e → Finishes l self → h ≡ handOf e → Finishes (l ++ those stays (e ∷ [])) r) ⌝ }
     {
         if h.clock.is_empty() {
             return self;
         }
-        let laid = h.wide.settle();
-        let wide = self.wide | laid.over;
-        let count = self.count;
-        if (count < ENTRIES) & !wide {
-            let clock = h.clock;
-            let register = laid.register;
-            let e = Entry {
-                key: h.key,
-                clock,
-                register,
-            };
-            let old = self.entries;
-            let entries = old.push(e);
-            return Finished {
-                count: count + 1,
-                wide,
-                entries,
-            };
-        }
-        let none = Entries::new();
-        Finished {
-            count: count + 1,
-            wide,
-            entries: none,
-        }
+        let mut out = self;
+        let laid = h.lay();
+        let e = laid.entry;
+        let k = slot(out.count);
+        out.items[k] = e;
+        out.wide = out.wide | laid.over;
+        out.count = out.count + 1;
+        out
     }
 
     // The entries on one side of a key, each with every waiting removal, behind the last.
     pub fn side(self, from: Entries, key: u32, below: bool, waiting: Waiting) -> Finished
-        requires { ⌜ Counted self 32 ⌝ }
-        ensures { λ r. ⌜ Counted r (self .count + entryLimit) × ((l : List Entry) → ((e : Entry) → e ∈ entriesOf from → Laid e) → self ≡ finished l → r ≡ finished (l ++ sift stays (run (waitingOf waiting)) (those (aside below key) (entriesOf from)))) ⌝ }
+        requires { ⌜ self .count ≤ 32 ⌝ }
+        ensures { λ r. ⌜ (r .count ≤ self .count + entryLimit) × ((l : List Entry) → ((e : Entry) → e ∈ entriesOf from → Laid e) → Finishes l self → Finishes (l ++ sift stays (run (waitingOf waiting)) (those (aside below key) (entriesOf from))) r) ⌝ }
     {
         let n = from.size();
         let mut out = self;
         let mut i: usize = 0;
         while i < n {
-            let e = from.items[i];
+            let x = from.items[i];
             i += 1;
-            if e.aside(key, below) {
-                out = out.add(e.hand().run(waiting));
+            if x.aside(key, below) {
+                let h = x.hand().run(waiting);
+                if !h.clock.is_empty() {
+                    let laid = h.lay();
+                    let e = laid.entry;
+                    let k = slot(out.count);
+                    out.items[k] = e;
+                    out.wide = out.wide | laid.over;
+                    out.count = out.count + 1;
+                }
             }
-        }
-        out
-    }
-
-    // The entries from place `at` on, which one map has alone, each with both maps' waiting removals, behind the last.
-    fn trail(
-        self,
-        from: Entries,
-        at: usize,
-        other: Clock,
-        first: Waiting,
-        then: Waiting,
-    ) -> Finished
-        requires { ⌜ Counted self 48 ⌝ }
-        ensures { λ r. ⌜ Counted r (self .count + entryLimit) × ((l : List Entry) → self ≡ finished l → r ≡ finished (l ++ sift stays (λ e. run (waitingOf then) (run (waitingOf first) e)) (map (alone (dotsOf other)) (drop at (entriesOf from))))) ⌝ }
-    {
-        let n = from.size();
-        let mut out = self;
-        let mut i: usize = at;
-        while i < n {
-            let e = from.items[i];
-            i += 1;
-            out = out.add(e.alone(other).run(first).run(then));
         }
         out
     }
@@ -368,29 +389,31 @@ impl Entries {
         theirs: Waiting,
     ) -> Finished
         requires { ⌜ ((x y : Entry) → x ∈ entriesOf self → y ∈ entriesOf other → (length (keepDots (dotsOf mine) (dotsOf yours) (dotsIn x) (dotsIn y)) ≤ dotLimit) × (length (joinDots (dotsIn x) (dotsIn y)) ≤ dotLimit)) ⌝ }
-        ensures { λ r. ⌜ r ≡ finished (sift stays (λ e. run (waitingOf ours) (run (waitingOf theirs) e)) (weaveEntries (dotsOf mine) (dotsOf yours) (entriesOf self) (entriesOf other))) ⌝ }
+        ensures { λ r. ⌜ Finishes (sift stays (λ e. run (waitingOf ours) (run (waitingOf theirs) e)) (weaveEntries (dotsOf mine) (dotsOf yours) (entriesOf self) (entriesOf other))) r ⌝ }
     {
         let n = self.size();
         let m = other.size();
         let mut out = Finished::new();
         let mut i: usize = 0;
         let mut j: usize = 0;
-        while i < n && j < m {
-            let x = self.items[i];
-            let y = other.items[j];
-            if x.key < y.key {
-                out = out.add(x.alone(yours).run(theirs).run(ours));
-                i += 1;
-            } else if y.key < x.key {
-                out = out.add(y.alone(mine).run(theirs).run(ours));
-                j += 1;
-            } else {
-                out = out.add(x.together(y, mine, yours).run(theirs).run(ours));
-                i += 1;
-                j += 1;
+        while (i < n) | (j < m) {
+            let a = slot(i);
+            let x = self.items[a];
+            let b = slot(j);
+            let y = other.items[b];
+            let met = meet(x, y, i < n, j < m, mine, yours);
+            i += met.ours;
+            j += met.theirs;
+            let h = met.hand.run(theirs).run(ours);
+            if !h.clock.is_empty() {
+                let laid = h.lay();
+                let e = laid.entry;
+                let k = slot(out.count);
+                out.items[k] = e;
+                out.wide = out.wide | laid.over;
+                out.count = out.count + 1;
             }
         }
-        let some = out.trail(self, i, yours, theirs, ours);
-        some.trail(other, j, mine, theirs, ours)
+        out
     }
 }

@@ -70,11 +70,24 @@ pub struct Hand {
     pub wide: Wide,
 }
 
+// An entry laid down; where it has too many values, `over` is set, and its register is empty.
+pub struct Lying {
+    pub over: bool,
+    pub entry: Entry,
+}
+
+// The next entry of a merge in hand, and how many it takes of ours and of theirs.
+pub struct Met {
+    pub hand: Hand,
+    pub ours: usize,
+    pub theirs: usize,
+}
+
 // Finished entries: how many, whether one has too many values, and the entries where both are within the limits.
 pub struct Finished {
     pub count: usize,
     pub wide: bool,
-    pub entries: Entries,
+    pub items: [Entry; ENTRIES],
 }
 
 pub struct Update {

@@ -167,7 +167,9 @@ impl Waiting {
             let r = self.items[i];
             i += 1;
             if r.waits(seen) {
-                out = out.push(r);
+                let k = out.len;
+                out.items[k] = r;
+                out.len = k + 1;
             }
         }
         out

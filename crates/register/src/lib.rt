@@ -152,7 +152,9 @@ impl Register {
             let v = self.values[i];
             i += 1;
             if !over.outdoes(v, equal_too) {
-                out = out.push(v);
+                let k = out.len;
+                out.values[k] = v;
+                out.len = k + 1;
             }
         }
         out
@@ -338,7 +340,9 @@ impl Wide {
         while i < n {
             let v = from.values[i];
             i += 1;
-            out = out.push(v);
+            let k = out.len;
+            out.values[k] = v;
+            out.len = k + 1;
         }
         out
     }
@@ -355,7 +359,9 @@ impl Wide {
             i += 1;
             let left = v.cut(by);
             if !left.clock.is_empty() {
-                out = out.push(left);
+                let k = out.len;
+                out.values[k] = left;
+                out.len = k + 1;
             }
         }
         out
@@ -372,7 +378,9 @@ impl Wide {
         while i < n {
             let v = self.values[i];
             i += 1;
-            out = out.push(v);
+            let k = out.len;
+            out.values[k] = v;
+            out.len = k + 1;
         }
         out
     }

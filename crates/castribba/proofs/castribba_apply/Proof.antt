@@ -24,17 +24,17 @@ apply-requires c κs = (read-within _ (c .before .before .before .before .before
 
 give-map-requires : tie.Need-give-map-requires
 give-map-requires c κs =
-    let s = c .before .before .before .before .before in
+    let s = c .before .before .before .before in
     let w = read-within _ (s .before .before .before .read-map .ensures) in
-    judged-out (valid-apply (w .valid) (op-valid (read-op-within _ (s .read-op .ensures)))) (c .before .before .apply .ensures)
+    judged-out (valid-apply (w .valid) (op-valid (read-op-within _ (s .read-op .ensures)))) (c .before .apply .ensures)
 
 returns-3 : tie.Need-returns-3
 returns-3 c =
-    let s = c .before .before .before .before .before .before .before .before in
+    let s = c .before .before .before .before .before .before .before in
     let m = s .before .before .before .read-map .ensures in
     let o = s .read-op .ensures in
-    map-out _ _ (sym (ap (λ (r : ReadMap). r .number) m) ∙ s .before .if1 .left) (sym (ap (λ (r : ReadOp). r .number) o) ∙ c .before .before .before .before .before .before .if2 .left)
-    (c .before .before .before .before .before .apply .ensures ∙ ap₂ (λ (m : ReadMap) (o : ReadOp). judged (apply (m .map) (o .op))) m o) (c .before .before .give-map .ensures)
+    map-out _ _ (sym (ap (λ (r : ReadMap). r .number) m) ∙ s .before .if1 .left) (sym (ap (λ (r : ReadOp). r .number) o) ∙ c .before .before .before .before .before .if2 .left)
+    (c .before .before .before .before .apply .ensures ∙ ap₂ (λ (m : ReadMap) (o : ReadOp). judged (apply (m .map) (o .op))) m o) (c .before .before .give-map .ensures)
 
 pub castribba-apply-spec : {M : Type 1} → statement M
 castribba-apply-spec =

@@ -23,17 +23,17 @@ merge-requires c κs = (read-within _ (c .before .before .before .before .before
 
 give-map-requires : tie.Need-give-map-requires
 give-map-requires c κs =
-    let s = c .before .before .before .before .before in
+    let s = c .before .before .before .before in
     let w = read-within _ (s .before .before .before .read-map .ensures) in
-    judged-out (valid-merge (w .valid) (read-within _ (s .read-map2 .ensures) .valid)) (c .before .before .merge .ensures)
+    judged-out (valid-merge (w .valid) (read-within _ (s .read-map2 .ensures) .valid)) (c .before .merge .ensures)
 
 returns-3 : tie.Need-returns-3
 returns-3 c =
-    let s = c .before .before .before .before .before .before .before .before in
+    let s = c .before .before .before .before .before .before .before in
     let m = s .before .before .before .read-map .ensures in
     let o = s .read-map2 .ensures in
-    map-out _ _ (sym (ap (λ (r : ReadMap). r .number) m) ∙ s .before .if1 .left) (sym (ap (λ (r : ReadMap). r .number) o) ∙ c .before .before .before .before .before .before .if2 .left)
-    (c .before .before .before .before .before .merge .ensures ∙ ap₂ (λ (m o : ReadMap). judged (merge (m .map) (o .map))) m o) (c .before .before .give-map .ensures)
+    map-out _ _ (sym (ap (λ (r : ReadMap). r .number) m) ∙ s .before .if1 .left) (sym (ap (λ (r : ReadMap). r .number) o) ∙ c .before .before .before .before .before .if2 .left)
+    (c .before .before .before .before .merge .ensures ∙ ap₂ (λ (m o : ReadMap). judged (merge (m .map) (o .map))) m o) (c .before .before .give-map .ensures)
 
 pub castribba-merge-spec : {M : Type 1} → statement M
 castribba-merge-spec =

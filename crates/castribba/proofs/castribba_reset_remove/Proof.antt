@@ -25,17 +25,17 @@ reset-remove-requires c κs = read-within _ (c .before .before .before .before .
 
 give-map-requires : tie.Need-give-map-requires
 give-map-requires c κs =
-    let s = c .before .before .before .before .before in
+    let s = c .before .before .before .before in
     let w = read-within _ (s .before .before .before .read-map .ensures) in
-    judged-out (valid-reset (w .valid) _) (c .before .before .reset-remove .ensures)
+    judged-out (valid-reset (w .valid) _) (c .before .reset-remove .ensures)
 
 returns-3 : tie.Need-returns-3
 returns-3 c =
-    let s = c .before .before .before .before .before .before .before .before in
+    let s = c .before .before .before .before .before .before .before in
     let m = s .before .before .before .read-map .ensures in
     let o = s .read-clock .ensures in
-    map-out _ _ (sym (ap (λ (r : ReadMap). r .number) m) ∙ s .before .if1 .left) (sym (ap (λ (r : ReadClock). r .number) o) ∙ c .before .before .before .before .before .before .if2 .left)
-    (c .before .before .before .before .before .reset-remove .ensures ∙ ap₂ (λ (m : ReadMap) (k : ReadClock). judged (reset (m .map) (dotsOf (k .clock)))) m o) (c .before .before .give-map .ensures)
+    map-out _ _ (sym (ap (λ (r : ReadMap). r .number) m) ∙ s .before .if1 .left) (sym (ap (λ (r : ReadClock). r .number) o) ∙ c .before .before .before .before .before .if2 .left)
+    (c .before .before .before .before .reset-remove .ensures ∙ ap₂ (λ (m : ReadMap) (k : ReadClock). judged (reset (m .map) (dotsOf (k .clock)))) m o) (c .before .before .give-map .ensures)
 
 pub castribba-reset-remove-spec : {M : Type 1} → statement M
 castribba-reset-remove-spec =

@@ -1,11 +1,11 @@
 -- `Clock::common` meets its contract: the loop sifts the clock's dots. Assumes nothing.
 use mathlib.Core.Path.{refl, ap}
 use mathlib.Core.List.{[]}
-use Prim.Native.Nat.{_≤_, _-_}
+use Prim.Native.Nat.{_≤_, _-_, _<_}
 use borrow.Author.Tests.{eq-eqb, ne-eqb}
 use Rattle.lists.proofs.Sifting.{Sifting, sifting-start, sifting-keep, sifting-drop, sifting-room, sifting-end}
-use Rattle.clock.specs.Dots.{noDot, dotsOf, clockOf, shared, commonDots}
-use Rattle.clock.proofs.Packs.{common-length}
+use Rattle.clock.specs.Dots.{noDot, dotsOf, clockOf, shared, commonDots, dotLimit}
+use Rattle.clock.proofs.Packs.{common-length, pushed}
 use borrow.Author.Needs.{needs}
 use native.Mathlib.Omega.{arith}
 use Rattle.clock.proofs.Clock.common.Statement.{statement}
@@ -20,9 +20,10 @@ abbrev μ-loop : tie.MeasureT-loop
 loop-holds : tie.Need-loop-holds Inv-loop μ-loop
 loop-holds c = (search needs, sifting-start (c .new .ensures))
 
-push-requires : tie.Need-push-requires Inv-loop μ-loop
+-- there is room for one more
+room : (c : tie.Then1 Inv-loop μ-loop) → c .before .before .before .before .before .loop .out .len < dotLimit
 unfolding commonDots
-push-requires c κs =
+room c =
     let s = c .before .before .before .before .before in
     let t = eq-eqb _ _ (rw (c .before .before .get .ensures) at (c .if1 .taken)) in
     let r = sifting-room noDot (s .loop .inv .1) (omega arith) refl t in
@@ -31,9 +32,9 @@ push-requires c κs =
 
 loop-again : tie.Need-loop-again Inv-loop μ-loop
 loop-again c =
-    let s = c .before .before .before .before .before .before .loop .inv .1 in
-    let t = eq-eqb _ _ (rw (c .before .before .before .get .ensures) at (c .before .if1 .taken)) in
-    (search needs, sifting-keep noDot s (omega arith) refl t (c .push .ensures))
+    let s = c .before .before .before .before .before .loop .inv .1 in
+    let t = eq-eqb _ _ (rw (c .before .before .get .ensures) at (c .if1 .taken)) in
+    (search needs, sifting-keep noDot s (omega arith) refl t (λ l e. pushed l _ e (omega (arith, ap (λ k. k .len) e, room c))))
 
 loop-again-2 : tie.Need-loop-again-2 Inv-loop μ-loop
 loop-again-2 c =
@@ -58,7 +59,9 @@ common-spec =
     (λ c. search needs)
     (λ c. search needs)
     (λ c κs. search needs)
-    push-requires
+    (λ c. omega (arith, room c))
+    (λ c. omega (arith, room c))
+    (λ c. omega (arith, room c))
     (λ c. search needs)
     loop-again
     (λ c. search needs)

@@ -14,7 +14,7 @@ use Rattle.parts.specs.Model.{listedIn, keysAs, gathered}
 use Rattle.parts.specs.Waits.{waits, uniteAll}
 use Rattle.parts.proofs.Packs.{waiting-from}
 use Rattle.parts.proofs.Fits.{both-fit, keep-fits}
-use Rattle.parts.proofs.Finish.{finish-count, finish-wide, finish-open}
+use Rattle.parts.proofs.Finish.{finish-open}
 use Rattle.parts.proofs.Gather.{gather-count, gather-long, gather-open}
 use Rattle.map.specs.declared.Map.{Map}
 use Rattle.map.specs.Model.{seenBy, waitingIn}
@@ -51,14 +51,14 @@ returns-2 c =
     let e = c .before .before .before in
     let i = e .before .before .before .before in
     let z = i .before .before .before .before in
-    c .refused2 .ensures ∙ sym (merge-outcome (z .pre .0) (z .pre .1) false true _ _ _ (le-ltb _ _ (room i)) (lt-ltb _ _ (rw (finish-count _ (e .merge .ensures)) at (c .before .if2 .taken))) refl refl refl)
+    c .refused2 .ensures ∙ sym (merge-outcome (z .pre .0) (z .pre .1) false true _ _ _ (le-ltb _ _ (room i)) (lt-ltb _ _ (rw (e .merge .ensures .count) at (c .before .if2 .taken))) refl refl refl)
 
 returns-3 : tie.Need-returns-3
 returns-3 c =
     let e = c .before .before .before .before in
     let i = e .before .before .before .before in
     let z = i .before .before .before .before in
-    c .refused3 .ensures ∙ sym (merge-outcome (z .pre .0) (z .pre .1) false false true _ _ (le-ltb _ _ (room i)) (le-ltb _ _ (rw (finish-count _ (e .merge .ensures)) at (c .before .before .if2 .left))) (sym (finish-wide _ (e .merge .ensures)) ∙ c .before .if3 .taken) refl refl)
+    c .refused3 .ensures ∙ sym (merge-outcome (z .pre .0) (z .pre .1) false false true _ _ (le-ltb _ _ (room i)) (le-ltb _ _ (rw (e .merge .ensures .count) at (c .before .before .if2 .left))) (sym (e .merge .ensures .wide) ∙ c .before .if3 .taken) refl refl)
 
 -- the clock of the merged map
 clock : (c : tie.Else1) → let z = c .before .before .before .before in
@@ -93,7 +93,7 @@ returns-4 c =
     let i = e .before .before .before .before in
     let z = i .before .before .before .before in
     c .refused4 .ensures
-    ∙ sym (merge-outcome (z .pre .0) (z .pre .1) false false false true _ (le-ltb _ _ (room i)) (le-ltb _ _ (rw (finish-count _ (e .merge .ensures)) at (k .before .if2 .left))) (sym (finish-wide _ (e .merge .ensures)) ∙ k .if3 .left)
+    ∙ sym (merge-outcome (z .pre .0) (z .pre .1) false false false true _ (le-ltb _ _ (room i)) (le-ltb _ _ (rw (e .merge .ensures .count) at (k .before .if2 .left))) (sym (e .merge .ensures .wide) ∙ k .if3 .left)
     (lt-ltb _ _ (rw (gather-count _ (held j)) at (c .before .if4 .taken))) refl)
 
 returns-5 : tie.Need-returns-5
@@ -104,7 +104,7 @@ returns-5 c =
     let i = e .before .before .before .before in
     let z = i .before .before .before .before in
     c .refused5 .ensures
-    ∙ sym (merge-outcome (z .pre .0) (z .pre .1) false false false false true (le-ltb _ _ (room i)) (le-ltb _ _ (rw (finish-count _ (e .merge .ensures)) at (k .before .if2 .left))) (sym (finish-wide _ (e .merge .ensures)) ∙ k .if3 .left)
+    ∙ sym (merge-outcome (z .pre .0) (z .pre .1) false false false false true (le-ltb _ _ (room i)) (le-ltb _ _ (rw (e .merge .ensures .count) at (k .before .if2 .left))) (sym (e .merge .ensures .wide) ∙ k .if3 .left)
     (le-ltb _ _ (rw (gather-count _ (held j)) at (c .before .before .if4 .left))) (sym (gather-long _ (held j)) ∙ c .before .if5 .taken))
 
 returns-6 : tie.Need-returns-6
@@ -115,12 +115,12 @@ returns-6 c =
     let e = k .before .before .before in
     let i = e .before .before .before .before in
     let z = i .before .before .before .before in
-    let few = rw (finish-count _ (e .merge .ensures)) at (k .before .if2 .left) in
-    let thin = sym (finish-wide _ (e .merge .ensures)) ∙ k .if3 .left in
+    let few = rw (e .merge .ensures .count) at (k .before .if2 .left) in
+    let thin = sym (e .merge .ensures .wide) ∙ k .if3 .left in
     let less = rw (gather-count _ (held j)) at (l .before .if4 .left) in
     let short = sym (gather-long _ (held j)) ∙ l .if5 .left in
     let time = within-clock _ (i .before .join .ensures) (i .if1 .left) in
-    let done = ap (λ f. f .entries) (e .merge .ensures) ∙ finish-open _ few thin in
+    let done = finish-open (e .merge .ensures) few thin in
     let wait = gather-open _ (held j) less short in
     c .accepted .ensures
     ∙ (λ x. record { number = 0; map = record { clock = time x; entries = done x; waiting = wait x } })

@@ -1,13 +1,13 @@
 -- `Waiting::uncovered` meets its contract: the loop sifts the removals. Assumes nothing.
 use mathlib.Core.Path.{refl, ap, sym, _∙_}
 use mathlib.Core.List.{[]}
-use Prim.Native.Nat.{_≤_, _-_}
+use Prim.Native.Nat.{_≤_, _-_, _<_}
 use Rattle.lists.proofs.Sifts.{length-sift}
 use Rattle.lists.proofs.Sifting.{Sifting, sifting-start, sifting-keep, sifting-drop, sifting-room, sifting-end}
 use Rattle.clock.specs.Dots.{dotsOf}
-use Rattle.parts.specs.Model.{waitingOf, waitingAs}
+use Rattle.parts.specs.Model.{waitingOf, waitingAs, waitingLimit}
 use Rattle.parts.specs.Waits.{waits}
-use Rattle.parts.proofs.Packs.{noRemovalRead}
+use Rattle.parts.proofs.Packs.{noRemovalRead, removal-pushed}
 use borrow.Author.Needs.{needs}
 use native.Mathlib.Omega.{arith}
 use Rattle.parts.proofs.Waiting.uncovered.Statement.{statement}
@@ -22,8 +22,9 @@ abbrev μ-loop : tie.MeasureT-loop
 loop-holds : tie.Need-loop-holds Inv-loop μ-loop
 loop-holds c = (search needs, sifting-start (c .new .ensures))
 
-push-requires : tie.Need-push-requires Inv-loop μ-loop
-push-requires c κs =
+-- there is room for one more
+room : (c : tie.Then1 Inv-loop μ-loop) → c .before .before .before .before .loop .out .len < waitingLimit
+room c =
     let s = c .before .before .before .before in
     let t = sym (c .before .waits .ensures) ∙ c .if1 .taken in
     let r = sifting-room noRemovalRead (s .loop .inv .1) (omega arith) refl t in
@@ -32,9 +33,9 @@ push-requires c κs =
 
 loop-again : tie.Need-loop-again Inv-loop μ-loop
 loop-again c =
-    let s = c .before .before .before .before .before in
-    let t = sym (c .before .before .waits .ensures) ∙ c .before .if1 .taken in
-    (search needs, sifting-keep noRemovalRead (s .loop .inv .1) (omega arith) refl t (c .push .ensures .1))
+    let s = c .before .before .before .before in
+    let t = sym (c .before .waits .ensures) ∙ c .if1 .taken in
+    (search needs, sifting-keep noRemovalRead (s .loop .inv .1) (omega arith) refl t (λ l e. removal-pushed l _ e (omega (arith, ap (λ k. k .len) e, room c))))
 
 loop-again-2 : tie.Need-loop-again-2 Inv-loop μ-loop
 loop-again-2 c =
@@ -58,7 +59,9 @@ uncovered-spec =
     (λ c. search needs)
     (λ c. search needs)
     (λ c κs. search needs)
-    push-requires
+    (λ c. omega (arith, room c))
+    (λ c. omega (arith, room c))
+    (λ c. omega (arith, room c))
     (λ c. search needs)
     loop-again
     (λ c. search needs)

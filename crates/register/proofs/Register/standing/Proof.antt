@@ -2,11 +2,11 @@
 use mathlib.Core.Path.{refl, ap, sym, _∙_}
 use mathlib.Core.Bool.{not}
 use mathlib.Core.List.{[]}
-use Prim.Native.Nat.{_≤_, _-_}
+use Prim.Native.Nat.{_≤_, _-_, _<_}
 use Rattle.lists.proofs.Sifts.{length-sift}
 use Rattle.lists.proofs.Sifting.{Sifting, sifting-start, sifting-keep, sifting-drop, sifting-room, sifting-end}
-use Rattle.register.specs.Values.{valuesOf, registerOf, standing}
-use Rattle.register.proofs.Packs.{noneRead}
+use Rattle.register.specs.Values.{valuesOf, registerOf, standing, valueLimit}
+use Rattle.register.proofs.Packs.{noneRead, pushed}
 use borrow.Author.Needs.{needs}
 use native.Mathlib.Omega.{arith}
 use Rattle.register.proofs.Register.standing.Statement.{statement}
@@ -21,8 +21,9 @@ abbrev μ-loop : tie.MeasureT-loop
 loop-holds : tie.Need-loop-holds Inv-loop μ-loop
 loop-holds c = (search needs, sifting-start (c .new .ensures))
 
-push-requires : tie.Need-push-requires Inv-loop μ-loop
-push-requires c κs =
+-- there is room for one more
+room : (c : tie.Then1 Inv-loop μ-loop) → c .before .before .before .before .loop .out .len < valueLimit
+room c =
     let s = c .before .before .before .before in
     let t = ap not (sym (c .before .outdoes .ensures)) ∙ c .if1 .taken in
     let r = sifting-room noneRead (s .loop .inv .1) (omega arith) refl t in
@@ -31,9 +32,9 @@ push-requires c κs =
 
 loop-again : tie.Need-loop-again Inv-loop μ-loop
 loop-again c =
-    let s = c .before .before .before .before .before in
-    let t = ap not (sym (c .before .before .outdoes .ensures)) ∙ c .before .if1 .taken in
-    (search needs, sifting-keep noneRead (s .loop .inv .1) (omega arith) refl t (c .push .ensures))
+    let s = c .before .before .before .before in
+    let t = ap not (sym (c .before .outdoes .ensures)) ∙ c .if1 .taken in
+    (search needs, sifting-keep noneRead (s .loop .inv .1) (omega arith) refl t (λ l e. pushed l _ e (omega (arith, ap (λ k. k .len) e, room c))))
 
 loop-again-2 : tie.Need-loop-again-2 Inv-loop μ-loop
 loop-again-2 c =
@@ -57,7 +58,9 @@ standing-spec =
     (λ c. search needs)
     (λ c. search needs)
     (λ c κs. search needs)
-    push-requires
+    (λ c. omega (arith, room c))
+    (λ c. omega (arith, room c))
+    (λ c. omega (arith, room c))
     (λ c. search needs)
     loop-again
     (λ c. search needs)

@@ -1,10 +1,10 @@
 -- `Wide::narrow` meets its contract: the loop adds one value after the other. Assumes nothing.
 use mathlib.Core.Path.{ap, sym}
 use mathlib.Core.List.{[], map-id}
-use Prim.Native.Nat.{_-_, _≤_}
+use Prim.Native.Nat.{_-_, _≤_, _<_}
 use Rattle.lists.proofs.Trailing.{Trailing, trailing-start, trailing-add, trailing-room, trailing-end}
-use Rattle.register.specs.Values.{wideValues, registerOf}
-use Rattle.register.proofs.Packs.{noneRead}
+use Rattle.register.specs.Values.{valueLimit, wideValues, registerOf}
+use Rattle.register.proofs.Packs.{noneRead, pushed}
 use borrow.Author.Needs.{needs}
 use native.Mathlib.Omega.{arith}
 use Rattle.register.proofs.Wide.narrow.Statement.{statement}
@@ -19,13 +19,14 @@ abbrev μ-loop : tie.MeasureT-loop
 loop-holds : tie.Need-loop-holds Inv-loop μ-loop
 loop-holds c = (search needs, trailing-start [] (sym (map-id _)) (c .new .ensures))
 
-push-requires : tie.Need-push-requires Inv-loop μ-loop
-push-requires c κs =
+-- there is room for one more
+room : (c : tie.After-v Inv-loop μ-loop) → c .before .before .loop .out .len < valueLimit
+room c =
     let r = trailing-room noneRead (c .before .before .loop .inv .1) (omega arith) in
     omega (arith, ap (λ k. k .len) (r .1), r .2)
 
 loop-again : tie.Need-loop-again Inv-loop μ-loop
-loop-again c = (search needs, trailing-add noneRead (c .before .before .before .loop .inv .1) (omega arith) (c .push .ensures))
+loop-again c = (search needs, trailing-add noneRead (c .before .before .loop .inv .1) (omega arith) (λ l e. pushed l _ e (omega (arith, ap (λ k. k .len) e, room c))))
 
 returns : tie.Need-returns Inv-loop μ-loop
 returns c = trailing-end (c .before .loop .inv .1) (omega arith)
@@ -42,7 +43,9 @@ narrow-spec =
     (λ c. search needs)
     (λ c. search needs)
     (λ c. search needs)
-    push-requires
+    (λ c. omega (arith, room c))
+    (λ c. omega (arith, room c))
+    (λ c. omega (arith, room c))
     (λ c. search needs)
     loop-again
     returns)

@@ -5,7 +5,7 @@ use Prim.Native.Nat.{_+_, _-_, _≤_}
 use Rattle.lists.proofs.Trailing.{Trailing, trailing-start, trailing-add, trailing-end}
 use Rattle.register.specs.declared.Value.{Value}
 use Rattle.register.specs.Values.{valuesOf, wideOf}
-use Rattle.register.proofs.Packs.{noneRead}
+use Rattle.register.proofs.Packs.{noneRead, wide-pushed}
 use borrow.Author.Needs.{needs}
 use native.Mathlib.Omega.{arith}
 use Rattle.register.proofs.Wide.trail.Statement.{statement}
@@ -23,8 +23,8 @@ loop-holds c = (search needs, search needs, λ l e. trailing-start l (ap (λ r. 
 
 loop-again : tie.Need-loop-again Inv-loop μ-loop
 loop-again c =
-    let s = c .before .before .before in
-    (search needs, search needs, λ l e. trailing-add noneRead (s .loop .inv .2 l e) (omega arith) (c .push .ensures .1))
+    let s = c .before .before in
+    (search needs, search needs, λ l e. trailing-add noneRead (s .loop .inv .2 l e) (omega arith) (λ m q. wide-pushed m _ q (omega (arith, ap (λ k. k .len) q, s .loop .inv .1))))
 
 returns : tie.Need-returns Inv-loop μ-loop
 returns c = λ l e. trailing-end (c .before .loop .inv .2 l e) (omega arith)
@@ -40,7 +40,9 @@ trail-spec =
     (λ c. search needs)
     (λ c. search needs)
     (λ c. search needs)
-    (λ c κs. search needs)
+    (λ c. search needs)
+    (λ c. search needs)
+    (λ c. search needs)
     (λ c. search needs)
     loop-again
     returns)

@@ -1,0 +1,117 @@
+-- A merge's next entry: what it takes of each side's rest, and what is left to weave.
+-- Assumes nothing.
+use mathlib.Core.Path.{_≡_, refl, sym, _∙_}
+use mathlib.Core.Bool.{Bool, true, false, not, _&&_, _||_, cond}
+use mathlib.Core.List.{List, _∷_}
+use Prim.Native.Nat.{ℕ, _+_, _≤_, _<_}
+use native.Mathlib.Omega.{arith}
+use lib.Dec.{ltb}
+use lib.ListN.{length, take, drop, getD}
+use Rattle.lists.specs.Order.{by}
+use Rattle.lists.proofs.Orders.{apart}
+use Rattle.lists.proofs.Rests.{map-on, weave-first, weave-second, weave-both, weave-first-left, weave-second-left}
+use Rattle.clock.specs.declared.Dot.{Dot}
+use Rattle.parts.specs.declared.Entry.{Entry}
+use Rattle.parts.specs.declared.Met.{Met}
+use Rattle.parts.specs.Model.{handOf, Laid}
+use Rattle.parts.specs.Entries.{alone, together, meeting, weaveEntries}
+use Rattle.parts.proofs.Packs.{noneRead, laid-alone, laid-together}
+
+-- the entry in hand is the first of what is left of both lists, and some of them is taken
+pub record Next (mine yours : List Dot) (l m : List Entry) (i j : ℕ) (r : Met) : Type 0 where
+  pub entry : Entry
+  pub hand : r .hand ≡ handOf entry
+  pub laid : Laid entry
+  pub rest : weaveEntries mine yours (drop i l) (drop j m) ≡ entry ∷ weaveEntries mine yours (drop (i + r .ours) l) (drop (j + r .theirs) m)
+  pub ours : i + r .ours ≤ length l
+  pub theirs : j + r .theirs ≤ length m
+  pub some : 1 ≤ r .ours + r .theirs
+  pub few : (r .ours ≤ 1) × (r .theirs ≤ 1)
+
+-- a place of a list that is in use and holds x, or that the list is used up
+abbrev pub At : List Entry → ℕ → ℕ → Bool → Entry → Type 0
+At xs n i b x = (b ≡ true → (i < length (take n xs)) × (x ≡ getD xs i noneRead)) × (b ≡ false → length (take n xs) ≤ i)
+
+module _ (mine yours : List Dot) (xs : List Entry) (n i : ℕ) (ys : List Entry) (m j : ℕ) (x y : Entry) (u : i ≤ length (take n xs)) (v : j ≤ length (take m ys)) where
+  abbrev pick : Bool → Bool → Bool → Bool → Met
+  pick a b p q =
+      cond (a && (not b || p)) (record { hand = handOf (alone yours x); ours = 1; theirs = 0 })
+      (cond (not a || q) (record { hand = handOf (alone mine y); ours = 0; theirs = 1 }) (record { hand = handOf (together mine yours x y); ours = 1; theirs = 1 }))
+
+  stay : (k : ℕ) → k + 0 ≡ k
+  stay k = omega arith
+
+  go : (a b p q : Bool) → At xs n i a x → At ys m j b y → ltb (x .key) (y .key) ≡ p → ltb (y .key) (x .key) ≡ q → (a || b) ≡ true → Next mine yours (take n xs) (take m ys) i j (pick a b p q)
+  go true false p q f g s t o =
+      let h = f .0 refl in
+      let k = g .1 refl in
+      record {
+        entry = alone yours x;
+        hand = refl;
+        laid = laid-alone yours x;
+        rest = rw (stay j, h .1, weave-first-left (by (λ e. e .key)) (alone yours) (alone mine) (together mine yours) (drop i (take n xs)) (take m ys) j k, weave-first-left (by (λ e. e .key)) (alone yours) (alone mine) (together mine yours) (drop (i + 1) (take n xs)) (take m ys) j k)
+            (map-on xs n i noneRead (h .0) (alone yours));
+        ours = omega (arith, h .0);
+        theirs = omega arith;
+        some = omega arith;
+        few = (omega arith, omega arith);
+      }
+  go true true true q f g s t o =
+      let h = f .0 refl in
+      let k = g .0 refl in
+      record {
+        entry = alone yours x;
+        hand = refl;
+        laid = laid-alone yours x;
+        rest = rw (stay j, h .1) (weave-first (by (λ e. e .key)) (alone yours) (alone mine) (together mine yours) xs n i ys m j noneRead (h .0) (k .0) (rw (h .1, k .1) at s));
+        ours = omega (arith, h .0);
+        theirs = omega arith;
+        some = omega arith;
+        few = (omega arith, omega arith);
+      }
+  go true true false true f g s t o =
+      let h = f .0 refl in
+      let k = g .0 refl in
+      record {
+        entry = alone mine y;
+        hand = refl;
+        laid = laid-alone mine y;
+        rest = rw (stay i, k .1) (weave-second (by (λ e. e .key)) (alone yours) (alone mine) (together mine yours) xs n i ys m j noneRead (h .0) (k .0) (rw (h .1, k .1) at s) (rw (h .1, k .1) at t));
+        ours = omega arith;
+        theirs = omega (arith, k .0);
+        some = omega arith;
+        few = (omega arith, omega arith);
+      }
+  go true true false false f g s t o =
+      let h = f .0 refl in
+      let k = g .0 refl in
+      record {
+        entry = together mine yours x y;
+        hand = refl;
+        laid = laid-together mine yours x y;
+        rest = rw (h .1, k .1) (weave-both (by (λ e. e .key)) (alone yours) (alone mine) (together mine yours) xs n i ys m j noneRead (h .0) (k .0) (rw (h .1, k .1) at s) (rw (h .1, k .1) at t));
+        ours = omega (arith, h .0);
+        theirs = omega (arith, k .0);
+        some = omega arith;
+        few = (omega arith, omega arith);
+      }
+  go false true p q f g s t o =
+      let h = f .1 refl in
+      let k = g .0 refl in
+      record {
+        entry = alone mine y;
+        hand = refl;
+        laid = laid-alone mine y;
+        rest = rw (stay i, k .1, weave-second-left (by (λ e. e .key)) (alone yours) (alone mine) (together mine yours) (take n xs) (drop j (take m ys)) i h, weave-second-left (by (λ e. e .key)) (alone yours) (alone mine) (together mine yours) (take n xs) (drop (j + 1) (take m ys)) i h)
+            (map-on ys m j noneRead (k .0) (alone mine));
+        ours = omega arith;
+        theirs = omega (arith, k .0);
+        some = omega arith;
+        few = (omega arith, omega arith);
+      }
+  go false false p q f g s t o = apart (sym o)
+
+  -- what meets is the next
+  pub next : {a b : Bool} {r : Met} → At xs n i a x → At ys m j b y → (a || b) ≡ true → r ≡ meeting mine yours a b x y → Next mine yours (take n xs) (take m ys) i j r
+  unfolding meeting
+  next {a} {b} f g o e = rw e (go a b (ltb (x .key) (y .key)) (ltb (y .key) (x .key)) f g refl refl o)
