@@ -12,14 +12,14 @@ use Rattle.mapimage.specs.MapImage.{mapLongest}
 use Rattle.mapreader.specs.declared.ReadMap.{ReadMap}
 use Rattle.scan.specs.declared.Scan.{Scan}
 use Rattle.scan.specs.Each.{each, every}
-use Rattle.scan.specs.Scanned.{Scanned, scanNumber}
+use Rattle.scan.specs.Scanned.{Scanned, CountsUnder, scanNumber}
 use Rattle.scan.proofs.Eachs.{decide, both-left, both-right, each-snoc}
-use Rattle.scan.proofs.Scanning.{scan-before, scan-last}
+use Rattle.scan.proofs.Scanning.{Under, counts-under, under-more, scan-before, scan-last}
 use Rattle.clock.specs.declared.Clock.{Clock}
 use Rattle.clock.specs.Dots.{dotsOf, clockOf}
 use Rattle.parts.specs.declared.Entries.{Entries}
 use Rattle.parts.specs.declared.Waiting.{Waiting}
-use Prim.Native.Nat.{ℕ, _%_, _≤_, _<_}
+use Prim.Native.Nat.{ℕ, _+_, _%_, _≤_, _<_}
 use native.Mathlib.Omega.{arith}
 use lib.Dec.{eqb, ltb, leb}
 use borrow.Author.Tests.{eq-eqb, ne-eqb, eqb-true, leb-true}
@@ -28,7 +28,7 @@ use Rattle.clockimage.specs.Image.{isKind, dotOf}
 use Rattle.clockimage.proofs.Dots.{dots-more, dots-same, dots-room}
 use Rattle.lists.specs.First.{some}
 use Rattle.lists.proofs.Pads.{take-pad}
-use lib.ListN.{length, take, length-map}
+use lib.ListN.{length, getD, set, take, length-map}
 use Rattle.mapreader.proofs.Steps.{untouched}
 use Rattle.mapreader.proofs.Waits.{waiting-untouched}
 use Rattle.clock.proofs.Packs.{dots-of}
@@ -56,28 +56,40 @@ module _ (l : List Record) (r : Record) where
       let h = both-right (each placed l) (placed l r) (sym (each-snoc placed l r) ∙ p) in
       (both-left (entryFits (entriesFor l) r) (waitingFits (waitingCount l) r) h, both-right (entryFits (entriesFor l) r) (waitingFits (waitingCount l) r) h)
 
-  module _ (s : MapReader) (m : MapSoFar l s) (scan : Scan) (now : Scanned 1 6 (l ++ (r ∷ [])) scan) (z : scan .number ≡ 0) where
+  -- the count of a waiting key's index, and the counts with it
+  module _ (s : MapReader) (m : MapSoFar l s) where
+    pub counted : s .scan .number ≡ 0 → CountsUnder 1 6 l r (getD (s .under) (r .index) 0)
+    counted z = counts-under 1 6 l r (s .under) (m .under z)
+
+    pub recounted : {scan : Scan} → Scanned 1 6 (l ++ (r ∷ [])) scan → r .index < length (s .under) → {n : ℕ}
+        → (r .kind ≡ 6 → getD (s .under) (r .index) 0 < 255 → n ≡ getD (s .under) (r .index) 0 + 1) × ((r .kind ≡ 6 → ⊥) → n ≡ getD (s .under) (r .index) 0)
+        → scan .number ≡ 0 → Under (l ++ (r ∷ [])) (set (s .under) (r .index) n)
+    recounted now h {n} e z =
+        let good = sym (now .number) ∙ z in
+        under-more 1 6 l r (s .under) (m .under (m .scanned .number ∙ scan-before 1 6 l r good)) good h n (e .0) (e .1)
+
+  module _ (s : MapReader) (m : MapSoFar l s) (scan : Scan) (next : List ℕ) (now : Scanned 1 6 (l ++ (r ∷ [])) scan) (more : scan .number ≡ 0 → Under (l ++ (r ∷ [])) next) (z : scan .number ≡ 0) where
     before : s .scan .number ≡ 0
     before = m .scanned .number ∙ scan-before 1 6 l r (sym (now .number) ∙ z)
 
     -- once lost, lost to the end
-    pub still-lost : s .lost ≡ true → MapSoFar (l ++ (r ∷ [])) (record { scan = scan; lost = s .lost; clock = s .clock; keys = s .keys; entries = s .entries; waiting = s .waiting })
+    pub still-lost : s .lost ≡ true → MapSoFar (l ++ (r ∷ [])) (record { scan = scan; under = next; lost = s .lost; clock = s .clock; keys = s .keys; entries = s .entries; waiting = s .waiting })
     still-lost t =
         let gone = not-true (each placed l) (sym (m .lost before) ∙ t) in
         let none : each placed (l ++ (r ∷ [])) ≡ false = each-snoc placed l r ∙ rw gone in
-        record { scanned = now; lost = λ _. t ∙ rw none; parts = λ _ p. apart (sym p ∙ none) }
+        record { scanned = now; under = more; lost = λ _. t ∙ rw none; parts = λ _ p. apart (sym p ∙ none) }
 
-    pub growable : s .lost ≡ false → Growable l s scan r
+    pub growable : s .lost ≡ false → Growable l s scan next r
     growable f =
         let p = not-false (each placed l) (sym (m .lost before) ∙ f) in
-        record { scanned = now; good = z; placed = p; parts = m .parts before p }
+        record { scanned = now; under = more z; good = z; placed = p; parts = m .parts before p }
 
   -- a scan that has met something wrong
-  pub scan-stops : {scan : Scan} → Scanned 1 6 (l ++ (r ∷ [])) scan → (scan .number ≡ 0 → ⊥) → {lost : Bool} {clock : Clock} {keys : List ℕ} {entries : Entries} {waiting : Waiting}
-      → MapSoFar (l ++ (r ∷ [])) (record { scan = scan; lost = lost; clock = clock; keys = keys; entries = entries; waiting = waiting })
-  scan-stops now n = record { scanned = now; lost = λ z. absurd (n z); parts = λ z. absurd (n z) }
+  pub scan-stops : {scan : Scan} → Scanned 1 6 (l ++ (r ∷ [])) scan → (scan .number ≡ 0 → ⊥) → {next : List ℕ} {lost : Bool} {clock : Clock} {keys : List ℕ} {entries : Entries} {waiting : Waiting}
+      → MapSoFar (l ++ (r ∷ [])) (record { scan = scan; under = next; lost = lost; clock = clock; keys = keys; entries = entries; waiting = waiting })
+  scan-stops now n = record { scanned = now; under = λ z. absurd (n z); lost = λ z. absurd (n z); parts = λ z. absurd (n z) }
 
-  module _ {s : MapReader} {scan : Scan} (g : Growable l s scan r) where
+  module _ {s : MapReader} {scan : Scan} {next : List ℕ} (g : Growable l s scan next r) where
     pub good-now : scanNumber 1 6 (l ++ (r ∷ [])) ≡ 0
     good-now = sym (g .scanned .number) ∙ g .good
 
@@ -104,9 +116,10 @@ module _ (l : List Record) (r : Record) where
     -- each part with what the record adds
     grown : {clock : Clock} {keys : List ℕ} {entries : Entries} {waiting : Waiting} {lost e w : Bool} → lost ≡ (e || w)
         → clock ≡ clockOf (clockIn (l ++ (r ∷ []))) → EntriesNow l r e keys entries → WaitingNow l r w waiting
-        → MapSoFar (l ++ (r ∷ [])) (record { scan = scan; lost = lost; clock = clock; keys = keys; entries = entries; waiting = waiting })
+        → MapSoFar (l ++ (r ∷ [])) (record { scan = scan; under = next; lost = lost; clock = clock; keys = keys; entries = entries; waiting = waiting })
     grown {e = e} {w = w} q c es ws = record {
       scanned = g .scanned;
+      under = λ _. g .under;
       lost = λ _. q ∙ lost-now (g .placed) e w (es .lost) (ws .lost);
       parts = λ _ p. record { clock = c; keys = es .keys (placed-now p .0); entries = es .held (placed-now p .0); waiting = ws .held (placed-now p .1) };
     }
@@ -115,18 +128,18 @@ module _ (l : List Record) (r : Record) where
     same-clock n = g .parts .clock ∙ ap clockOf (sym (dots-same (isKind 1) l r (ne-eqb (r .kind) 1 n)))
 
     pub grown-clock : r .kind ≡ 1 → {clock : Clock} {lost : Bool} → lost ≡ false → clock ≡ clockOf (clockIn l ++ (dotOf r ∷ []))
-        → MapSoFar (l ++ (r ∷ [])) (record { scan = scan; lost = lost; clock = clock; keys = s .keys; entries = s .entries; waiting = s .waiting })
+        → MapSoFar (l ++ (r ∷ [])) (record { scan = scan; under = next; lost = lost; clock = clock; keys = s .keys; entries = s .entries; waiting = s .waiting })
     grown-clock k q c =
         grown q (c ∙ ap clockOf (sym (dots-more (isKind 1) l r (eq-eqb (r .kind) 1 k))))
         (untouched l r (s .keys) (s .entries) (g .parts .keys) (g .parts .entries) (λ b. omega arith) (λ b. omega arith) (λ b. omega arith))
         (waiting-untouched l r (s .waiting) waiting-so-far (λ b. omega arith) (λ b. omega arith))
 
     pub grown-entries : (r .kind ≡ 1 → ⊥) → r .kind < 5 → {keys : List ℕ} {entries : Entries} {lost e : Bool} → lost ≡ e → EntriesNow l r e keys entries
-        → MapSoFar (l ++ (r ∷ [])) (record { scan = scan; lost = lost; clock = s .clock; keys = keys; entries = entries; waiting = s .waiting })
+        → MapSoFar (l ++ (r ∷ [])) (record { scan = scan; under = next; lost = lost; clock = s .clock; keys = keys; entries = entries; waiting = s .waiting })
     grown-entries n b {e = e} q es = grown (q ∙ sym (or-false e)) (same-clock n) es (waiting-untouched l r (s .waiting) waiting-so-far (λ z. omega arith) (λ z. omega arith))
 
     pub grown-waiting : 5 ≤ r .kind → {waiting : Waiting} {lost w : Bool} → lost ≡ w → WaitingNow l r w waiting
-        → MapSoFar (l ++ (r ∷ [])) (record { scan = scan; lost = lost; clock = s .clock; keys = s .keys; entries = s .entries; waiting = waiting })
+        → MapSoFar (l ++ (r ∷ [])) (record { scan = scan; under = next; lost = lost; clock = s .clock; keys = s .keys; entries = s .entries; waiting = waiting })
     grown-waiting b q ws =
         grown q (same-clock (λ z. omega arith))
         (untouched l r (s .keys) (s .entries) (g .parts .keys) (g .parts .entries) (λ z. omega arith) (λ z. omega arith) (λ z. omega arith)) ws

@@ -16,6 +16,7 @@ use Rattle.records.specs.declared.Record.{Record}
 use Rattle.scan.specs.declared.Scan.{Scan}
 use Rattle.scan.specs.Each.{each}
 use Rattle.scan.specs.Scanned.{Scanned, scanNumber}
+use Rattle.scan.proofs.Scanning.{Under}
 use Rattle.mapreader.specs.Reading.{clockIn, entryKeys, entriesFor, waitingCount, waitingFor}
 use Rattle.mapreader.specs.Related.{entryFits, waitingFits, placed}
 
@@ -26,6 +27,7 @@ handed e at key clock register = record { items = set (e .items) at (record { ke
 -- the parts; the keys of the entries stand beside them too
 pub record MapReader : Type 0 where
   pub scan : Scan
+  pub under : List ℕ
   pub lost : Bool
   pub clock : Clock
   pub keys : List ℕ
@@ -40,6 +42,7 @@ pub record MapParts (l : List Record) (s : MapReader) : Type 0 where
 
 pub record MapSoFar (l : List Record) (s : MapReader) : Type 0 where
   pub scanned : Scanned 1 6 l (s .scan)
+  pub under : s .scan .number ≡ 0 → Under l (s .under)
   pub lost : s .scan .number ≡ 0 → s .lost ≡ not (each placed l)
   pub parts : s .scan .number ≡ 0 → each placed l ≡ true → MapParts l s
 
@@ -64,8 +67,9 @@ pub record WaitingNow (l : List Record) (r : Record) (none : Bool) (waiting : Wa
   pub held : waitingFits (waitingCount l) r ≡ true → waiting ≡ waitingAs (waitingFor (l ++ (r ∷ [])))
 
 -- a reader that holds the map of l, and a scan of l with r in which nothing is wrong
-pub record Growable (l : List Record) (s : MapReader) (scan : Scan) (r : Record) : Type 0 where
+pub record Growable (l : List Record) (s : MapReader) (scan : Scan) (next : List ℕ) (r : Record) : Type 0 where
   pub scanned : Scanned 1 6 (l ++ (r ∷ [])) scan
+  pub under : Under (l ++ (r ∷ [])) next
   pub good : scan .number ≡ 0
   pub placed : each placed l ≡ true
   pub parts : MapParts l s

@@ -99,6 +99,18 @@ fn removal_key(w: Removal, r: Record) -> Removal
     Removal { clock, keys }
 }
 
+// A count of waiting keys after one more record of a kind.
+fn tallied(n: u8, kind: u8) -> u8
+    ensures { λ r. ⌜ (kind ≡ 6 → n < 255 → r ≡ n + 1) × ((kind ≡ 6 → ⊥) → r ≡ n) ⌝ }
+{
+    if kind == 6 {
+        if n < 255 {
+            return n + 1;
+        }
+    }
+    n
+}
+
 // Whether each value has a dot.
 fn dotted(register: Register) -> bool
     ensures { λ b. ⌜ b ≡ every dotted (valuesOf register) ⌝ }
@@ -181,6 +193,8 @@ pub fn read_map(bytes: &[u8]) -> ReadMap
     let refused = length_number(len);
     let n = record_count(len, refused);
     let mut scan = Scan::new();
+    // for each index, how many waiting keys it has
+    let mut under = [0u8; 256];
     // a record did not find what it needs
     let mut lost = false;
     let mut clock = Clock::new();
@@ -199,7 +213,10 @@ pub fn read_map(bytes: &[u8]) -> ReadMap
     'records: while i < n {
         let r = records::read_record(bytes, i * 16);
         i += 1;
-        scan = scan.take(1, 6, r);
+        let x = r.index as usize;
+        let u = under[x];
+        scan = scan.take(1, 6, r, u);
+        under[x] = tallied(u, r.kind);
         if scan.number == 0 {
             if !lost {
                 if r.kind == 1 {
