@@ -86,7 +86,7 @@ impl ClockReader {
         ensures { λ s. ⌜ ((l : List Record) → ClockSoFar l self → ClockSoFar (l ++ (r ∷ [])) s) ⌝ }
     {
         let before = self.scan;
-        let scan = before.take(1, 1, r);
+        let scan = before.take(1, 1, r, 0);
         let old = self.clock;
         if scan.number == 0 {
             let d = Dot {

@@ -13,13 +13,11 @@ use Rattle.lists.specs.First.{some}
 use Rattle.lists.proofs.Orders.{apart}
 use Rattle.parts.specs.declared.Entry.{Entry}
 use Rattle.parts.specs.declared.Entries.{Entries}
-use Rattle.parts.specs.Model.{noEntry, entriesOf, entriesAs}
+use Rattle.parts.specs.Model.{noEntry, entriesAs}
 use Rattle.records.specs.declared.Record.{Record}
 use Rattle.scan.proofs.Eachs.{decide, both, some-of, some-none}
 use Rattle.mapreader.specs.Reading.{entryIn, entryKeys, entriesFor}
-use Rattle.mapreader.specs.SoFar.{placeOf}
-use Rattle.mapreader.proofs.Packs.{entries-of, entry-read}
-use Rattle.mapreader.proofs.Places.{place-passes, place-none}
+use Rattle.mapreader.proofs.Packs.{entry-read}
 use Rattle.mapreader.proofs.Keys.{some-at, get-map, map-changed}
 use Rattle.mapreader.proofs.Entries.{keys-unique, entry-other}
 
@@ -33,25 +31,16 @@ module _ (l : List Record) (r : Record) where
       let m = Memᴰ·of-map (entryIn l) (entryKeys l) i in
       sym (m .2) ∙ ap (entryIn l) (eqb-true (m .0) (r .key) (ap keyed (m .2) ∙ t))
 
-  module _ (entries : Entries) (held : entries ≡ entriesAs (entriesFor l)) (j : ℕ) (at : j ≡ placeOf keyed (entriesOf entries)) where
-    place-is : j ≡ placeOf keyed (entriesFor l)
-    place-is = at ∙ ap (placeOf keyed) (entries-of (entriesFor l) held)
+  module _ (entries : Entries) (held : entries ≡ entriesAs (entriesFor l)) where
+    pub same-length : entries .len ≡ length (entryKeys l)
+    same-length = ap (λ e. e .len) held ∙ length-map (entryKeys l) (entryIn l)
 
-    pub same-length : length (entriesOf entries) ≡ length (entryKeys l)
-    same-length = ap length (entries-of (entriesFor l) held) ∙ length-map (entryKeys l) (entryIn l)
-
-    module _ (h : j < length (entriesOf entries)) where
+    module _ (j : ℕ) (h : j < entries .len) (key-at : getD (entryKeys l) j 0 ≡ r .key) where
       in-keys : j < length (entryKeys l)
       in-keys = omega (arith, same-length)
 
       pub in-entries : j < length (entriesFor l)
-      in-entries = omega (arith, ap length (entries-of (entriesFor l) held))
-
-      key-at : getD (entryKeys l) j 0 ≡ r .key
-      key-at =
-          let p = place-passes keyed (entriesFor l) noEntry (rw place-is at in-entries) in
-          let q = ap (λ k. keyed (getD (entriesFor l) k noEntry)) place-is ∙ p in
-          sym (ap (λ e. e .key) (get-map (entryIn l) (entryKeys l) j noEntry in-keys)) ∙ eqb-true (getD (entriesFor l) j noEntry .key) (r .key) q
+      in-entries = omega (arith, ap (λ e. e .len) held)
 
       pub entry-at : (d : Entry) → getD (entries .items) j d ≡ entryIn l (r .key)
       entry-at d = entry-read (entriesFor l) j d held in-entries ∙ get-map (entryIn l) (entryKeys l) j noEntry in-keys ∙ ap (entryIn l) key-at
@@ -77,16 +66,15 @@ module _ (l : List Record) (r : Record) where
           fails : (e : Entry) → e ∈ entriesFor l → test (entryIn l (r .key)) ≡ false → (keyed e && test e) ≡ false
           fails e i f = decide (keyed e) (λ t. rw t (ap test (same-entry e i t) ∙ f)) (λ n. rw n)
 
-    module _ (h : length (entriesOf entries) ≤ j) where
-      none-keyed : some keyed (entriesFor l) ≡ false
-      none-keyed = place-none keyed (entriesFor l) (let k = ap length (entries-of (entriesFor l) held) in let q = place-is in omega arith)
+  module _ (new : some (λ x. eqb x (r .key)) (entryKeys l) ≡ false) where
+    none-keyed : some keyed (entriesFor l) ≡ false
+    none-keyed =
+        some-none keyed (entriesFor l)
+        (λ e i. decide (keyed e)
+        (λ t. let m = Memᴰ·of-map (entryIn l) (entryKeys l) i in apart (sym (some-of (λ x. eqb x (r .key)) (entryKeys l) (m .0) (m .1) (ap keyed (m .2) ∙ t)) ∙ new))
+        (λ n. n))
 
-      pub key-new : some (λ x. eqb x (r .key)) (entryKeys l) ≡ false
-      key-new =
-          some-none (λ x. eqb x (r .key)) (entryKeys l)
-          (λ x i. decide (eqb x (r .key)) (λ t. apart (sym (some-of keyed (entriesFor l) (entryIn l x) (mathlib.Core.List.Memᴰ·map (entryIn l) i) t) ∙ none-keyed)) (λ n. n))
-
-      pub fits-none : (test : Entry → Bool) → some (λ e. keyed e && test e) (entriesFor l) ≡ false
-      fits-none test =
-          some-none (λ e. keyed e && test e) (entriesFor l)
-          (λ e i. decide (keyed e) (λ t. apart (sym (some-of keyed (entriesFor l) e i t) ∙ none-keyed)) (λ n. rw n))
+    pub fits-none : (test : Entry → Bool) → some (λ e. keyed e && test e) (entriesFor l) ≡ false
+    fits-none test =
+        some-none (λ e. keyed e && test e) (entriesFor l)
+        (λ e i. decide (keyed e) (λ t. apart (sym (some-of keyed (entriesFor l) e i t) ∙ none-keyed)) (λ n. rw n))

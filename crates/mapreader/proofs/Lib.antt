@@ -1,3 +1,4 @@
+pub mod SoFar
 pub mod Packs
 pub mod Places
 pub mod Keys

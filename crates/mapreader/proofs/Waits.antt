@@ -32,8 +32,9 @@ use Rattle.clockimage.specs.Image.{isKind, dotOf, dotsIn}
 use Rattle.clockimage.proofs.Dots.{dots-more, dots-same, map-snoc}
 use Rattle.mapreader.specs.Reading.{underIndex, waitingCount, removalIn, below, waitingFor}
 use Rattle.mapreader.specs.Related.{entryFits, waitingFits, placed}
-use Rattle.mapreader.specs.SoFar.{WaitingSoFar, WaitingNow}
-use Rattle.mapreader.proofs.Packs.{removal-read, pad-longer}
+use Rattle.mapreader.proofs.SoFar.{WaitingSoFar, WaitingNow}
+use Rattle.parts.proofs.Packs.{removal-pushed}
+use Rattle.mapreader.proofs.Packs.{removal-read, removal-changed, pad-longer}
 use Rattle.mapreader.proofs.Keys.{get-map, map-changed, map-same, length-below, get-below, unique-below}
 use Rattle.scan.proofs.Splits.{those-none}
 use Rattle.mapreader.proofs.Counts.{by-records, tally-grows, kinds-ascend, waiting-dots-room, waiting-keys-room}
@@ -227,15 +228,19 @@ module _ (l : List Record) (r : Record) (waiting : Waiting) (s : WaitingSoFar l 
     removal-keys-few k =
         omega (arith, ap (λ z. z .keys .len) removal-here ∙ length-map (those (underIndex 6 (r .index)) l) (λ x. x .key), waiting-keys-room l r (s .good) k)
 
+    -- the removal of r's index changed in its place
+    pub stored : {more new : Removal} → more ≡ new → record { items = set (waiting .items) (r .index) more; len = waiting .len } ≡ waitingAs (set (waitingFor l) (r .index) new)
+    stored {more} q = removal-changed (waitingFor l) (r .index) more (s .held) in-waiting ∙ ap (λ x. waitingAs (set (waitingFor l) (r .index) x)) q
+
     pub dot-now : r .kind ≡ 5 → {next : Waiting} → next ≡ waitingAs (set (waitingFor l) (r .index) (removalAs (dotsIn (underIndex 5 (r .index)) l ++ (dotOf r ∷ [])) (map (λ x. x .key) (those (underIndex 6 (r .index)) l))))
-        → WaitingNow l r (record { lost = false; waiting = next })
+        → WaitingNow l r false next
     dot-now k q =
         let fit = fits-dot k ∙ le-leb (r .index) (waitingCount l) (let b = known in omega arith) in
         let same : waitingCount (l ++ (r ∷ [])) ≡ waitingCount l = count-more l r k ∙ (let b = known in omega arith) in
         record { lost = rw fit; held = λ _. q ∙ ap waitingAs (ap (set (waitingFor l) (r .index)) (sym (dot-removal l r k)) ∙ waiting-changed l r known same) }
 
     pub key-now : r .kind ≡ 6 → {next : Waiting} → next ≡ waitingAs (set (waitingFor l) (r .index) (removalAs (dotsIn (underIndex 5 (r .index)) l) (map (λ x. x .key) (those (underIndex 6 (r .index)) l) ++ (r .key ∷ []))))
-        → WaitingNow l r (record { lost = false; waiting = next })
+        → WaitingNow l r false next
     key-now k q =
         let fit = fits-key k ∙ lt-ltb _ _ known in
         record { lost = rw fit; held = λ _. q ∙ ap waitingAs (ap (set (waitingFor l) (r .index)) (sym (key-removal l r k)) ∙ waiting-changed l r known (count-same l r (λ e. omega arith))) }
@@ -243,25 +248,38 @@ module _ (l : List Record) (r : Record) (waiting : Waiting) (s : WaitingSoFar l 
   pub new-waiting-room : r .kind ≡ 5 → r .index ≡ waiting .len → waiting .len < 8
   new-waiting-room k i = let n = how-many in omega (arith, waits-room l r (s .placed) (s .good) k (i ∙ n))
 
-  pub new-now : r .kind ≡ 5 → r .index ≡ waiting .len → {next : Waiting} → next ≡ waitingAs (waitingFor l ++ (removalAs (dotOf r ∷ []) [] ∷ [])) → WaitingNow l r (record { lost = false; waiting = next })
+  -- a removal behind the last
+  pub added : r .kind ≡ 5 → r .index ≡ waiting .len → {more new : Removal} → more ≡ new → record { items = set (waiting .items) (r .index) more; len = r .index + 1 } ≡ waitingAs (waitingFor l ++ (new ∷ []))
+  added k i {more} q =
+      ap (λ n. record { items = set (waiting .items) n more; len = n + 1 }) i
+      ∙ removal-pushed (waitingFor l) more (s .held) (omega (arith, ap (λ w. w .len) (s .held), new-waiting-room k i)) ∙ ap (λ x. waitingAs (waitingFor l ++ (x ∷ []))) q
+
+  pub new-now : r .kind ≡ 5 → r .index ≡ waiting .len → {next : Waiting} → next ≡ waitingAs (waitingFor l ++ (removalAs (dotOf r ∷ []) [] ∷ [])) → WaitingNow l r false next
   new-now k i q =
       let n = i ∙ how-many in
       let fit = fits-dot k ∙ le-leb (r .index) (waitingCount l) (omega arith) in
       record { lost = rw fit; held = λ _. q ∙ ap waitingAs (waiting-new l r (s .good) k n) }
 
-  pub dot-lost : r .kind ≡ 5 → waiting .len ≤ r .index → (r .index ≡ waiting .len → ⊥) → WaitingNow l r (record { lost = true; waiting = waiting })
+  pub dot-lost : r .kind ≡ 5 → waiting .len ≤ r .index → (r .index ≡ waiting .len → ⊥) → WaitingNow l r true waiting
   dot-lost k h n =
       let e = how-many in
       let miss = fits-dot k ∙ lt-leb (r .index) (waitingCount l) (omega arith) in
       record { lost = rw miss; held = λ t. apart (sym t ∙ miss) }
 
-  pub key-lost : r .kind ≡ 6 → waiting .len ≤ r .index → WaitingNow l r (record { lost = true; waiting = waiting })
+  pub key-lost : r .kind ≡ 6 → waiting .len ≤ r .index → WaitingNow l r true waiting
   key-lost k h =
       let e = how-many in
       let miss = fits-key k ∙ le-ltb (r .index) (waitingCount l) (omega arith) in
       record { lost = rw miss; held = λ t. apart (sym t ∙ miss) }
 
-  pub waiting-untouched : (r .kind ≡ 5 → ⊥) → (r .kind ≡ 6 → ⊥) → WaitingNow l r (record { lost = false; waiting = waiting })
+  -- neither a removal that is there nor the next one
+  pub removal-lost : 5 ≤ r .kind → r .kind ≤ 6 → waiting .len ≤ r .index → (eqb (r .kind) 5 && eqb (r .index) (waiting .len)) ≡ false → WaitingNow l r true waiting
+  removal-lost low high h n =
+      decide (eqb (r .kind) 5)
+      (λ t. dot-lost (eqb-true (r .kind) 5 t) h (eqb-false (r .index) (waiting .len) (rw t at n)))
+      (λ f. key-lost (let e = eqb-false (r .kind) 5 f in omega arith) h)
+
+  pub waiting-untouched : (r .kind ≡ 5 → ⊥) → (r .kind ≡ 6 → ⊥) → WaitingNow l r false waiting
   waiting-untouched a b = record { lost = rw (ne-eqb (r .kind) 5 a, ne-eqb (r .kind) 6 b); held = λ _. s .held ∙ ap waitingAs (sym (waiting-same l r a b)) }
 
   -- the place is in the array, which has room for the limit

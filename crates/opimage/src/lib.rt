@@ -252,7 +252,7 @@ impl OpReader {
         ensures { λ s. ⌜ ((l : List Record) → OpSoFar l self → OpSoFar (l ++ (r ∷ [])) s) ⌝ }
     {
         let before = self.scan;
-        let scan = before.take(7, 12, r);
+        let scan = before.take(7, 12, r, 0);
         if scan.number == 0 {
             return self.with(scan, r);
         }

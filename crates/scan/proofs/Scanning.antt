@@ -8,7 +8,7 @@ use Prim.Native.Nat.{ℕ, zero, suc, _+_, _≤_, _<_}
 use native.Mathlib.Omega.{arith}
 use lib.Dec.{eqb, ltb, leb}
 use lib.ListN.{length, getD, set, replicate}
-use lib.Seq.{getD-set-same, getD-set-other}
+use lib.Seq.{getD-set-same, getD-set-other, set-getD}
 use borrow.Author.Tests.{eq-eqb, ne-eqb, eqb-true, eqb-false, leb-true, lt-ltb, le-ltb}
 use Rattle.lists.specs.Order.{_∈_}
 use Rattle.lists.specs.First.{some}
@@ -18,7 +18,7 @@ use Rattle.records.specs.Kinds.{before, recordOk, fieldsOk, counterOk, fieldOk,
 use Rattle.scan.specs.Each.{every, eachAfter, countAfter}
 use Rattle.scan.specs.Formed.{follows, wellFormed}
 use Rattle.scan.specs.Limits.{outer, middle, inner, outerLimits, middleLimits, innerLimits, limitAt, sameKind, sameOuter, sameMiddle, tally, within, room, tallyOn, withinLimits}
-use Rattle.scan.specs.Scanned.{scanNumber, Ends, Tallied, Scanned, byKey, byIndex, judged, countedOn}
+use Rattle.scan.specs.Scanned.{scanNumber, Ends, Tallied, Scanned, CountsUnder, byKey, byIndex, judged, countedOn}
 use Rattle.scan.specs.declared.Scan.{Scan}
 use Rattle.scan.proofs.Eachs.{both-left, both-right, both, decide, every-at, some-of, some-none}
 use Rattle.scan.proofs.Befores.{Before, before-fields}
@@ -113,24 +113,21 @@ module _ (low high : ℕ) (l : List Record) (r : Record) (w : wellFormed low hig
         absurd (omega (arith, all-before s i .actor sk (sym (its-middle s (sk ∙ k)) ∙ y ∙ its-middle r k) (sym (its-outer s (sk ∙ k)) ∙ x ∙ its-outer r k), no-actor k)))
         (λ n. n)
 
-    key-more : (s : Scan) → Tallied l s → getD (s .under) (r .index) 0 + 1 ≡ tally (sameOuter r) middle (l ++ (r ∷ []))
-    key-more s t = rw (t .under r k) (sym (tally-new (sameOuter r) middle l r (itself-outer r) (some-none (sameMiddle r) l apart-key)))
+    key-more : (n : ℕ) → n ≡ tally (sameOuter r) middle l → n + 1 ≡ tally (sameOuter r) middle (l ++ (r ∷ []))
+    key-more n u = rw u (sym (tally-new (sameOuter r) middle l r (itself-outer r) (some-none (sameMiddle r) l apart-key)))
 
-    index-counts : (s : Scan) → Ends l (s .any) (s .last) → Tallied l s → Counts l r (byIndex s r)
-    index-counts s ends t = record {
+    index-counts : (s : Scan) (n : ℕ) → n ≡ tally (sameOuter r) middle l → Ends l (s .any) (s .last) → Tallied l s → Counts l r (byIndex s r n)
+    index-counts s n u ends t = record {
       by-outer = ⊎-elim first further ends;
-      by-middle = key-more s t;
+      by-middle = key-more n u;
       by-inner = tally-step (sameMiddle r) inner l r 0 false false (itself-middle r) (λ _. apart-key) (λ b. apart (sym b));
     }
       where
-        n : ℕ
-        n = getD (s .under) (r .index) 0
-
         held : some (sameOuter r) l ≡ ltb 0 n
         held =
             decide (some (sameOuter r) l)
-            (λ y. y ∙ sym (lt-ltb 0 n (rw (t .under r k) (tally-some (sameOuter r) middle l y))))
-            (λ z. z ∙ sym (le-ltb 0 n (rw (t .under r k, tally-none (sameOuter r) middle l (λ x i. decide (sameOuter r x) (λ y. apart (sym (some-of (sameOuter r) l x i y) ∙ z)) (λ a. a))) (omega arith))))
+            (λ y. y ∙ sym (lt-ltb 0 n (rw u (tally-some (sameOuter r) middle l y))))
+            (λ z. z ∙ sym (le-ltb 0 n (rw (u, tally-none (sameOuter r) middle l (λ x i. decide (sameOuter r x) (λ y. apart (sym (some-of (sameOuter r) l x i y) ∙ z)) (λ a. a))) (omega arith))))
 
         first : (s .any ≡ false) × (l ≡ []) → tallyOn (s .outer) (s .any && eqb (s .last .kind) (r .kind)) (ltb 0 n) ≡ tally (sameKind r) outer (l ++ (r ∷ []))
         first e = rw (e .0) (tally-step (sameKind r) outer l r (s .outer) false false (itself r) (λ _ x i. nothing (e .1) x i) (λ b. apart (sym b)))
@@ -171,23 +168,26 @@ other-index p r k n =
     rw (t, its-outer r rk, its-outer p k) (ne-eqb (r .index) (p .index) (n rk)))
     (λ z. rw z)
 
-module _ (low high : ℕ) (l : List Record) (r : Record) (w : wellFormed low high l ≡ true) (f : follows low high l r ≡ true) (s : Scan) (t : Tallied l s) where
-  -- the waiting keys of each index, with r, which is one
-  under-key : r .kind ≡ 6 → r .index < length (s .under) → (p : Record) → p .kind ≡ 6
-      → getD (set (s .under) (r .index) (getD (s .under) (r .index) 0 + 1)) (p .index) 0 ≡ tally (sameOuter p) middle (l ++ (r ∷ []))
+-- the waiting keys of each index, counted in a list
+abbrev pub Under : List Record → List ℕ → Type 0
+Under l under = (p : Record) → p .kind ≡ 6 → getD under (p .index) 0 ≡ tally (sameOuter p) middle l
+
+module _ (low high : ℕ) (l : List Record) (r : Record) (w : wellFormed low high l ≡ true) (f : follows low high l r ≡ true) (under : List ℕ) (t : Under l under) where
+  -- with r, which is one
+  under-key : r .kind ≡ 6 → r .index < length under → Under (l ++ (r ∷ [])) (set under (r .index) (getD under (r .index) 0 + 1))
   under-key rk h p k =
       decide (eqb (p .index) (r .index))
       (λ b. let x = eqb-true (p .index) (r .index) b in
-      rw x (getD-set-same (s .under) (r .index) _ 0 h)
-      ∙ key-more low high l r w f rk s t
+      rw x (getD-set-same under (r .index) _ 0 h)
+      ∙ key-more low high l r w f rk (getD under (r .index) 0) (t r rk)
       ∙ ap (λ y. tally (λ a. eqb (a .kind) y && eqb (outer a) (outer r)) middle (l ++ (r ∷ []))) (rk ∙ sym k)
       ∙ ap (λ y. tally (λ a. eqb (a .kind) (p .kind) && eqb (outer a) y) middle (l ++ (r ∷ []))) (its-outer r rk ∙ sym x ∙ sym (its-outer p k)))
       (λ b. let n = eqb-false (p .index) (r .index) b in
-      getD-set-other (s .under) (r .index) (p .index) _ 0 n ∙ t .under p k
+      getD-set-other under (r .index) (p .index) _ 0 n ∙ t p k
       ∙ sym (tally-other (sameOuter p) middle l r (other-index p r k (λ _ e. n (sym e)))))
 
-  under-plain : (r .kind ≡ 6 → ⊥) → (p : Record) → p .kind ≡ 6 → getD (s .under) (p .index) 0 ≡ tally (sameOuter p) middle (l ++ (r ∷ []))
-  under-plain n p k = t .under p k ∙ sym (tally-other (sameOuter p) middle l r (other-index p r k (λ e _. n e)))
+  under-plain : (r .kind ≡ 6 → ⊥) → Under (l ++ (r ∷ [])) under
+  under-plain n p k = t p k ∙ sym (tally-other (sameOuter p) middle l r (other-index p r k (λ e _. n e)))
 
 -- the number of a scan with one record more
 number-on : (low high : ℕ) (l : List Record) (r : Record) → wellFormed low high l ≡ true → follows low high l r ≡ true → within l ≡ true
@@ -210,10 +210,8 @@ module _ (low high : ℕ) (l : List Record) (r : Record) where
   ends-on = inr (refl, (l, refl))
 
   judged-on : (s : Scan) → wellFormed low high l ≡ true → follows low high l r ≡ true → within l ≡ true → s .number ≡ 0 → Counts l r s
-      → ((p : Record) → p .kind ≡ 6 → getD (s .under) (p .index) 0 ≡ tally (sameOuter p) middle (l ++ (r ∷ [])))
-      → (withinLimits (r .kind) (s .outer) (s .middle) (s .inner) ≡ true → (i : ℕ) → getD (s .under) i 0 ≤ 254)
       → Scanned low high (l ++ (r ∷ [])) (judged s r)
-  judged-on s w f h z c under few = record {
+  judged-on s w f h z c = record {
     number = rw (number-on low high l r w f h, ← c .by-outer, ← c .by-middle, ← c .by-inner, z);
     ends = λ _. ends-on;
     tallied = λ e. let fit = fits (withinLimits (r .kind) (s .outer) (s .middle) (s .inner)) e in
@@ -221,9 +219,7 @@ module _ (low high : ℕ) (l : List Record) (r : Record) where
           by-outer = c .by-outer;
           by-middle = c .by-middle;
           by-inner = c .by-inner;
-          under = under;
           small = small-counts (r .kind) (s .outer) (s .middle) (s .inner) fit;
-          few = few fit;
         };
   }
     where
@@ -236,32 +232,21 @@ module _ (low high : ℕ) (l : List Record) (r : Record) where
   still-over w f i = rw (formed-snoc low high l r, w, f, within-snoc l r, i)
 
   -- after a record that follows
-  pub scanned-on : (s : Scan) → Scanned low high l s → (s .number ≡ 1 → ⊥) → follows low high l r ≡ true → r .index < length (s .under) → Scanned low high (l ++ (r ∷ [])) (countedOn s r)
-  scanned-on s sc n f h =
+  pub scanned-on : (s : Scan) (n : ℕ) → Scanned low high l s → (s .number ≡ 0 → CountsUnder low high l r n) → (s .number ≡ 1 → ⊥) → follows low high l r ≡ true → Scanned low high (l ++ (r ∷ [])) (countedOn s r n)
+  scanned-on s c sc u n f =
       said low high l
       (λ w i z. let e = sc .number ∙ z in
       let t = sc .tallied e in
       rw (eq-eqb (s .number) 0 e)
       (decide (eqb (r .kind) 6)
       (λ a. let k = eqb-true (r .kind) 6 a in
-      rw a
-      (judged-on (byIndex s r) w f i e (index-counts low high l r w f k s (sc .ends w) t) (under-key low high l r w f s t k h)
-      (λ m j. few-key k m t j)))
+      rw a (judged-on (byIndex s r c) w f i e (index-counts low high l r w f k s c (u e k (both-left (recordOk low high r) _ f)) (sc .ends w) t)))
       (λ a. let k = eqb-false (r .kind) 6 a in
-      rw a (judged-on (byKey s r) w f i e (key-counts low high l r w f s k (sc .ends w) t) (under-plain low high l r w f s t k) (λ _. t .few)))))
+      rw a (judged-on (byKey s r) w f i e (key-counts low high l r w f s k (sc .ends w) t)))))
       (λ w i z. let e = sc .number ∙ z in
       rw (ne-eqb (s .number) 0 (λ y. omega arith))
       (record { number = e ∙ sym (still-over w f i); ends = λ _. ends-on; tallied = λ y. absurd (omega arith) }))
       (λ w z. absurd (n (sc .number ∙ z)))
-    where
-      few-key : r .kind ≡ 6 → withinLimits (r .kind) (byIndex s r .outer) (byIndex s r .middle) 1 ≡ true → Tallied l s → (j : ℕ) → getD (byIndex s r .under) j 0 ≤ 254
-      few-key k m t j =
-          decide (eqb j (r .index))
-          (λ b. rw (eqb-true j (r .index) b, getD-set-same (s .under) (r .index) (getD (s .under) (r .index) 0 + 1) 0 h)
-          (let n = getD (s .under) (r .index) 0 + 1 in
-          let fit = leb-true n (limitAt middleLimits (r .kind)) (both-left (leb n (limitAt middleLimits (r .kind))) (leb 1 (limitAt innerLimits (r .kind))) (both-right (leb (byIndex s r .outer) (limitAt outerLimits (r .kind))) _ m)) in
-          let most : n ≤ 16 = rw k at fit in omega arith))
-          (λ b. rw (getD-set-other (s .under) (r .index) j (getD (s .under) (r .index) 0 + 1) 0 (eqb-false j (r .index) b)) (t .few j))
 
   -- once bad, bad to the end
   pub scanned-bad : (s : Scan) → (wellFormed low high l && follows low high l r) ≡ false → s .number ≡ 1 → Scanned low high (l ++ (r ∷ [])) s
@@ -281,26 +266,22 @@ ill-formed low high l s sc n =
     said low high l (λ w i z. let e = sc .number ∙ z in absurd (omega arith)) (λ w i z. let e = sc .number ∙ z in absurd (omega arith)) (λ w z. w)
 
 -- nothing scanned yet
+pub scanned-none : (low high : ℕ) (q : Record) → Scanned low high [] (record { number = 0; any = false; last = q; outer = 0; middle = 0; inner = 0 })
+unfolding scanNumber wellFormed within eachAfter tally countAfter
+scanned-none low high q = record {
+  number = refl;
+  ends = λ _. inl (refl, refl);
+  tallied = λ _. record { by-outer = refl; by-middle = refl; by-inner = refl; small = (omega arith, (omega arith, omega arith)) };
+}
+
 zeros : (n i : ℕ) → _≡_ {A = ℕ} (getD (replicate n 0) i 0) 0
 zeros zero i = refl
 zeros (suc n) zero = refl
 zeros (suc n) (suc i) = zeros n i
 
-pub scanned-none : (low high : ℕ) (q : Record)
-    → Scanned low high [] (record { number = 0; any = false; last = q; outer = 0; middle = 0; inner = 0; under = replicate 256 0 })
-unfolding scanNumber wellFormed within eachAfter tally countAfter
-scanned-none low high q = record {
-  number = refl;
-  ends = λ _. inl (refl, refl);
-  tallied = λ _. record {
-    by-outer = refl;
-    by-middle = refl;
-    by-inner = refl;
-    under = λ r k. zeros 256 (r .index);
-    small = (omega arith, (omega arith, omega arith));
-    few = λ i. rw (zeros 256 i) (omega arith);
-  };
-}
+pub under-none : (n : ℕ) → Under [] (replicate n 0)
+unfolding tally countAfter
+under-none n p k = zeros n (p .index)
 
 -- number 0: well formed and within the limits
 pub scan-good : (low high : ℕ) (l : List Record) → scanNumber low high l ≡ 0 → (wellFormed low high l ≡ true) × (within l ≡ true)
@@ -318,3 +299,35 @@ pub scan-last : (low high : ℕ) (l : List Record) (r : Record) → scanNumber l
 scan-last low high l r e =
     let g = scan-good low high (l ++ (r ∷ [])) e in
     both-left (recordOk low high r) _ (both-right (wellFormed low high l) _ (sym (formed-snoc low high l r) ∙ g .0))
+
+-- an image of kinds that waiting keys are not among
+pub none-under : (low high : ℕ) (l : List Record) (r : Record) (n : ℕ) → (low ≤ 6 → 6 ≤ high → ⊥) → CountsUnder low high l r n
+unfolding recordOk
+none-under low high l r n never k good =
+    let a = leb-true low (r .kind) (both-left (leb low (r .kind)) _ good) in
+    let b = leb-true (r .kind) high (both-left (leb (r .kind) high) _ (both-right (leb low (r .kind)) _ good)) in
+    absurd (never (omega arith) (omega arith))
+
+-- the count of r's index is right where r is good so far, and there is room for one more
+module _ (low high : ℕ) (l : List Record) (r : Record) (under : List ℕ) (u : Under l under) where
+  pub counts-under : CountsUnder low high l r (getD under (r .index) 0)
+  counts-under k good = u r k
+
+  module _ (z : scanNumber low high (l ++ (r ∷ [])) ≡ 0) where
+    formed : wellFormed low high l ≡ true
+    formed = both-left (wellFormed low high l) _ (sym (formed-snoc low high l r) ∙ scan-good low high (l ++ (r ∷ [])) z .0)
+
+    behind : follows low high l r ≡ true
+    behind = both-right (wellFormed low high l) _ (sym (formed-snoc low high l r) ∙ scan-good low high (l ++ (r ∷ [])) z .0)
+
+    pub under-more : r .index < length under → (n : ℕ) → (r .kind ≡ 6 → getD under (r .index) 0 < 255 → n ≡ getD under (r .index) 0 + 1) → ((r .kind ≡ 6 → ⊥) → n ≡ getD under (r .index) 0)
+        → Under (l ++ (r ∷ [])) (set under (r .index) n)
+    under-more h n more same =
+        decide (eqb (r .kind) 6)
+        (λ t. let k = eqb-true (r .kind) 6 t in
+        let one = key-more low high l r formed behind k (getD under (r .index) 0) (u r k) in
+        rw (more k (omega (arith, one, most))) (under-key low high l r formed behind under u k h))
+        (λ f. let k = eqb-false (r .kind) 6 f in rw (same k, set-getD under (r .index) 0) (under-plain low high l r formed behind under u k))
+      where
+        most : tally (sameOuter r) middle (l ++ (r ∷ [])) ≤ 255
+        most = small-counts (r .kind) _ _ _ (both-right (within l) (room l r) (sym (within-snoc l r) ∙ scan-good low high (l ++ (r ∷ [])) z .1)) .1 .0

@@ -6,8 +6,8 @@ use Prim.Native.Nat.{ℕ, _+_, _≤_}
 use mathlib.Core.Bool.{Bool, true, false, not, cond, _&&_}
 use mathlib.Core.List.{List, [], _∷_, _++_}
 use lib.Dec.{eqb, ltb}
-use lib.ListN.{getD, set}
 use Rattle.records.specs.declared.Record.{Record}
+use Rattle.records.specs.Kinds.{recordOk}
 use Rattle.scan.specs.Formed.{wellFormed}
 use Rattle.scan.specs.Limits.{outer, middle, inner, sameKind, sameOuter, sameMiddle, tally, within, tallyOn, withinLimits}
 use Rattle.scan.specs.declared.Scan.{Scan}
@@ -24,14 +24,16 @@ pub record Tallied (l : List Record) (s : Scan) : Type 0 where
   pub by-outer : s .outer ≡ tally (sameKind (s .last)) outer l
   pub by-middle : s .middle ≡ tally (sameOuter (s .last)) middle l
   pub by-inner : s .inner ≡ tally (sameMiddle (s .last)) inner l
-  pub under : (r : Record) → r .kind ≡ 6 → getD (s .under) (r .index) 0 ≡ tally (sameOuter r) middle l
   pub small : (s .outer ≤ 255) × ((s .middle ≤ 255) × (s .inner ≤ 255))
-  pub few : (i : ℕ) → getD (s .under) i 0 ≤ 254
 
 pub record Scanned (low high : ℕ) (l : List Record) (s : Scan) : Type 0 where
   pub number : s .number ≡ scanNumber low high l
   pub ends : wellFormed low high l ≡ true → Ends l (s .any) (s .last)
   pub tallied : s .number ≡ 0 → Tallied l s
+
+-- r, where it is a good waiting key, finds n of its index before it
+abbrev pub CountsUnder : ℕ → ℕ → List Record → Record → ℕ → Type 0
+CountsUnder low high l r n = r .kind ≡ 6 → recordOk low high r ≡ true → n ≡ tally (sameOuter r) middle l
 
 -- the counts with one record more: the last one's, where they are of the same group
 abbrev pub byKey : Scan → Record → Scan
@@ -46,13 +48,11 @@ byKey s r =
       outer = tallyOn (s .outer) kind key;
       middle = tallyOn (s .middle) key index;
       inner = tallyOn (s .inner) index false;
-      under = s .under;
     }
 
--- the same for a waiting key
-abbrev pub byIndex : Scan → Record → Scan
-byIndex s r =
-    let n = getD (s .under) (r .index) 0 in
+-- the same for a waiting key, whose index has n
+abbrev pub byIndex : Scan → Record → ℕ → Scan
+byIndex s r n =
     record {
       number = s .number;
       any = s .any;
@@ -60,7 +60,6 @@ byIndex s r =
       outer = tallyOn (s .outer) (s .any && eqb (s .last .kind) (r .kind)) (ltb 0 n);
       middle = n + 1;
       inner = 1;
-      under = set (s .under) (r .index) (n + 1);
     }
 
 abbrev pub judged : Scan → Record → Scan
@@ -71,12 +70,11 @@ judged s r = record {
   outer = s .outer;
   middle = s .middle;
   inner = s .inner;
-  under = s .under;
 }
 
 -- a record that follows the last, counted where nothing is wrong so far
-abbrev pub countedOn : Scan → Record → Scan
-countedOn s r =
+abbrev pub countedOn : Scan → Record → ℕ → Scan
+countedOn s r n =
     cond (eqb (s .number) 0)
-    (judged (cond (eqb (r .kind) 6) (byIndex s r) (byKey s r)) r)
-    (record { number = s .number; any = true; last = r; outer = s .outer; middle = s .middle; inner = s .inner; under = s .under })
+    (judged (cond (eqb (r .kind) 6) (byIndex s r n) (byKey s r)) r)
+    (record { number = s .number; any = true; last = r; outer = s .outer; middle = s .middle; inner = s .inner })

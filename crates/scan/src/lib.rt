@@ -3,12 +3,11 @@ ghost use mathlib.Core.Path.{_≡_};
 ghost use mathlib.Core.List.{List, [], _∷_, _++_};
 ghost use mathlib.Core.Bool.{true, cond};
 ghost use lib.Dec.{eqb};
-ghost use Prim.Native.Nat.{ℕ, _≤_, _<_};
-ghost use lib.ListN.{length, getD};
+ghost use Prim.Native.Nat.{ℕ, _≤_};
 ghost use Rattle.records.specs.declared.Record.{Record};
 ghost use Rattle.scan.specs.Limits.{limitAt, tallyOn, withinLimits};
 ghost use Rattle.scan.specs.Formed.{wellFormed, follows};
-ghost use Rattle.scan.specs.Scanned.{Scanned, Tallied, Ends, byKey, byIndex, judged, countedOn};
+ghost use Rattle.scan.specs.Scanned.{Scanned, Tallied, CountsUnder, Ends, byKey, byIndex, judged, countedOn};
 use records::Record;
 
 // By kind, from kind 0, which is none: the most distinct things of each level.
@@ -25,8 +24,6 @@ pub struct Scan {
     pub outer: usize,
     pub middle: usize,
     pub inner: usize,
-    // for each index, how many waiting keys it has: they do not stand side by side
-    pub under: [u8; 256],
 }
 
 // A count after one more record: of another group, of the same group and thing, or of the same group and another thing.
@@ -76,7 +73,6 @@ impl Scan {
             outer: 0,
             middle: 0,
             inner: 0,
-            under: [0; 256],
         }
     }
 
@@ -104,30 +100,27 @@ impl Scan {
         next
     }
 
-    // The counts with a waiting key.
-    fn by_index(self, r: Record) -> Scan
-        requires { ⌜ (self .outer ≤ 255) × ((i : ℕ) → getD (self .under) i 0 ≤ 254) ⌝ }
-        ensures { λ s. ⌜ s ≡ byIndex self r ⌝ }
+    // The counts with a waiting key, whose index has n.
+    fn by_index(self, r: Record, n: u8) -> Scan
+        requires { ⌜ self .outer ≤ 255 ⌝ }
+        ensures { λ s. ⌜ s ≡ byIndex self r n ⌝ }
     {
-        let i = r.index as usize;
         let last = self.last;
         let kind = self.any & (last.kind == r.kind);
-        let n = self.under[i];
         let mut next = self;
         next.outer = tally(self.outer, kind, 0 < n);
         next.middle = n as usize + 1;
         next.inner = 1;
-        next.under[i] = n + 1;
         next
     }
 
     // The counts with a record.
-    fn tallied(self, r: Record) -> Scan
+    fn tallied(self, r: Record, n: u8) -> Scan
         requires { ⌜ ((l : List Record) × Tallied l self) ⌝ }
-        ensures { λ s. ⌜ s ≡ cond (eqb (r .kind) 6) (byIndex self r) (byKey self r) ⌝ }
+        ensures { λ s. ⌜ s ≡ cond (eqb (r .kind) 6) (byIndex self r n) (byKey self r) ⌝ }
     {
         if r.kind == 6 {
-            self.by_index(r)
+            self.by_index(r, n)
         } else {
             self.by_key(r)
         }
@@ -148,12 +141,12 @@ impl Scan {
     }
 
     // The scan with a record that follows the last.
-    fn counted(self, r: Record) -> Scan
+    fn counted(self, r: Record, n: u8) -> Scan
         requires { ⌜ (self .number ≡ 0 → (l : List Record) × Tallied l self) ⌝ }
-        ensures { λ s. ⌜ (s ≡ countedOn self r) × (r .index < length (self .under)) ⌝ }
+        ensures { λ s. ⌜ s ≡ countedOn self r n ⌝ }
     {
         if self.number == 0 {
-            return self.tallied(r).judged(r);
+            return self.tallied(r, n).judged(r);
         }
         let mut next = self;
         next.any = true;
@@ -161,16 +154,16 @@ impl Scan {
         next
     }
 
-    // One record more.
-    pub fn take(self, low: u8, high: u8, r: Record) -> Scan
+    // One record more; where it is a waiting key, n stand under its index so far: they are not side by side, and whoever reads them counts them.
+    pub fn take(self, low: u8, high: u8, r: Record, n: u8) -> Scan
         requires { ⌜ ((l : List Record) × Scanned low high l self) ⌝ }
-        ensures { λ s. ⌜ ((l : List Record) → Scanned low high l self → Scanned low high (l ++ (r ∷ [])) s) ⌝ }
+        ensures { λ s. ⌜ ((l : List Record) → Scanned low high l self → (self .number ≡ 0 → CountsUnder low high l r n) → Scanned low high (l ++ (r ∷ [])) s) ⌝ }
     {
         if self.number == 1 {
             return self;
         }
         if self.follows(low, high, r) {
-            return self.counted(r);
+            return self.counted(r, n);
         }
         let mut bad = self;
         bad.number = 1;

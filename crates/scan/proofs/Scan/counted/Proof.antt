@@ -1,23 +1,17 @@
 -- `Scan::counted` meets its contract. Assumes nothing.
-use Prim.Native.Nat.{_<_}
-use lib.ListN.{length}
 use borrow.Author.Tests.{eq-eqb, ne-eqb}
 use borrow.Author.Needs.{needs}
 use Rattle.scan.proofs.Scan.counted.Statement.{statement}
 use Rattle.scan.proofs.Scan.counted.Tie as tie
 
--- the array has a place for every index
-in-under : (start : tie.Start) → start .args .r .index < length (start .args .self .under)
-in-under start = search needs
-
 tallied-requires : tie.Need-tallied-requires
 tallied-requires c κs = c .before .before .pre (c .if1 .taken)
 
 returns : tie.Need-returns
-returns c = (rw (eq-eqb _ _ (c .before .before .if1 .taken), ← c .before .tallied .ensures) (c .judged .ensures), in-under (c .before .before .before .before))
+returns c = rw (eq-eqb _ _ (c .before .before .if1 .taken), ← c .before .tallied .ensures) (c .judged .ensures)
 
 returns-2 : tie.Need-returns-2
-returns-2 c = (rw (ne-eqb _ _ (c .if1 .left)), in-under (c .before .before))
+returns-2 c = rw (ne-eqb _ _ (c .if1 .left))
 
 pub counted-spec : {M : Type 1} → statement M
 counted-spec =

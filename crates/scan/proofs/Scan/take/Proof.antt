@@ -6,20 +6,20 @@ use Rattle.scan.proofs.Scan.take.Statement.{statement}
 use Rattle.scan.proofs.Scan.take.Tie as tie
 
 returns : tie.Need-returns
-returns c l s = scanned-bad _ _ l _ _ (rw (ill-formed _ _ l _ s (c .if1 .taken))) (c .if1 .taken)
+returns c l s u = scanned-bad _ _ l _ _ (rw (ill-formed _ _ l _ s (c .if1 .taken))) (c .if1 .taken)
 
 counted-requires : tie.Need-counted-requires
 counted-requires c κs = λ z. let p = c .before .before .before .before .pre in (p .0, p .1 .tallied z)
 
 returns-2 : tie.Need-returns-2
-returns-2 c l s =
+returns-2 c l s u =
     let at-if1 = c .before .before .before in
     let n = at-if1 .if1 .left in
-    rw (c .counted .ensures .0)
-    (scanned-on _ _ l _ _ s n (sym (c .before .before .follows .ensures l (well-formed _ _ l _ s n) (s .ends (well-formed _ _ l _ s n))) ∙ c .before .if2 .taken) (c .counted .ensures .1))
+    rw (c .counted .ensures)
+    (scanned-on _ _ l _ _ _ s u n (sym (c .before .before .follows .ensures l (well-formed _ _ l _ s n) (s .ends (well-formed _ _ l _ s n))) ∙ c .before .if2 .taken))
 
 returns-3 : tie.Need-returns-3
-returns-3 c l s =
+returns-3 c l s u =
     let n = c .before .before .if1 .left in
     let w = well-formed _ _ l _ s n in
     scanned-bad _ _ l _ _ (rw w (sym (c .before .follows .ensures l w (s .ends w)) ∙ c .if2 .left)) refl
