@@ -46,11 +46,6 @@ pub record MapSoFar (l : List Record) (s : MapReader) : Type 0 where
   pub lost : s .scan .number ≡ 0 → s .lost ≡ not (each placed l)
   pub parts : s .scan .number ≡ 0 → each placed l ≡ true → MapParts l s
 
--- the entries of the records l, which r may follow
-pub record EntriesSoFar (l : List Record) (entries : Entries) (r : Record) : Type 0 where
-  pub held : entries ≡ entriesAs (entriesFor l)
-  pub good : scanNumber 1 6 (l ++ (r ∷ [])) ≡ 0
-
 -- the entries with r and their keys, or that r does not find what it needs
 pub record EntriesNow (l : List Record) (r : Record) (none : Bool) (ks : List ℕ) (entries : Entries) : Type 0 where
   pub lost : none ≡ not (entryFits (entriesFor l) r)

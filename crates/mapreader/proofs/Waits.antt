@@ -16,7 +16,7 @@ use Rattle.lists.proofs.Folds.{fold-append}
 use Rattle.lists.proofs.Orders.{apart}
 use Rattle.parts.specs.declared.Removal.{Removal}
 use Rattle.parts.specs.declared.Waiting.{Waiting}
-use Rattle.parts.specs.Model.{waitingLimit, noRemoval, removalAs, waitingAs}
+use Rattle.parts.specs.Model.{noRemoval, removalAs, waitingAs}
 use Rattle.records.specs.declared.Record.{Record}
 use Rattle.records.specs.Kinds.{recordOk, maskOf}
 use Rattle.scan.specs.Each.{each}
@@ -34,7 +34,7 @@ use Rattle.mapreader.specs.Reading.{underIndex, waitingCount, removalIn,
 use Rattle.mapreader.specs.Related.{entryFits, waitingFits, placed}
 use Rattle.mapreader.proofs.SoFar.{WaitingSoFar, WaitingNow}
 use Rattle.parts.proofs.Packs.{removal-pushed}
-use Rattle.mapreader.proofs.Packs.{removal-read, removal-changed, pad-longer}
+use Rattle.mapreader.proofs.Packs.{removal-read, removal-changed}
 use Rattle.mapreader.proofs.Keys.{get-map, map-changed, map-same, length-below, get-below, unique-below}
 use Rattle.scan.proofs.Splits.{those-none}
 use Rattle.mapreader.proofs.Counts.{by-records, tally-grows, kinds-ascend, waiting-dots-room, waiting-keys-room}
@@ -281,7 +281,3 @@ module _ (l : List Record) (r : Record) (waiting : Waiting) (s : WaitingSoFar l 
 
   pub waiting-untouched : (r .kind ≡ 5 → ⊥) → (r .kind ≡ 6 → ⊥) → WaitingNow l r false waiting
   waiting-untouched a b = record { lost = rw (ne-eqb (r .kind) 5 a, ne-eqb (r .kind) 6 b); held = λ _. s .held ∙ ap waitingAs (sym (waiting-same l r a b)) }
-
-  -- the place is in the array, which has room for the limit
-  pub waits-in : r .index < waiting .len → length (waiting .items) ≡ 8 → r .index < 8
-  waits-in h n = omega (arith, ap (λ w. length (w .items)) (s .held), pad-longer noRemoval waitingLimit (waitingFor l), in-waiting h noRemoval)
