@@ -10,6 +10,7 @@ use lib.ListN.{length, length-map}
 use borrow.Author.Tests.{eqb-true}
 use Rattle.lists.specs.Order.{_∈_}
 use Rattle.lists.specs.Sift.{those}
+use Rattle.lists.proofs.Those.{those-same}
 use Rattle.records.specs.declared.Record.{Record}
 use Rattle.records.specs.Kinds.{recordOk, maskOf}
 use Rattle.scan.specs.Limits.{innerLimits, limitAt, sameMiddle}
@@ -17,7 +18,7 @@ use Rattle.scan.specs.Scanned.{scanNumber}
 use Rattle.scan.proofs.Eachs.{decide}
 use Rattle.scan.proofs.Scans.{alike-middle}
 use Rattle.scan.proofs.Scanning.{scan-good}
-use Rattle.scan.proofs.Rooms.{those-yes, those-no, those-same, good-at, no-index, no-key, inner-room}
+use Rattle.scan.proofs.Rooms.{those-yes, those-no, good-at, no-index, no-key, inner-room}
 use Rattle.clockimage.specs.Image.{isKind, dotOf, dotsIn}
 
 pub map-snoc : {A B : Type 0} (f : A → B) (l : List A) (x : A) → map f (l ++ (x ∷ [])) ≡ map f l ++ (f x ∷ [])

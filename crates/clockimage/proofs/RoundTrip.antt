@@ -1,7 +1,7 @@
 -- Clocks and their images: what was written reads as it was, what was read writes as it was, and an image is accepted exactly when it is a clock's.
 -- Assumes nothing.
 use mathlib.Core.Path.{_≡_, refl, ap, ap₂, sym, _∙_}
-use mathlib.Core.Bool.{Bool, true, cond}
+use mathlib.Core.Bool.{true, cond}
 use mathlib.Core.List.{List, [], _∷_, map, List·Memᴰ·head, List·Memᴰ·tail, Memᴰ·map, Memᴰ·of-map}
 use Prim.Native.Nat.{ℕ, _*_, _%_, _≤_, _<_}
 use native.Mathlib.Omega.{arith}
@@ -9,8 +9,9 @@ use lib.Dec.{eqb, ltb}
 use lib.ListN.{length, length-map}
 use borrow.Author.Tests.{eq-eqb, le-ltb, lt-ltb, ltb-true, ltb-false, eqb-true}
 use Rattle.lists.specs.Order.{_∈_, Ascending, nil, next, by}
-use Rattle.lists.specs.Sift.{sift, those}
+use Rattle.lists.specs.Sift.{those}
 use Rattle.lists.proofs.Orders.{head-before, tail-ascends}
+use Rattle.lists.proofs.Those.{those-all}
 use Rattle.clock.specs.declared.Dot.{Dot}
 use Rattle.clock.specs.Dots.{dotLimit, clockOf}
 use Rattle.clock.specs.Lawful.{Lawful}
@@ -45,12 +46,6 @@ module _ (kind index key : ℕ) where
   pub dots-back : (l : List Dot) → map dotOf (dotRecords kind index key l) ≡ l
   dots-back [] = refl
   dots-back (d ∷ l) = ap (λ m. d ∷ m) (dots-back l)
-
--- all pass
-pub those-all : {A : Type 0} (test : A → Bool) (l : List A) → ((x : A) → x ∈ l → test x ≡ true) → those test l ≡ l
-unfolding sift
-those-all test [] h = refl
-those-all test (x ∷ l) h = rw (h x (List·Memᴰ·head refl)) (ap (λ m. x ∷ m) (those-all test l (λ y i. h y (List·Memᴰ·tail i))))
 
 module _ (l : List Dot) where
   all-first : (x : Record) → x ∈ clockRecords l → (d : Dot) × (d ∈ l) × (dotRecord 1 0 0 d ≡ x)

@@ -1,7 +1,7 @@
 -- A loop that builds the pack of a list, an element at a time: whatever list it is, and however it is packed.
 -- Assumes nothing.
 use mathlib.Core.Path.{_≡_, refl, ap, sym, _∙_}
-use mathlib.Core.List.{List, [], _∷_, _++_, append-nil, append-assoc}
+use mathlib.Core.List.{List, [], _∷_, _++_, append-nil}
 use Prim.Native.Nat.{_+_, _<_}
 use native.Mathlib.Omega.{arith}
 use lib.ListN.{length, length-append}
@@ -27,14 +27,6 @@ module _ {B S : Type 0} {pack : List B → S} where
     done = g .done ++ (v ∷ []);
     packed = f (g .done) (g .packed);
     parts = g .parts ∙ ap (λ r. g .done ++ r) e ∙ sym (append-snoc (g .done) v more);
-  }
-
-  -- several elements more, or none
-  pub grow-more : {s t : S} {whole rest : List B} (chunk : List B) {more : List B} → Growing pack whole rest s → rest ≡ chunk ++ more → ((l : List B) → s ≡ pack l → t ≡ pack (l ++ chunk)) → Growing pack whole more t
-  grow-more chunk {more} g e f = record {
-    done = g .done ++ chunk;
-    packed = f (g .done) (g .packed);
-    parts = g .parts ∙ ap (λ r. g .done ++ r) e ∙ sym (append-assoc (g .done) chunk more);
   }
 
   -- an element that leaves the rest as it is

@@ -12,9 +12,9 @@ use Rattle.lists.specs.Order.{_∈_, Ascending, nil, next, by}
 use Rattle.lists.specs.Fold.{fold}
 use Rattle.lists.specs.Sift.{sift, those}
 use Rattle.lists.proofs.Orders.{head-before, tail-ascends}
+use Rattle.lists.proofs.Those.{those-same}
 use Rattle.scan.specs.Each.{every}
 use Rattle.scan.proofs.Eachs.{decide, every-at, both-left, both-right}
-use Rattle.scan.proofs.Rooms.{those-same}
 use Rattle.mapimage.specs.Sorted.{insert, inOrder, lesser, leastFrom}
 
 -- members of what is put in order

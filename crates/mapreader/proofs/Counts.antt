@@ -15,6 +15,7 @@ use Rattle.lists.specs.Sift.{those}
 use Rattle.lists.specs.First.{some}
 use Rattle.lists.specs.Fold.{fold}
 use Rattle.lists.proofs.Orders.{apart}
+use Rattle.lists.proofs.Those.{those-same}
 use Rattle.records.specs.declared.Record.{Record}
 use Rattle.records.specs.Kinds.{before, recordOk, maskOf}
 use Rattle.scan.specs.Each.{each}
@@ -26,7 +27,7 @@ use Rattle.scan.proofs.Befores.{before-fields}
 use Rattle.scan.proofs.Tallies.{tally-snoc, tally-new, tally-other}
 use Rattle.scan.proofs.Scans.{formed-snoc, alike, alike-outer, alike-middle, alike-index, outer-key}
 use Rattle.scan.proofs.Scanning.{scan-good, scan-last}
-use Rattle.scan.proofs.Rooms.{those-same, good-at, no-index, no-key, inner-room, middle-room, outer-few}
+use Rattle.scan.proofs.Rooms.{good-at, no-index, no-key, inner-room, middle-room, outer-few}
 use Rattle.clockimage.specs.Image.{isKind, dotOf, dotsIn}
 use Rattle.mapreader.specs.Reading.{underKey, underIndex, underBoth, entryKeys}
 use Rattle.mapreader.proofs.Entries.{keys-more, keys-same}

@@ -13,6 +13,7 @@ use Rattle.lists.specs.Order.{_∈_}
 use Rattle.lists.specs.Sift.{those}
 use Rattle.lists.specs.Fold.{fold}
 use Rattle.lists.proofs.Folds.{fold-append}
+use Rattle.lists.proofs.Those.{those-none}
 use Rattle.clock.specs.Dots.{clockOf}
 use Rattle.register.specs.declared.Value.{Value}
 use Rattle.register.specs.Values.{noValue}
@@ -20,7 +21,6 @@ use Rattle.parts.specs.Model.{entryAs}
 use Rattle.records.specs.declared.Record.{Record}
 use Rattle.scan.proofs.Eachs.{decide, both}
 use Rattle.scan.proofs.Rooms.{those-yes, those-no}
-use Rattle.scan.proofs.Splits.{those-none}
 use Rattle.clockimage.specs.Image.{isKind, dotOf, dotsIn}
 use Rattle.clockimage.proofs.Dots.{dots-more, dots-same}
 use Rattle.mapreader.specs.Reading.{underKey, underBoth, addNew, valueIn, valuesUnder, entryIn, entryKeys, entriesFor, placesFrom}

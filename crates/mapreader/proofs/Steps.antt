@@ -14,6 +14,7 @@ use Rattle.lists.specs.First.{some}
 use Rattle.lists.proofs.Orders.{apart}
 use Rattle.lists.specs.Pad.{pad}
 use Rattle.lists.proofs.Pads.{length-pad, take-pad, push-pad, length-snoc}
+use Rattle.lists.proofs.Those.{those-none}
 use Rattle.clock.specs.Dots.{clockOf}
 use Rattle.clock.specs.declared.Clock.{Clock}
 use Rattle.register.specs.declared.Value.{Value}
@@ -29,7 +30,6 @@ use Rattle.scan.specs.Scanned.{scanNumber}
 use Rattle.scan.proofs.Eachs.{decide, some-of, both-left, both-right}
 use Rattle.scan.proofs.Scanning.{scan-before}
 use Rattle.scan.proofs.Rooms.{those-yes, those-no}
-use Rattle.scan.proofs.Splits.{those-none}
 use Rattle.clockimage.specs.Image.{isKind, dotOf, dotsIn}
 use Rattle.clockimage.proofs.Dots.{map-snoc}
 use Rattle.mapreader.specs.Reading.{underKey, underBoth, valueIn, valuesUnder, entryIn, entryKeys, entriesFor, placesFrom}

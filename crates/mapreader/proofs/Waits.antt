@@ -14,6 +14,7 @@ use Rattle.lists.specs.Fold.{fold}
 use Rattle.lists.specs.Sift.{those}
 use Rattle.lists.proofs.Folds.{fold-append}
 use Rattle.lists.proofs.Orders.{apart}
+use Rattle.lists.proofs.Those.{those-none}
 use Rattle.parts.specs.declared.Removal.{Removal}
 use Rattle.parts.specs.declared.Waiting.{Waiting}
 use Rattle.parts.specs.Model.{noRemoval, removalAs, waitingAs}
@@ -36,7 +37,6 @@ use Rattle.mapreader.proofs.SoFar.{WaitingSoFar, WaitingNow}
 use Rattle.parts.proofs.Packs.{removal-pushed}
 use Rattle.mapreader.proofs.Packs.{removal-read, removal-changed}
 use Rattle.mapreader.proofs.Keys.{get-map, map-changed, map-same, length-below, get-below, unique-below}
-use Rattle.scan.proofs.Splits.{those-none}
 use Rattle.mapreader.proofs.Counts.{by-records, tally-grows, kinds-ascend, waiting-dots-room, waiting-keys-room}
 
 count-snoc : (l : List Record) (r : Record) → waitingCount (l ++ (r ∷ [])) ≡ cond (isKind 5 r) (max (waitingCount l) (r .index + 1)) (waitingCount l)

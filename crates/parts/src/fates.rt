@@ -4,7 +4,7 @@ ghost use mathlib.Core.Bool.{true};
 ghost use mathlib.Core.List.{List, [], _∷_, _++_, map};
 ghost use Prim.Native.Nat.{_≤_, _<_, _+_};
 ghost use lib.Dec.{eqb};
-ghost use lib.ListN.{length, drop};
+ghost use lib.ListN.{length};
 ghost use Rattle.lists.specs.Sift.{sift, those};
 ghost use Rattle.lists.specs.Order.{_∈_};
 ghost use Rattle.clock.specs.Dots.{dotLimit, dotsOf, joinDots, addDot};

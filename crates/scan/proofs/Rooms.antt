@@ -3,7 +3,7 @@
 use mathlib.Core.Path.{_≡_, refl, ap, sym, _∙_}
 use mathlib.Core.Bool.{Bool, true, false, _&&_}
 use mathlib.Core.Logic.{⊎-elim}
-use mathlib.Core.List.{List, [], _∷_, _++_, List·Memᴰ·head, List·Memᴰ·tail, List·Memᴰ·not-nil, List·Memᴰ·cases-cons}
+use mathlib.Core.List.{List, [], _∷_, _++_, List·Memᴰ·not-nil, List·Memᴰ·cases-cons}
 use Prim.Native.Nat.{ℕ, zero, suc, _+_, _≤_, _<_}
 use native.Mathlib.Omega.{arith}
 use lib.Dec.{eqb, leb}
@@ -34,12 +34,6 @@ unfolding sift
 those-no test [] x t = rw t
 those-no test (y ∷ l) x t =
     decide (test y) (λ a. rw a (ap (λ m. y ∷ m) (those-no test l x t))) (λ a. rw a (those-no test l x t))
-
--- tests that agree on the members
-pub those-same : {A : Type 0} (t u : A → Bool) (l : List A) → ((x : A) → x ∈ l → t x ≡ u x) → those t l ≡ those u l
-unfolding sift
-those-same t u [] h = refl
-those-same t u (x ∷ l) h = rw (h x (List·Memᴰ·head refl), those-same t u l (λ y i. h y (List·Memᴰ·tail i)))
 
 module _ (low high : ℕ) where
   good-after : (seen l : List Record) → eachAfter (follows low high) seen l ≡ true → (x : Record) → x ∈ l → recordOk low high x ≡ true

@@ -1,8 +1,7 @@
 -- Records in ascending order stand kind by kind.
 -- Assumes nothing.
 use mathlib.Core.Path.{_≡_, refl, ap, sym, _∙_}
-use mathlib.Core.Bool.{Bool, false}
-use mathlib.Core.List.{List, [], _∷_, _++_, List·Memᴰ·head, List·Memᴰ·tail}
+use mathlib.Core.List.{List, [], _∷_, _++_}
 use Prim.Native.Nat.{ℕ, _+_, _<_}
 use native.Mathlib.Omega.{arith}
 use lib.Dec.{eqb, leb}
@@ -10,11 +9,11 @@ use borrow.Author.Tests.{ne-eqb, eqb-true, eqb-false, le-leb, lt-leb, leb-true, 
 use Rattle.lists.specs.Order.{_∈_, Ascending}
 use Rattle.lists.specs.Sift.{sift, those}
 use Rattle.lists.proofs.Orders.{head-before, tail-ascends}
+use Rattle.lists.proofs.Those.{those-same, those-none}
 use Rattle.records.specs.declared.Record.{Record}
 use Rattle.records.specs.Kinds.{before}
 use Rattle.scan.proofs.Eachs.{decide}
 use Rattle.scan.proofs.Befores.{before-fields}
-use Rattle.scan.proofs.Rooms.{those-same}
 
 -- of kind k, and from kind k on
 abbrev pub ofKind : ℕ → List Record → List Record
@@ -22,12 +21,6 @@ ofKind k l = those (λ x. eqb (x .kind) k) l
 
 abbrev pub from : ℕ → List Record → List Record
 from k l = those (λ x. leb k (x .kind)) l
-
--- none passes
-pub those-none : {A : Type 0} (test : A → Bool) (l : List A) → ((x : A) → x ∈ l → test x ≡ false) → those test l ≡ []
-unfolding sift
-those-none test [] h = refl
-those-none test (x ∷ l) h = rw (h x (List·Memᴰ·head refl)) (those-none test l (λ y i. h y (List·Memᴰ·tail i)))
 
 none-of : (k : ℕ) (l : List Record) → ((x : Record) → x ∈ l → k < x .kind) → ofKind k l ≡ []
 none-of k l h = those-none (λ x. eqb (x .kind) k) l (λ x i. let b = h x i in ne-eqb (x .kind) k (λ e. omega arith))

@@ -14,7 +14,7 @@ use Rattle.clock.specs.Dots.{dotsOf}
 use Rattle.parts.specs.declared.Entries.{Entries}
 use Rattle.parts.specs.declared.Entry.{Entry}
 use Rattle.parts.specs.declared.Removal.{Removal}
-use Rattle.parts.specs.Model.{entryLimit, entriesOf, waitingOf, Finishes}
+use Rattle.parts.specs.Model.{entryLimit, entriesOf, waitingOf}
 use Rattle.parts.specs.Entries.{stays, run, alone, together, weaveEntries}
 use Rattle.parts.proofs.Runs.{run-laid}
 use Rattle.parts.proofs.Packs.{noneRead}

@@ -1,6 +1,5 @@
 -- `Finished::add` meets its contract: an emptied entry is left out; one that is kept is laid down behind the last. Assumes nothing.
 use mathlib.Core.Path.{_≡_, ap, sym, _∙_}
-use mathlib.Core.Bool.{true}
 use mathlib.Core.List.{[], _∷_, _++_, append-nil}
 use Rattle.lists.specs.Sift.{sift, those}
 use Rattle.parts.specs.Entries.{stays}
