@@ -1,7 +1,7 @@
 -- Loops that test every element, or every pair of neighbours, in what is left of an array.
 -- Assumes nothing.
 use mathlib.Core.Path.{_≡_, refl, ap, sym, _∙_}
-use mathlib.Core.Bool.{Bool, true, false, _&&_, and-assoc, and-true}
+use mathlib.Core.Bool.{Bool, true, false}
 use mathlib.Core.List.{List, [], _∷_}
 use Prim.Native.Nat.{ℕ, _+_, _-_, _≤_, _<_}
 use native.Mathlib.Omega.{arith}
@@ -25,16 +25,6 @@ module _ {A : Type 0} (test : A → Bool) (xs : List A) (n i : ℕ) (e : every t
   pub every-end : length (take n xs) ≤ i → true ≡ every test (take n xs)
   unfolding every
   every-end h = sym (e ∙ ap (every test) (drop-end (take n xs) i h))
-
--- all of them, with what is known of those before place i
-module _ {A : Type 0} (test : A → Bool) (xs : List A) (n i : ℕ) (b : Bool) (e : every test (take n xs) ≡ (b && every test (drop i (take n xs)))) where
-  pub all-on : (d : A) → i < length (take n xs) → {t : Bool} → t ≡ test (getD xs i d) → every test (take n xs) ≡ ((b && t) && every test (drop (i + 1) (take n xs)))
-  unfolding every
-  all-on d h q = e ∙ rw (drop-step xs n i d h, q) (sym (and-assoc b (test (getD xs i d)) (every test (drop (i + 1) (take n xs)))))
-
-  pub all-end : length (take n xs) ≤ i → every test (take n xs) ≡ b
-  unfolding every
-  all-end h = e ∙ rw (drop-end (take n xs) i h) (and-true b)
 
 ascend-short : (l : List Removal) → length l ≤ 1 → ascend l ≡ true
 unfolding ascend

@@ -2,7 +2,7 @@
 -- Assumes nothing.
 use mathlib.Core.Path.{_≡_, refl, ap, ap₂, sym, _∙_}
 use mathlib.Core.Bool.{Bool, true, false, not, cond, _&&_, _||_}
-use mathlib.Core.List.{List, [], _∷_, _++_}
+use mathlib.Core.List.{List, [], _∷_, _++_, map}
 use borrow.Author.Tests.{not-true, not-false}
 use Rattle.lists.proofs.Orders.{apart}
 use Rattle.records.specs.declared.Record.{Record}
@@ -12,9 +12,9 @@ use Rattle.mapimage.specs.MapImage.{mapLongest}
 use Rattle.mapreader.specs.declared.ReadMap.{ReadMap}
 use Rattle.scan.specs.declared.Scan.{Scan}
 use Rattle.scan.specs.Each.{each, every}
-use Rattle.scan.specs.Scanned.{Scanned, CountsUnder, scanNumber}
+use Rattle.scan.specs.Scanned.{Scanned, CountsUnder, Under, scanNumber}
 use Rattle.scan.proofs.Eachs.{decide, both-left, both-right, each-snoc}
-use Rattle.scan.proofs.Scanning.{Under, counts-under, under-more, scan-before, scan-last}
+use Rattle.scan.proofs.Scanning.{counts-under, under-more, scan-before, scan-last}
 use Rattle.clock.specs.declared.Clock.{Clock}
 use Rattle.clock.specs.Dots.{dotsOf, clockOf}
 use Rattle.parts.specs.declared.Entries.{Entries}
@@ -27,16 +27,19 @@ use Rattle.records.specs.Kinds.{recordOk}
 use Rattle.clockimage.specs.Image.{isKind, dotOf}
 use Rattle.clockimage.proofs.Dots.{dots-more, dots-same, dots-room}
 use Rattle.lists.specs.First.{some}
+use Rattle.lists.specs.Pad.{pad}
 use Rattle.lists.proofs.Pads.{take-pad}
 use lib.ListN.{length, getD, set, take, length-map}
 use Rattle.mapreader.proofs.Steps.{untouched}
 use Rattle.mapreader.proofs.Waits.{waiting-untouched}
 use Rattle.clock.proofs.Packs.{dots-of}
-use Rattle.parts.specs.Model.{entryLimit, entriesOf, entriesAs, waitingOf}
+use Rattle.parts.specs.Model.{entryLimit, noEntry, entriesOf, entriesAs, waitingOf}
 use Rattle.mapreader.specs.Reading.{clockIn, entryIn, entryKeys, entriesFor, waitingCount, waitingFor}
 use Rattle.mapreader.proofs.Packs.{entries-of, waiting-of}
 use Rattle.mapreader.specs.Related.{entryFits, waitingFits, placed, entryWhole, ascend, related, refusedMap, judgedMap, readMap}
-use Rattle.mapreader.proofs.SoFar.{MapReader, MapParts, MapSoFar, EntriesNow, WaitingSoFar, WaitingNow, Growable}
+use Rattle.mapreader.specs.SoFar.{MapParts, MapSoFar, relatedSoFar}
+use Rattle.mapreader.specs.declared.MapReader.{MapReader}
+use Rattle.mapreader.proofs.SoFar.{handed, EntriesNow, WaitingSoFar, WaitingNow, Growable}
 
 not-both : (a b : Bool) → (not a || not b) ≡ not (a && b)
 not-both true b = refl
@@ -144,6 +147,29 @@ module _ (l : List Record) (r : Record) where
         grown q (same-clock (λ z. omega arith))
         (untouched l r (s .keys) (s .entries) (g .parts .keys) (g .parts .entries) (λ z. omega arith) (λ z. omega arith) (λ z. omega arith)) ws
 
+-- the first entry taken in hand: all stays
+in-hand : (l : List Record) (keys : List ℕ) (d : Entry)
+    → handed (entriesAs (map (entryIn l) keys)) 0 (getD (pad 0 entryLimit keys) 0 0) (getD (pad noEntry entryLimit (map (entryIn l) keys)) 0 d .clock) (getD (pad noEntry entryLimit (map (entryIn l) keys)) 0 d .register)
+    ≡ entriesAs (map (entryIn l) keys)
+unfolding pad
+in-hand l [] d = refl
+in-hand l (k ∷ keys) d = refl
+
+pub first-hand : (l : List Record) (s : MapReader) (d : Entry) → MapSoFar l s
+    → MapSoFar l (record { scan = s .scan; under = s .under; lost = s .lost; clock = s .clock; keys = s .keys; waiting = s .waiting; entries = handed (s .entries) 0 (getD (s .keys) 0 0) (getD (s .entries .items) 0 d .clock) (getD (s .entries .items) 0 d .register) })
+first-hand l s d m = record {
+  scanned = m .scanned;
+  under = m .under;
+  lost = m .lost;
+  parts = λ z p. let q = m .parts z p in
+      record {
+        clock = q .clock;
+        keys = q .keys;
+        entries = (λ i. handed (q .entries i) 0 (getD (q .keys i) 0 0) (getD (q .entries i .items) 0 d .clock) (getD (q .entries i .items) 0 d .register)) ∙ in-hand l (entryKeys l) d;
+        waiting = q .waiting;
+      };
+}
+
 -- whether the records are related, asked of the map that was read
 related-now : (l : List Record) (s : MapReader) → each placed l ≡ true → MapParts l s
     → related l ≡ (every (entryWhole (dotsOf (s .clock))) (entriesOf (s .entries)) && ascend (waitingOf (s .waiting)))
@@ -163,44 +189,54 @@ unfolding related
 unrelated-now l p = rw p
 
 -- the map that was read, or none
-abbrev pub outcome : MapReader → ℕ → ReadMap
+abbrev outcome : MapReader → ℕ → ReadMap
 outcome s n = cond (eqb n 0) (record { number = n; map = record { clock = s .clock; entries = s .entries; waiting = s .waiting } }) (refusedMap n)
 
--- what is read is judged: the first number that applies, or the map
-module _ (s : MapReader) (whole asc : Bool) (known : (l : List Entry) → s .entries ≡ entriesAs l → every (entryWhole (dotsOf (s .clock))) (entriesOf (entriesAs l)) ≡ whole) (up : asc ≡ ascend (waitingOf (s .waiting))) where
-  abbrev fits : Bool
-  fits = not (s .lost) && (whole && asc)
+outcome-number : (s : MapReader) (n : ℕ) → outcome s n .number ≡ n
+outcome-number s n = decide (eqb n 0) (λ t. rw t) (λ f. rw f)
 
-  fits-is : (l : List Record) → MapSoFar l s → s .scan .number ≡ 0 → fits ≡ related l
-  fits-is l m z =
+-- what is read is judged: the first number that applies, or the map
+module _ (l : List Record) (s : MapReader) (m : MapSoFar l s) where
+  related-is : s .scan .number ≡ 0 → relatedSoFar s ≡ related l
+  related-is z =
       decide (each placed l)
-      (λ p. let parts = m .parts z p in
-      let all = ap (λ e. every (entryWhole (dotsOf (s .clock))) (entriesOf e)) (parts .entries) ∙ known (entriesFor l) (parts .entries) in
-      rw (m .lost z, p, up, ← all) (sym (related-now l s p parts)))
+      (λ p. rw (m .lost z, p) (sym (related-now l s p (m .parts z p))))
       (λ f. rw (m .lost z, f) (sym (unrelated-now l f)))
 
-  module _ (n : ℕ) where
-    judged-is : (l : List Record) → MapSoFar l s → n ≡ cond (eqb (s .scan .number) 0) (cond fits 0 3) (s .scan .number) → judgedMap l ≡ outcome s n
-    judged-is l m e =
-        decide (eqb (s .scan .number) 0)
-        (λ t. let z = eqb-true (s .scan .number) 0 t in
-        let same = fits-is l m z in
-        decide fits
-        (λ y. let zero : n ≡ 0 = e ∙ rw (t, y) in
-        let all : related l ≡ true = sym same ∙ y in
-        let parts = m .parts z (related-placed l all) in
-        rw (← m .scanned .number, z, all, zero)
-        (sym (λ i. record { number = 0; map = record { clock = parts .clock i; entries = parts .entries i; waiting = parts .waiting i } })))
-        (λ y. let three : n ≡ 3 = e ∙ rw (t, y) in rw (← m .scanned .number, z, sym same ∙ y, three)))
-        (λ f. let same : n ≡ s .scan .number = e ∙ rw f in rw (← m .scanned .number, same, f))
+  judged-is : (n : ℕ) → n ≡ cond (eqb (s .scan .number) 0) (cond (relatedSoFar s) 0 3) (s .scan .number) → judgedMap l ≡ outcome s n
+  judged-is n e =
+      decide (eqb (s .scan .number) 0)
+      (λ t. let z = eqb-true (s .scan .number) 0 t in
+      let same = related-is z in
+      decide (relatedSoFar s)
+      (λ y. let zero : n ≡ 0 = e ∙ rw (t, y) in
+      let all : related l ≡ true = sym same ∙ y in
+      let parts = m .parts z (related-placed l all) in
+      rw (← m .scanned .number, z, all, zero)
+      (sym (λ i. record { number = 0; map = record { clock = parts .clock i; entries = parts .entries i; waiting = parts .waiting i } })))
+      (λ y. let three : n ≡ 3 = e ∙ rw (t, y) in rw (← m .scanned .number, z, sym same ∙ y, three)))
+      (λ f. let same : n ≡ s .scan .number = e ∙ rw f in rw (← m .scanned .number, same, f))
 
-    pub read-is : (bytes : List ℕ) (refused : ℕ) → refused ≡ cond (ltb mapLongest (length bytes)) 2 (cond (eqb (length bytes % 16) 0) 0 1)
-        → n ≡ cond (eqb refused 0) (cond (eqb (s .scan .number) 0) (cond fits 0 3) (s .scan .number)) refused
-        → (refused ≡ 0 → MapSoFar (recordsOf bytes) s) → readMap bytes ≡ outcome s n
-    unfolding readMap
-    read-is bytes refused q e m =
-        decide (ltb mapLongest (length bytes))
-        (λ t. let two : refused ≡ 2 = q ∙ rw t in let same : n ≡ 2 = e ∙ rw two in rw (t, same))
-        (λ f. decide (eqb (length bytes % 16) 0)
-        (λ t. let zero : refused ≡ 0 = q ∙ rw (f, t) in rw (f, t) (judged-is (recordsOf bytes) (m zero) (e ∙ rw zero)))
-        (λ g. let one : refused ≡ 1 = q ∙ rw (f, g) in let same : n ≡ 1 = e ∙ rw one in rw (f, g, same)))
+  pub judged-number : cond (eqb (s .scan .number) 0) (cond (relatedSoFar s) 0 3) (s .scan .number) ≡ judgedMap l .number
+  judged-number = sym (ap (λ r. r .number) (judged-is _ refl) ∙ outcome-number s _)
+
+  pub judged-map : judgedMap l .number ≡ 0 → judgedMap l ≡ record { number = 0; map = record { clock = s .clock; entries = s .entries; waiting = s .waiting } }
+  judged-map z = judged-is 0 (sym (judged-number ∙ z))
+
+-- a number comes with no map
+judged-refused : (l : List Record) → cond (eqb (judgedMap l .number) 0) (judgedMap l) (refusedMap (judgedMap l .number)) ≡ judgedMap l
+judged-refused l = decide (eqb (scanNumber 1 6 l) 0) (λ t. decide (related l) (λ r. rw (t, r)) (λ r. rw (t, r))) (λ f. rw (f, f))
+
+-- what a length, and the records behind it, are answered with
+pub read-is : (bytes : List ℕ) (refused n : ℕ) (r : ReadMap) → refused ≡ cond (ltb mapLongest (length bytes)) 2 (cond (eqb (length bytes % 16) 0) 0 1)
+    → (l : List Record) → (refused ≡ 0 → l ≡ recordsOf bytes) → n ≡ cond (eqb refused 0) (judgedMap l .number) refused
+    → ((n ≡ 0 → judgedMap l .number ≡ 0) → r ≡ cond (eqb n 0) (judgedMap l) (refusedMap n)) → r ≡ readMap bytes
+unfolding readMap
+read-is bytes refused n r q l same e out =
+    decide (ltb mapLongest (length bytes))
+    (λ t. let two : refused ≡ 2 = q ∙ rw t in let number : n ≡ 2 = e ∙ rw two in out (λ z. omega arith) ∙ rw (number, t))
+    (λ f. decide (eqb (length bytes % 16) 0)
+    (λ t. let zero : refused ≡ 0 = q ∙ rw (f, t) in
+    let number : n ≡ judgedMap l .number = e ∙ rw zero in
+    out (λ z. sym number ∙ z) ∙ ap (λ k. cond (eqb k 0) (judgedMap l) (refusedMap k)) number ∙ judged-refused l ∙ rw (f, t) (ap judgedMap (same zero)))
+    (λ g. let one : refused ≡ 1 = q ∙ rw (f, g) in let number : n ≡ 1 = e ∙ rw one in out (λ z. omega arith) ∙ rw (number, f, g)))

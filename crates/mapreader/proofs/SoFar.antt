@@ -1,4 +1,4 @@
--- What a reader of a map's image holds after some records.
+-- What a reader of a map's image holds with one record more.
 -- Assumes nothing.
 use mathlib.Core.Path.{_≡_}
 use mathlib.Core.Bool.{Bool, true, not}
@@ -7,7 +7,6 @@ use Prim.Native.Nat.{ℕ}
 use lib.ListN.{set}
 use Rattle.lists.specs.Pad.{pad}
 use Rattle.clock.specs.declared.Clock.{Clock}
-use Rattle.clock.specs.Dots.{clockOf}
 use Rattle.register.specs.declared.Register.{Register}
 use Rattle.parts.specs.declared.Entries.{Entries}
 use Rattle.parts.specs.declared.Waiting.{Waiting}
@@ -15,36 +14,15 @@ use Rattle.parts.specs.Model.{entryLimit, entriesAs, waitingAs}
 use Rattle.records.specs.declared.Record.{Record}
 use Rattle.scan.specs.declared.Scan.{Scan}
 use Rattle.scan.specs.Each.{each}
-use Rattle.scan.specs.Scanned.{Scanned, scanNumber}
-use Rattle.scan.proofs.Scanning.{Under}
-use Rattle.mapreader.specs.Reading.{clockIn, entryKeys, entriesFor, waitingCount, waitingFor}
+use Rattle.scan.specs.Scanned.{Scanned, Under, scanNumber}
+use Rattle.mapreader.specs.Reading.{entryKeys, entriesFor, waitingCount, waitingFor}
 use Rattle.mapreader.specs.Related.{entryFits, waitingFits, placed}
+use Rattle.mapreader.specs.SoFar.{MapParts}
+use Rattle.mapreader.specs.declared.MapReader.{MapReader}
 
 -- the entries with the one in hand put back at its place
 abbrev pub handed : Entries → ℕ → ℕ → Clock → Register → Entries
 handed e at key clock register = record { items = set (e .items) at (record { key = key; clock = clock; register = register }); len = e .len }
-
--- the parts; the keys of the entries stand beside them too
-pub record MapReader : Type 0 where
-  pub scan : Scan
-  pub under : List ℕ
-  pub lost : Bool
-  pub clock : Clock
-  pub keys : List ℕ
-  pub entries : Entries
-  pub waiting : Waiting
-
-pub record MapParts (l : List Record) (s : MapReader) : Type 0 where
-  pub clock : s .clock ≡ clockOf (clockIn l)
-  pub keys : s .keys ≡ pad 0 entryLimit (entryKeys l)
-  pub entries : s .entries ≡ entriesAs (entriesFor l)
-  pub waiting : s .waiting ≡ waitingAs (waitingFor l)
-
-pub record MapSoFar (l : List Record) (s : MapReader) : Type 0 where
-  pub scanned : Scanned 1 6 l (s .scan)
-  pub under : s .scan .number ≡ 0 → Under l (s .under)
-  pub lost : s .scan .number ≡ 0 → s .lost ≡ not (each placed l)
-  pub parts : s .scan .number ≡ 0 → each placed l ≡ true → MapParts l s
 
 -- the entries with r and their keys, or that r does not find what it needs
 pub record EntriesNow (l : List Record) (r : Record) (none : Bool) (ks : List ℕ) (entries : Entries) : Type 0 where

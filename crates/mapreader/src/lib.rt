@@ -2,17 +2,20 @@
 ghost use mathlib.Core.Path.{_≡_};
 ghost use mathlib.Core.Bool.{false, cond};
 ghost use mathlib.Core.List.{List, [], _∷_, _++_};
-ghost use Prim.Native.Nat.{ℕ, _+_, _/_, _%_, _≤_, _<_};
+ghost use Prim.Native.Nat.{ℕ, _+_, _%_, _≤_, _<_};
 ghost use lib.Dec.{eqb, ltb};
 ghost use lib.ListN.{getD, take};
 ghost use Rattle.lists.specs.First.{some};
 ghost use Rattle.clock.specs.declared.Dot.{Dot};
 ghost use Rattle.clock.specs.Dots.{dotLimit, dotsOf, clockOf};
 ghost use Rattle.register.specs.Values.{valuesOf};
-ghost use Rattle.parts.specs.Model.{keyLimit, entryLimit, removalAs, waitingOf};
+ghost use Rattle.parts.specs.Model.{keyLimit, entryLimit, entriesOf, removalAs, waitingOf};
+ghost use Rattle.records.specs.declared.Record.{Record};
+ghost use Rattle.records.specs.Records.{recordsOf};
 ghost use Rattle.clockimage.specs.Image.{dotOf};
 ghost use Rattle.mapimage.specs.MapImage.{mapLongest};
-ghost use Rattle.mapreader.specs.Related.{dotted, entryWhole, ascend, readMap};
+ghost use Rattle.mapreader.specs.Related.{dotted, entryWhole, ascend, refusedMap, judgedMap, readMap};
+ghost use Rattle.mapreader.specs.SoFar.{MapSoFar, MapTaken, relatedSoFar};
 ghost use Rattle.scan.specs.Each.{every};
 use clock::Clock;
 use map::Map;
@@ -25,6 +28,19 @@ use records::Record;
 use register::Register;
 use register::Value;
 use scan::Scan;
+
+// A map's image so far: it takes the records of each piece one at a time, and is asked at the end.
+pub struct MapReader {
+    pub scan: Scan,
+    // for each index, how many waiting keys it has
+    pub under: [u8; 256],
+    // a record did not find what it needs
+    pub lost: bool,
+    pub clock: Clock,
+    pub keys: [u32; 16],
+    pub waiting: Waiting,
+    pub entries: Entries,
+}
 
 // What an image was read as: a number of document 01, and the map, which is empty where the number is not 0.
 pub struct ReadMap {
@@ -136,6 +152,21 @@ fn entry_whole(clock: Clock, e: Entry) -> bool
     clock.covers(own) & dotted(register)
 }
 
+fn entries_whole(clock: Clock, entries: Entries) -> bool
+    ensures { λ b. ⌜ b ≡ every (entryWhole (dotsOf clock)) (entriesOf entries) ⌝ }
+{
+    let n = entries.size();
+    let mut i: usize = 0;
+    while i < n {
+        let e = entries.items[i];
+        if !entry_whole(clock, e) {
+            return false;
+        }
+        i += 1;
+    }
+    true
+}
+
 // Whether waiting clocks differ and ascend.
 fn ascend(waiting: Waiting) -> bool
     ensures { λ b. ⌜ b ≡ ascend (waitingOf waiting) ⌝ }
@@ -165,11 +196,11 @@ fn length_number(len: usize) -> u8
     if len % 16 == 0 { 0 } else { 1 }
 }
 
-// How many records are read: none where the length is refused.
-fn record_count(len: usize, refused: u8) -> usize
-    ensures { λ r. ⌜ (r ≤ len / 16) × (refused ≡ 0 → r ≡ len / 16) ⌝ }
+// How many bytes are read: none where the length is refused.
+fn read_length(len: usize, refused: u8) -> usize
+    ensures { λ r. ⌜ (r ≤ len) × (refused ≡ 0 → r ≡ len) ⌝ }
 {
-    if refused == 0 { len / 16 } else { 0 }
+    if refused == 0 { len } else { 0 }
 }
 
 // The first number that applies: of the length, of the records one by one, of the records as a whole.
@@ -185,146 +216,204 @@ fn first_number(length: u8, scanned: u8, related: bool) -> u8
     if related { 0 } else { 3 }
 }
 
-// The parts stand in locals that change in place, and the entry of the last record apart: a map is too big to be handed about for each record.
-pub fn read_map(bytes: &[u8]) -> ReadMap
-    ensures { λ r. ⌜ r ≡ readMap (now (bytes .entry)) ⌝ }
-{
-    let len = bytes.len();
-    let refused = length_number(len);
-    let n = record_count(len, refused);
-    let mut scan = Scan::new();
-    // for each index, how many waiting keys it has
-    let mut under = [0u8; 256];
-    // a record did not find what it needs
-    let mut lost = false;
-    let mut clock = Clock::new();
-    let mut keys = [0u32; 16];
-    let none = Entry::new(0);
-    let mut entries = Entries {
-        items: [none; 16],
-        len: 0,
-    };
-    // the place of the entry in hand, its clock and its register
-    let mut at: usize = 0;
-    let mut own = Clock::new();
-    let mut register = Register::new();
-    let mut waiting = Waiting::new();
-    let mut i: usize = 0;
-    'records: while i < n {
-        let r = records::read_record(bytes, i * 16);
-        i += 1;
-        let x = r.index as usize;
-        let u = under[x];
-        scan = scan.take(1, 6, r, u);
-        under[x] = tallied(u, r.kind);
-        if scan.number == 0 {
-            if !lost {
-                if r.kind == 1 {
-                    clock = clockimage::clock_with(clock, true, r);
-                } else if r.kind < 5 {
-                    let m = entries.len;
-                    let j = place(keys, m, at, r.key);
-                    if j < m {
-                        if j != at {
+impl MapReader {
+    pub fn new() -> MapReader
+        ensures { λ s. ⌜ MapTaken [] s ⌝ }
+    {
+        let scan = Scan::new();
+        let clock = Clock::new();
+        let waiting = Waiting::new();
+        let none = Entry::new(0);
+        let entries = Entries {
+            items: [none; 16],
+            len: 0,
+        };
+        MapReader {
+            scan,
+            under: [0u8; 256],
+            lost: false,
+            clock,
+            keys: [0u32; 16],
+            waiting,
+            entries,
+        }
+    }
+
+    // The whole records of a piece. The parts stand in locals that change in place, and the entry of the last record apart: a map is too big to be handed about for each record.
+    pub fn feed(self, piece: &[u8]) -> MapReader
+        requires { ⌜ ((l : List Record) × MapTaken l self) ⌝ }
+        ensures { λ s. ⌜ ((l : List Record) → MapTaken l self → MapTaken (l ++ recordsOf (now (piece .entry))) s) ⌝ }
+    {
+        let mut scan = self.scan;
+        let mut under = self.under;
+        let mut lost = self.lost;
+        let mut clock = self.clock;
+        let mut keys = self.keys;
+        let mut waiting = self.waiting;
+        let mut entries = self.entries;
+        // the place of the entry in hand, its clock and its register
+        let mut at: usize = 0;
+        let first = entries.items[0];
+        let mut own = first.clock;
+        let mut register = first.register;
+        let n = piece.len() / 16;
+        let mut i: usize = 0;
+        'records: while i < n {
+            let r = records::read_record(piece, i * 16);
+            i += 1;
+            let x = r.index as usize;
+            let u = under[x];
+            scan = scan.take(1, 6, r, u);
+            under[x] = tallied(u, r.kind);
+            if scan.number == 0 {
+                if !lost {
+                    if r.kind == 1 {
+                        clock = clockimage::clock_with(clock, true, r);
+                    } else if r.kind < 5 {
+                        let m = entries.len;
+                        let j = place(keys, m, at, r.key);
+                        if j < m {
+                            if j != at {
+                                let hand = Entry {
+                                    key: keys[at],
+                                    clock: own,
+                                    register,
+                                };
+                                entries.items[at] = hand;
+                                let e = entries.items[j];
+                                own = e.clock;
+                                register = e.register;
+                                at = j;
+                            }
+                            if r.kind == 2 {
+                                own = clockimage::clock_with(own, true, r);
+                            } else if r.kind == 3 {
+                                if register.len == r.index as usize {
+                                    let k = register.len;
+                                    let blank = Clock::new();
+                                    let value = Value {
+                                        clock: blank,
+                                        value: r.number,
+                                    };
+                                    register.values[k] = value;
+                                    register.len = k + 1;
+                                } else {
+                                    lost = true;
+                                }
+                            } else {
+                                let k = r.index as usize;
+                                if k < register.len {
+                                    let v = register.values[k];
+                                    let value = value_dot(v, r);
+                                    register.values[k] = value;
+                                } else {
+                                    lost = true;
+                                }
+                            }
+                        } else if r.kind == 2 {
                             let hand = Entry {
                                 key: keys[at],
                                 clock: own,
                                 register,
                             };
                             entries.items[at] = hand;
-                            let e = entries.items[j];
-                            own = e.clock;
-                            register = e.register;
-                            at = j;
-                        }
-                        if r.kind == 2 {
-                            own = clockimage::clock_with(own, true, r);
-                        } else if r.kind == 3 {
-                            if register.len == r.index as usize {
-                                let k = register.len;
-                                let blank = Clock::new();
-                                let value = Value {
-                                    clock: blank,
-                                    value: r.number,
-                                };
-                                register.values[k] = value;
-                                register.len = k + 1;
-                            } else {
-                                lost = true;
-                            }
+                            entries.len = m + 1;
+                            keys[m] = r.key;
+                            own = first_dot(r);
+                            register = Register::new();
+                            at = m;
                         } else {
-                            let k = r.index as usize;
-                            if k < register.len {
-                                let v = register.values[k];
-                                let value = value_dot(v, r);
-                                register.values[k] = value;
+                            lost = true;
+                        }
+                    } else {
+                        let k = r.index as usize;
+                        if k < waiting.len {
+                            let w = waiting.items[k];
+                            if r.kind == 5 {
+                                let more = removal_dot(w, r);
+                                waiting.items[k] = more;
                             } else {
-                                lost = true;
+                                let more = removal_key(w, r);
+                                waiting.items[k] = more;
                             }
-                        }
-                    } else if r.kind == 2 {
-                        let hand = Entry {
-                            key: keys[at],
-                            clock: own,
-                            register,
-                        };
-                        entries.items[at] = hand;
-                        entries.len = m + 1;
-                        keys[m] = r.key;
-                        own = first_dot(r);
-                        register = Register::new();
-                        at = m;
-                    } else {
-                        lost = true;
-                    }
-                } else {
-                    let k = r.index as usize;
-                    if k < waiting.len {
-                        let w = waiting.items[k];
-                        if r.kind == 5 {
-                            let more = removal_dot(w, r);
-                            waiting.items[k] = more;
+                        } else if (r.kind == 5) & (k == waiting.len) {
+                            let new = new_removal(r);
+                            waiting.items[k] = new;
+                            waiting.len = k + 1;
                         } else {
-                            let more = removal_key(w, r);
-                            waiting.items[k] = more;
+                            lost = true;
                         }
-                    } else if (r.kind == 5) & (k == waiting.len) {
-                        let new = new_removal(r);
-                        waiting.items[k] = new;
-                        waiting.len = k + 1;
-                    } else {
-                        lost = true;
                     }
                 }
             }
         }
+        let hand = Entry {
+            key: keys[at],
+            clock: own,
+            register,
+        };
+        entries.items[at] = hand;
+        MapReader {
+            scan,
+            under,
+            lost,
+            clock,
+            keys,
+            waiting,
+            entries,
+        }
     }
-    let hand = Entry {
-        key: keys[at],
-        clock: own,
-        register,
-    };
-    entries.items[at] = hand;
-    let m = entries.len;
-    let mut whole = true;
-    let mut k: usize = 0;
-    'entries: while k < m {
-        let e = entries.items[k];
-        k += 1;
-        whole = whole & entry_whole(clock, e);
+
+    // Whether the records are related.
+    fn related(self) -> bool
+        ensures { λ b. ⌜ b ≡ relatedSoFar self ⌝ }
+    {
+        let clock = self.clock;
+        let waiting = self.waiting;
+        let entries = self.entries;
+        !self.lost & (entries_whole(clock, entries) & ascend(waiting))
     }
-    let related = !lost & (whole & ascend(waiting));
-    let number = first_number(refused, scan.number, related);
-    if number != 0 {
-        clock = Clock::new();
-        entries.items = [none; 16];
-        entries.len = 0;
-        waiting = Waiting::new();
+
+    // The first number that applies; `length` is the length's own.
+    pub fn number(self, length: u8) -> u8
+        ensures { λ n. ⌜ ((l : List Record) → MapSoFar l self → n ≡ cond (eqb length 0) (judgedMap l .number) length) ⌝ }
+    {
+        let scan = self.scan;
+        let related = self.related();
+        first_number(length, scan.number, related)
     }
-    let map = Map {
-        clock,
-        waiting,
-        entries,
-    };
-    ReadMap { number, map }
+
+    // The map, or none where there is a number.
+    pub fn outcome(self, number: u8) -> ReadMap
+        ensures { λ r. ⌜ ((l : List Record) → MapSoFar l self → (number ≡ 0 → judgedMap l .number ≡ 0) → r ≡ cond (eqb number 0) (judgedMap l) (refusedMap number)) ⌝ }
+    {
+        let mut clock = self.clock;
+        let mut waiting = self.waiting;
+        let mut entries = self.entries;
+        if number != 0 {
+            clock = Clock::new();
+            waiting = Waiting::new();
+            let none = Entries::new();
+            let items = none.items;
+            entries = Entries { items, len: 0 };
+        }
+        let map = Map {
+            clock,
+            waiting,
+            entries,
+        };
+        ReadMap { number, map }
+    }
+}
+
+pub fn read_map(bytes: &[u8]) -> ReadMap
+    ensures { λ r. ⌜ r ≡ readMap (now (bytes .entry)) ⌝ }
+{
+    let len = bytes.len();
+    let refused = length_number(len);
+    let n = read_length(len, refused);
+    let mut reader = MapReader::new();
+    reader = reader.feed(&bytes[..n]);
+    let number = reader.number(refused);
+    reader.outcome(number)
 }

@@ -1,7 +1,7 @@
 -- A loop that hands the records of a slice to a state, one after the other.
 -- Assumes nothing.
 use mathlib.Core.Path.{_≡_, sym, _∙_}
-use mathlib.Core.List.{List, [], _∷_, _++_, append-nil}
+use mathlib.Core.List.{List, [], _∷_, _++_, append-nil, append-assoc}
 use Prim.Native.Nat.{ℕ, suc, _+_, _*_, _-_, _/_, _≤_, _<_}
 use native.Mathlib.Omega.{arith}
 use lib.ListN.{length}
@@ -37,3 +37,19 @@ module _ {S : Type 0} {Fed : List Record → S → Type 0} (s : List ℕ) where
   feed-end {i} f h =
       let n : length s / 16 - i ≡ 0 = omega arith in
       (f .done, f .fed, sym (f .parts ∙ rw n (append-nil (f .done))))
+
+-- the same of a state that had been fed before: all that was said of `start` goes on with the records l
+pub record Further {S : Type 0} (Fed : List Record → S → Type 0) (start : S) (l : List Record) (state : S) : Type 0 where
+  pub some : (before : List Record) × Fed before start
+  pub all : (before : List Record) → Fed before start → Fed (before ++ l) state
+
+module _ {S : Type 0} {Fed : List Record → S → Type 0} {start state : S} where
+  pub further-start : (before : List Record) × Fed before start → ((l : List Record) → Fed l start → Fed l state) → Further Fed start [] state
+  further-start b same = record { some = b; all = λ before f. rw (append-nil before) (same before f) }
+
+  pub further-on : (r : Record) {next : S} → ((l : List Record) → Fed l state → Fed (l ++ (r ∷ [])) next) → (l : List Record) → Further Fed start l state → Further Fed start (l ++ (r ∷ [])) next
+  further-on r step l f = record { some = f .some; all = λ before b. rw (← append-assoc before l (r ∷ [])) (step (before ++ l) (f .all before b)) }
+
+  -- what is said of some records
+  pub further-some : (l : List Record) → Further Fed start l state → (k : List Record) × Fed k state
+  further-some l f = (f .some .0 ++ l, f .all (f .some .0) (f .some .1))

@@ -18,7 +18,7 @@ use Rattle.records.specs.Kinds.{before, recordOk, fieldsOk, counterOk, fieldOk,
 use Rattle.scan.specs.Each.{every, eachAfter, countAfter}
 use Rattle.scan.specs.Formed.{follows, wellFormed}
 use Rattle.scan.specs.Limits.{outer, middle, inner, outerLimits, middleLimits, innerLimits, limitAt, sameKind, sameOuter, sameMiddle, tally, within, room, tallyOn, withinLimits}
-use Rattle.scan.specs.Scanned.{scanNumber, Ends, Tallied, Scanned, CountsUnder, byKey, byIndex, judged, countedOn}
+use Rattle.scan.specs.Scanned.{scanNumber, Ends, Tallied, Scanned, CountsUnder, Under, byKey, byIndex, judged, countedOn}
 use Rattle.scan.specs.declared.Scan.{Scan}
 use Rattle.scan.proofs.Eachs.{both-left, both-right, both, decide, every-at, some-of, some-none}
 use Rattle.scan.proofs.Befores.{Before, before-fields}
@@ -167,10 +167,6 @@ other-index p r k n =
     (λ t. let rk = eqb-true (r .kind) (p .kind) t ∙ k in
     rw (t, its-outer r rk, its-outer p k) (ne-eqb (r .index) (p .index) (n rk)))
     (λ z. rw z)
-
--- the waiting keys of each index, counted in a list
-abbrev pub Under : List Record → List ℕ → Type 0
-Under l under = (p : Record) → p .kind ≡ 6 → getD under (p .index) 0 ≡ tally (sameOuter p) middle l
 
 module _ (low high : ℕ) (l : List Record) (r : Record) (w : wellFormed low high l ≡ true) (f : follows low high l r ≡ true) (under : List ℕ) (t : Under l under) where
   -- with r, which is one

@@ -6,6 +6,7 @@ use Prim.Native.Nat.{ℕ, _+_, _≤_}
 use mathlib.Core.Bool.{Bool, true, false, not, cond, _&&_}
 use mathlib.Core.List.{List, [], _∷_, _++_}
 use lib.Dec.{eqb, ltb}
+use lib.ListN.{getD}
 use Rattle.records.specs.declared.Record.{Record}
 use Rattle.records.specs.Kinds.{recordOk}
 use Rattle.scan.specs.Formed.{wellFormed}
@@ -34,6 +35,10 @@ pub record Scanned (low high : ℕ) (l : List Record) (s : Scan) : Type 0 where
 -- r, where it is a good waiting key, finds n of its index before it
 abbrev pub CountsUnder : ℕ → ℕ → List Record → Record → ℕ → Type 0
 CountsUnder low high l r n = r .kind ≡ 6 → recordOk low high r ≡ true → n ≡ tally (sameOuter r) middle l
+
+-- the waiting keys of each index, counted in a list
+abbrev pub Under : List Record → List ℕ → Type 0
+Under l under = (p : Record) → p .kind ≡ 6 → getD under (p .index) 0 ≡ tally (sameOuter p) middle l
 
 -- the counts with one record more: the last one's, where they are of the same group
 abbrev pub byKey : Scan → Record → Scan
