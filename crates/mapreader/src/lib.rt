@@ -393,8 +393,8 @@ impl MapReader {
         if number != 0 {
             clock = Clock::new();
             waiting = Waiting::new();
-            let none = Entries::new();
-            let items = none.items;
+            let none = Entry::new(0);
+            let items = [none; 16];
             entries = Entries { items, len: 0 };
         }
         let map = Map {

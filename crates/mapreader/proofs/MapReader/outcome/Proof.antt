@@ -1,16 +1,18 @@
 -- `outcome` meets its contract: the parts are those of the map where nothing is wrong. Assumes nothing.
 use mathlib.Core.Path.{sym, _∙_}
+use mathlib.Core.List.{[]}
 use borrow.Author.Tests.{eq-eqb, ne-eqb}
+use Rattle.lists.specs.Pad.{pad}
 use Rattle.mapreader.proofs.Readers.{judged-map}
 use borrow.Author.Needs.{needs}
 use Rattle.mapreader.proofs.MapReader.outcome.Statement.{statement}
 use Rattle.mapreader.proofs.MapReader.outcome.Tie as tie
 
 returns : tie.Need-returns
+unfolding pad
 returns c l m good =
-    let d = c .before in
-    rw (ne-eqb _ _ (d .before .before .before .if1 .taken))
-    (λ i. record { number = d .before .before .before .before .before .before .before .args .number; map = record { clock = d .before .before .new .ensures i; entries = record { items = d .new3 .ensures i .items; len = 0 }; waiting = d .before .new2 .ensures i } })
+    rw (ne-eqb _ _ (c .before .before .before .if1 .taken))
+    (λ i. record { number = c .before .before .before .before .before .before .before .args .number; map = record { clock = c .before .before .new .ensures i; entries = record { items = pad (c .new3 .ensures i) 16 []; len = 0 }; waiting = c .before .new2 .ensures i } })
 
 returns-2 : tie.Need-returns-2
 returns-2 c l m good =
