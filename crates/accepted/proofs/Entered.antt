@@ -37,11 +37,11 @@ use Rattle.scan.proofs.Eachs.{decide, every-at, both-left, both-right}
 use Rattle.scan.proofs.Rooms.{no-index, no-key, counter-from-one}
 use Rattle.scan.proofs.Scanning.{scan-before}
 use Rattle.clockimage.specs.Image.{isKind, dotOf, dotsIn}
-use Rattle.mapreader.specs.Reading.{underKey, underBoth, clockIn, placesFrom, valueIn, valuesUnder, entryIn, entryKeys, entriesFor}
-use Rattle.mapreader.specs.Related.{dotted, entryWhole}
-use Rattle.mapreader.proofs.Counts.{by-records, entries-room}
-use Rattle.mapreader.proofs.Entries.{keys-more, keys-same}
-use Rattle.mapreader.proofs.Keys.{length-places}
+use Rattle.maprecords.specs.Reading.{underKey, underBoth, clockIn, placesFrom, valueIn, valuesUnder, entryIn, entryKeys, entriesFor}
+use Rattle.maprecords.specs.Related.{dotted, entryWhole}
+use Rattle.maprecords.proofs.Counts.{by-records, entries-room}
+use Rattle.maprecords.proofs.Entries.{keys-more, keys-same}
+use Rattle.maprecords.proofs.Keys.{length-places}
 use Rattle.accepted.proofs.Grouped.{fine, rises, dots-lawful}
 use Rattle.accepted.proofs.Limited.{at-key, at-both, entry-dots-few, values-few, value-dots-few}
 

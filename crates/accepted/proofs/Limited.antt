@@ -17,8 +17,8 @@ use Rattle.scan.proofs.Rooms.{those-yes, those-no}
 use Rattle.scan.proofs.Scanning.{scan-before}
 use Rattle.clockimage.specs.Image.{isKind, dotOf, dotsIn}
 use Rattle.clockimage.proofs.Dots.{dots-room}
-use Rattle.mapreader.specs.Reading.{underKey, underIndex, underBoth, clockIn}
-use Rattle.mapreader.proofs.Counts.{by-records, entry-dots-room, values-room, value-dots-room, waiting-dots-room, waiting-keys-room}
+use Rattle.maprecords.specs.Reading.{underKey, underIndex, underBoth, clockIn}
+use Rattle.maprecords.proofs.Counts.{by-records, entry-dots-room, values-room, value-dots-room, waiting-dots-room, waiting-keys-room}
 
 module _ (low high : ℕ) (test : Record → Bool) (limit : ℕ)
     (room : (l : List Record) (r : Record) → scanNumber low high (l ++ (r ∷ [])) ≡ 0 → test r ≡ true → length (those test l) < limit) where

@@ -22,8 +22,8 @@ use Rattle.scan.specs.Each.{every, each}
 use Rattle.scan.specs.Scanned.{scanNumber}
 use Rattle.scan.proofs.Eachs.{decide, both-left, both-right}
 use Rattle.mapimage.specs.MapImage.{mapLongest}
-use Rattle.mapreader.specs.Reading.{clockIn, entriesFor, waitingFor, mapIn}
-use Rattle.mapreader.specs.Related.{placed, entryWhole, ascend, related, judgedMap, readMap}
+use Rattle.maprecords.specs.Reading.{clockIn, entriesFor, waitingFor, mapIn}
+use Rattle.maprecords.specs.Related.{placed, entryWhole, ascend, related, judgedMap, readMap}
 use Rattle.accepted.proofs.Limited.{clock-few}
 use Rattle.accepted.proofs.Entered.{clock-lawful, entries-valid, entries-fit, entries-count}
 use Rattle.accepted.proofs.Waited.{waiting-valid, waiting-fit, waiting-few}

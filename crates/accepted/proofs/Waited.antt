@@ -32,12 +32,12 @@ use Rattle.scan.proofs.Eachs.{decide, each-snoc, both, both-left, both-right}
 use Rattle.scan.proofs.Rooms.{no-key, no-actor, counter-from-one}
 use Rattle.scan.proofs.Scanning.{scan-before}
 use Rattle.clockimage.specs.Image.{isKind, dotOf, dotsIn}
-use Rattle.mapreader.specs.Reading.{underIndex, waitingCount, removalIn, below, waitingFor}
-use Rattle.mapreader.specs.Related.{placed, ascend}
-use Rattle.mapreader.proofs.Counts.{by-records}
+use Rattle.maprecords.specs.Reading.{underIndex, waitingCount, removalIn, below, waitingFor}
+use Rattle.maprecords.specs.Related.{placed, ascend}
+use Rattle.maprecords.proofs.Counts.{by-records}
 use Rattle.mapreader.proofs.Readers.{placed-now}
 use Rattle.mapreader.proofs.Waits.{waits-room}
-use Rattle.mapreader.proofs.Keys.{length-below}
+use Rattle.maprecords.proofs.Keys.{length-below}
 use Rattle.accepted.proofs.Grouped.{fine, dots-lawful, keys-rise}
 use Rattle.accepted.proofs.Limited.{at-index, waiting-dots-few, waiting-keys-few}
 use Rattle.accepted.proofs.Entered.{not-empty}

@@ -19,8 +19,8 @@ use Rattle.map.specs.Valid.{Valid, ValidOp, Within, OpWithin}
 use Rattle.opimage.specs.declared.ReadOp.{ReadOp}
 use Rattle.opimage.specs.OpImage.{readOp, opImage}
 use Rattle.mapimage.specs.MapImage.{mapImage}
-use Rattle.mapreader.specs.declared.ReadMap.{ReadMap}
-use Rattle.mapreader.specs.Related.{readMap}
+use Rattle.maprecords.specs.declared.ReadMap.{ReadMap}
+use Rattle.maprecords.specs.Related.{readMap}
 use Rattle.accepted.proofs.Maps.{map-within, no-map-within}
 use Rattle.accepted.proofs.Ops.{op-within}
 use Rattle.answers.specs.Answer.{Answer, Answered}

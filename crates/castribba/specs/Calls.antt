@@ -20,7 +20,7 @@ use Rattle.map.specs.Asking.{validateOp, orderNumber, validateMerge, spentNumbe
 use Rattle.clockimage.specs.ClockImage.{readClock}
 use Rattle.opimage.specs.OpImage.{readOp, opImage}
 use Rattle.mapimage.specs.MapImage.{mapImage}
-use Rattle.mapreader.specs.Related.{readMap}
+use Rattle.maprecords.specs.Related.{readMap}
 use Rattle.answers.specs.Answer.{Answer, firstOf, numberOf}
 use Rattle.castribba.specs.declared.OpVerdict.{OpVerdict}
 use Rattle.castribba.specs.declared.MergeVerdict.{MergeVerdict}

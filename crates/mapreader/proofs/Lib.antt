@@ -1,12 +1,4 @@
 pub mod SoFar
-pub mod Packs
-pub mod Places
-pub mod Keys
-pub mod Entries
-pub mod Counts
-pub mod Finding
 pub mod Steps
 pub mod Waits
 pub mod Readers
-pub mod Everys
-pub mod Examples

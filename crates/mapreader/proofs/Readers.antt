@@ -9,7 +9,7 @@ use Rattle.records.specs.declared.Record.{Record}
 use Rattle.records.specs.Records.{recordsOf}
 use Rattle.parts.specs.declared.Entry.{Entry}
 use Rattle.mapimage.specs.MapImage.{mapLongest}
-use Rattle.mapreader.specs.declared.ReadMap.{ReadMap}
+use Rattle.maprecords.specs.declared.ReadMap.{ReadMap}
 use Rattle.scan.specs.declared.Scan.{Scan}
 use Rattle.scan.specs.Each.{each, every}
 use Rattle.scan.specs.Scanned.{Scanned, CountsUnder, Under, scanNumber}
@@ -34,9 +34,9 @@ use Rattle.mapreader.proofs.Steps.{untouched}
 use Rattle.mapreader.proofs.Waits.{waiting-untouched}
 use Rattle.clock.proofs.Packs.{dots-of}
 use Rattle.parts.specs.Model.{entryLimit, noEntry, entriesOf, entriesAs, waitingOf}
-use Rattle.mapreader.specs.Reading.{clockIn, entryIn, entryKeys, entriesFor, waitingCount, waitingFor}
-use Rattle.mapreader.proofs.Packs.{entries-of, waiting-of}
-use Rattle.mapreader.specs.Related.{entryFits, waitingFits, placed, entryWhole, ascend, related, refusedMap, judgedMap, readMap}
+use Rattle.maprecords.specs.Reading.{clockIn, entryIn, entryKeys, entriesFor, waitingCount, waitingFor}
+use Rattle.maprecords.proofs.Packs.{entries-of, waiting-of}
+use Rattle.maprecords.specs.Related.{entryFits, waitingFits, placed, entryWhole, ascend, related, refusedMap, judgedMap, readMap}
 use Rattle.mapreader.specs.SoFar.{MapParts, MapSoFar, relatedSoFar}
 use Rattle.mapreader.specs.declared.MapReader.{MapReader}
 use Rattle.mapreader.proofs.SoFar.{handed, EntriesNow, WaitingSoFar, WaitingNow, Growable}

@@ -15,8 +15,8 @@ use Rattle.records.specs.declared.Record.{Record}
 use Rattle.scan.specs.declared.Scan.{Scan}
 use Rattle.scan.specs.Each.{each}
 use Rattle.scan.specs.Scanned.{Scanned, Under, scanNumber}
-use Rattle.mapreader.specs.Reading.{entryKeys, entriesFor, waitingCount, waitingFor}
-use Rattle.mapreader.specs.Related.{entryFits, waitingFits, placed}
+use Rattle.maprecords.specs.Reading.{entryKeys, entriesFor, waitingCount, waitingFor}
+use Rattle.maprecords.specs.Related.{entryFits, waitingFits, placed}
 use Rattle.mapreader.specs.SoFar.{MapParts}
 use Rattle.mapreader.specs.declared.MapReader.{MapReader}
 

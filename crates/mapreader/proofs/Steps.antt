@@ -32,14 +32,14 @@ use Rattle.scan.proofs.Scanning.{scan-before}
 use Rattle.scan.proofs.Rooms.{those-yes, those-no}
 use Rattle.clockimage.specs.Image.{isKind, dotOf, dotsIn}
 use Rattle.clockimage.proofs.Dots.{map-snoc}
-use Rattle.mapreader.specs.Reading.{underKey, underBoth, valueIn, valuesUnder, entryIn, entryKeys, entriesFor, placesFrom}
-use Rattle.mapreader.specs.Related.{entryFits}
-use Rattle.mapreader.proofs.Keys.{length-places, get-places, get-map}
+use Rattle.maprecords.specs.Reading.{underKey, underBoth, valueIn, valuesUnder, entryIn, entryKeys, entriesFor, placesFrom}
+use Rattle.maprecords.specs.Related.{entryFits}
+use Rattle.maprecords.proofs.Keys.{length-places, get-places, get-map}
 use Rattle.mapreader.proofs.SoFar.{handed, EntriesNow}
-use Rattle.mapreader.proofs.Packs.{get-pad, pad-longer, entry-read, entry-changed, value-read, value-changed}
-use Rattle.mapreader.proofs.Entries.{keys-more, keys-same, entry-other, entries-same, dot-entry, value-entry, value-dot-entry}
-use Rattle.mapreader.proofs.Counts.{by-records, kinds-ascend, keys-counted, entry-dots-room, values-room, value-dots-room, entries-room}
-use Rattle.mapreader.proofs.Finding.{same-length, in-entries, entry-at, key-known, entries-changed, fits-at, fits-none}
+use Rattle.maprecords.proofs.Packs.{get-pad, pad-longer, entry-read, entry-changed, value-read, value-changed}
+use Rattle.maprecords.proofs.Entries.{keys-more, keys-same, entry-other, entries-same, dot-entry, value-entry, value-dot-entry}
+use Rattle.maprecords.proofs.Counts.{by-records, kinds-ascend, keys-counted, entry-dots-room, values-room, value-dots-room, entries-room}
+use Rattle.maprecords.proofs.Finding.{same-length, in-entries, entry-at, key-known, entries-changed, fits-at, fits-none}
 
 pub map-on-members : {A B : Type 0} (f g : A → B) (l : List A) → ((x : A) → x ∈ l → g x ≡ f x) → map g l ≡ map f l
 map-on-members f g [] h = refl

@@ -31,13 +31,13 @@ use Rattle.scan.proofs.Scanning.{scan-good, scan-last}
 use Rattle.scan.proofs.Rooms.{those-yes, those-no, middle-few, no-key}
 use Rattle.clockimage.specs.Image.{isKind, dotOf, dotsIn}
 use Rattle.clockimage.proofs.Dots.{dots-more, dots-same, map-snoc}
-use Rattle.mapreader.specs.Reading.{underIndex, waitingCount, removalIn, below, waitingFor}
-use Rattle.mapreader.specs.Related.{entryFits, waitingFits, placed}
+use Rattle.maprecords.specs.Reading.{underIndex, waitingCount, removalIn, below, waitingFor}
+use Rattle.maprecords.specs.Related.{entryFits, waitingFits, placed}
 use Rattle.mapreader.proofs.SoFar.{WaitingSoFar, WaitingNow}
 use Rattle.parts.proofs.Packs.{removal-pushed}
-use Rattle.mapreader.proofs.Packs.{removal-read, removal-changed}
-use Rattle.mapreader.proofs.Keys.{get-map, map-changed, map-same, length-below, get-below, unique-below}
-use Rattle.mapreader.proofs.Counts.{by-records, tally-grows, kinds-ascend, waiting-dots-room, waiting-keys-room}
+use Rattle.maprecords.proofs.Packs.{removal-read, removal-changed}
+use Rattle.maprecords.proofs.Keys.{get-map, map-changed, map-same, length-below, get-below, unique-below}
+use Rattle.maprecords.proofs.Counts.{by-records, tally-grows, kinds-ascend, waiting-dots-room, waiting-keys-room}
 
 count-snoc : (l : List Record) (r : Record) → waitingCount (l ++ (r ∷ [])) ≡ cond (isKind 5 r) (max (waitingCount l) (r .index + 1)) (waitingCount l)
 unfolding waitingCount fold
@@ -95,7 +95,7 @@ waits-counted l = by-records (λ m. each placed m ≡ true → wellFormed 1 6 m 
         decide (eqb (r .kind) 5)
         (λ t. let k = eqb-true (r .kind) 5 t in
         let e = count-more m r k in
-        let fit = both-right (entryFits (Rattle.mapreader.specs.Reading.entriesFor m) r) (waitingFits (waitingCount m) r) (both-right (each placed m) (placed m r) pm) in
+        let fit = both-right (entryFits (Rattle.maprecords.specs.Reading.entriesFor m) r) (waitingFits (waitingCount m) r) (both-right (each placed m) (placed m r) pm) in
         let i = leb-true (r .index) (waitingCount m) (rw t at fit) in
         decide (eqb (r .index) (waitingCount m))
         (λ a. let q = eqb-true (r .index) (waitingCount m) a in

@@ -10,8 +10,8 @@ use Rattle.parts.specs.Model.{entryLimit, waitingLimit, entriesOf, entriesAs, w
 use Rattle.records.specs.declared.Record.{Record}
 use Rattle.scan.specs.Each.{every, each}
 use Rattle.scan.specs.Scanned.{Scanned, Under}
-use Rattle.mapreader.specs.Reading.{clockIn, entryKeys, entriesFor, waitingFor}
-use Rattle.mapreader.specs.Related.{placed, entryWhole, ascend}
+use Rattle.maprecords.specs.Reading.{clockIn, entryKeys, entriesFor, waitingFor}
+use Rattle.maprecords.specs.Related.{placed, entryWhole, ascend}
 use Rattle.mapreader.specs.declared.MapReader.{MapReader}
 
 -- the parts of the map that the records stand for; the keys of the entries stand beside them too

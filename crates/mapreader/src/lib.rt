@@ -7,18 +7,17 @@ ghost use lib.Dec.{eqb, ltb};
 ghost use lib.ListN.{getD, take};
 ghost use Rattle.lists.specs.First.{some};
 ghost use Rattle.clock.specs.declared.Dot.{Dot};
-ghost use Rattle.clock.specs.Dots.{dotLimit, dotsOf, clockOf};
-ghost use Rattle.register.specs.Values.{valuesOf};
-ghost use Rattle.parts.specs.Model.{keyLimit, entryLimit, entriesOf, removalAs, waitingOf};
+ghost use Rattle.clock.specs.Dots.{dotLimit, clockOf};
+ghost use Rattle.parts.specs.Model.{keyLimit, entryLimit, removalAs};
 ghost use Rattle.records.specs.declared.Record.{Record};
 ghost use Rattle.records.specs.Records.{recordsOf};
 ghost use Rattle.clockimage.specs.Image.{dotOf};
 ghost use Rattle.mapimage.specs.MapImage.{mapLongest};
-ghost use Rattle.mapreader.specs.Related.{dotted, entryWhole, ascend, refusedMap, judgedMap, readMap};
+ghost use Rattle.maprecords.specs.Related.{refusedMap, judgedMap, readMap};
 ghost use Rattle.mapreader.specs.SoFar.{MapSoFar, MapTaken, relatedSoFar};
-ghost use Rattle.scan.specs.Each.{every};
 use clock::Clock;
 use map::Map;
+use maprecords::ReadMap;
 use parts::Entries;
 use parts::Entry;
 use parts::Keys;
@@ -40,12 +39,6 @@ pub struct MapReader {
     pub keys: [u32; 16],
     pub waiting: Waiting,
     pub entries: Entries,
-}
-
-// What an image was read as: a number of document 01, and the map, which is empty where the number is not 0.
-pub struct ReadMap {
-    pub number: u8,
-    pub map: Map,
 }
 
 // The place of a key among the first n, or n where it is not there. Records of one entry stand together: `last` is tried first.
@@ -125,65 +118,6 @@ fn tallied(n: u8, kind: u8) -> u8
         }
     }
     n
-}
-
-// Whether each value has a dot.
-fn dotted(register: Register) -> bool
-    ensures { λ b. ⌜ b ≡ every dotted (valuesOf register) ⌝ }
-{
-    let n = register.size();
-    let mut i: usize = 0;
-    while i < n {
-        let v = register.values[i];
-        let clock = v.clock;
-        if clock.is_empty() {
-            return false;
-        }
-        i += 1;
-    }
-    true
-}
-
-fn entry_whole(clock: Clock, e: Entry) -> bool
-    ensures { λ b. ⌜ b ≡ entryWhole (dotsOf clock) e ⌝ }
-{
-    let own = e.clock;
-    let register = e.register;
-    clock.covers(own) & dotted(register)
-}
-
-fn entries_whole(clock: Clock, entries: Entries) -> bool
-    ensures { λ b. ⌜ b ≡ every (entryWhole (dotsOf clock)) (entriesOf entries) ⌝ }
-{
-    let n = entries.size();
-    let mut i: usize = 0;
-    while i < n {
-        let e = entries.items[i];
-        if !entry_whole(clock, e) {
-            return false;
-        }
-        i += 1;
-    }
-    true
-}
-
-// Whether waiting clocks differ and ascend.
-fn ascend(waiting: Waiting) -> bool
-    ensures { λ b. ⌜ b ≡ ascend (waitingOf waiting) ⌝ }
-{
-    let n = waiting.size();
-    let mut i: usize = 1;
-    while i < n {
-        let v = waiting.items[i - 1];
-        let w = waiting.items[i];
-        let before = v.clock;
-        let after = w.clock;
-        if !parts::queue::clock_before(before, after) {
-            return false;
-        }
-        i += 1;
-    }
-    true
 }
 
 // What a length alone is answered with.
@@ -371,7 +305,7 @@ impl MapReader {
         let clock = self.clock;
         let waiting = self.waiting;
         let entries = self.entries;
-        !self.lost & (entries_whole(clock, entries) & ascend(waiting))
+        !self.lost & (maprecords::entries_whole(clock, entries) & maprecords::ascend(waiting))
     }
 
     // The first number that applies; `length` is the length's own.

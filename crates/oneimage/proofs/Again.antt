@@ -4,7 +4,7 @@ use mathlib.Core.Path.{_≡_}
 use Rattle.map.specs.declared.Map.{Map}
 use Rattle.map.specs.Valid.{Within}
 use Rattle.mapimage.specs.MapImage.{mapImage}
-use Rattle.mapreader.specs.Related.{readMap}
+use Rattle.maprecords.specs.Related.{readMap}
 use Rattle.oneimage.specs.Narrow.{Narrow}
 use Rattle.oneimage.proofs.Written.{reads-again}
 use Rattle.oneimage.proofs.Reread.{map-again}

@@ -22,8 +22,8 @@ use Rattle.scan.specs.Scanned.{scanNumber}
 use Rattle.clockimage.specs.Image.{isKind, dotOf, dotRecord, dotsIn}
 use Rattle.opimage.specs.OpImage.{noRecord, keysIn}
 use Rattle.mapimage.specs.MapImage.{valueRecord, keyNumber, numberRecord}
-use Rattle.mapreader.specs.Reading.{underKey, underIndex, underBoth, clockIn, valueIn, valuesUnder, entryIn, entryKeys, entriesFor, waitingCount, removalIn, waitingFor}
-use Rattle.mapreader.specs.Related.{placed}
+use Rattle.maprecords.specs.Reading.{underKey, underIndex, underBoth, clockIn, valueIn, valuesUnder, entryIn, entryKeys, entriesFor, waitingCount, removalIn, waitingFor}
+use Rattle.maprecords.specs.Related.{placed}
 use Rattle.accepted.proofs.Grouped.{fine}
 use Rattle.accepted.proofs.Waited.{under-as, listed-as}
 use Rattle.oneimage.proofs.Rising.{Fields}

@@ -30,8 +30,8 @@ use Rattle.scan.proofs.Eachs.{decide}
 use Rattle.clockimage.specs.Image.{isKind, dotOf, dotsIn, DotFits}
 use Rattle.opimage.specs.OpImage.{opLongest, noRecord, recordOf, keysIn, opIn, opRelated, refusedOp, judgedOp, readOp}
 use Rattle.mapimage.specs.MapImage.{mapLongest}
-use Rattle.mapreader.specs.Reading.{underKey, underIndex, underBoth, clockIn, placesFrom, valueIn, valuesUnder, entryIn, entryKeys, entriesFor, waitingCount, removalIn, below, waitingFor, mapIn}
-use Rattle.mapreader.specs.Related.{related, judgedMap, readMap}
+use Rattle.maprecords.specs.Reading.{underKey, underIndex, underBoth, clockIn, placesFrom, valueIn, valuesUnder, entryIn, entryKeys, entriesFor, waitingCount, removalIn, below, waitingFor, mapIn}
+use Rattle.maprecords.specs.Related.{related, judgedMap, readMap}
 use Rattle.oneimage.specs.Narrow.{NarrowDots, NarrowValue, NarrowEntry, NarrowRemoval, Narrow, NarrowOp}
 use Rattle.oneimage.proofs.Narrows.{narrow-as, narrow-map}
 

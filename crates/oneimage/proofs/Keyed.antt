@@ -19,8 +19,8 @@ use Rattle.records.specs.Kinds.{before}
 use Rattle.scan.proofs.Eachs.{decide}
 use Rattle.scan.proofs.Befores.{before-fields}
 use Rattle.clockimage.specs.Image.{isKind}
-use Rattle.mapreader.specs.Reading.{addNew, entryKeys, waitingCount}
-use Rattle.mapreader.proofs.Counts.{keys-counted}
+use Rattle.maprecords.specs.Reading.{addNew, entryKeys, waitingCount}
+use Rattle.maprecords.proofs.Counts.{keys-counted}
 
 abbrev withKey : List ℕ → Record → List ℕ
 withKey keys r = cond (isKind 2 r) (addNew keys (r .key)) keys

@@ -5,8 +5,8 @@ use mathlib.Core.List.{List, map}
 use Prim.Native.Nat.{ℕ, _+_, _<_}
 use native.Mathlib.Omega.{arith}
 use lib.ListN.{length, getD, length-map}
-use Rattle.mapreader.specs.Reading.{placesFrom, below}
-use Rattle.mapreader.proofs.Keys.{get-map, length-places, get-places, length-below, get-below}
+use Rattle.maprecords.specs.Reading.{placesFrom, below}
+use Rattle.maprecords.proofs.Keys.{get-map, length-places, get-places, length-below, get-below}
 use Rattle.oneimage.proofs.Stands.{Place, place-below, place-get, place-reads}
 
 module _ {A : Type 0} where

@@ -2,7 +2,7 @@
 -- Assumes nothing.
 use mathlib.Core.Path.{ap}
 use Rattle.mapimage.specs.MapImage.{mapImage}
-use Rattle.mapreader.specs.Related.{readMap}
+use Rattle.maprecords.specs.Related.{readMap}
 use Rattle.accepted.proofs.Maps.{map-within}
 use Rattle.oneimage.specs.One.{OneImage, GoodMap}
 use Rattle.oneimage.proofs.Fields.{map-narrow}

@@ -10,8 +10,8 @@ use lib.ListN.{length, getD, length-map}
 use lib.Seq.{ext-getD}
 use Rattle.lists.specs.Order.{_∈_, Ascending, nil, next, by}
 use Rattle.lists.proofs.Orders.{by-strict, never-itself}
-use Rattle.mapreader.specs.Reading.{placesFrom, below}
-use Rattle.mapreader.proofs.Keys.{get-map, length-below, get-below}
+use Rattle.maprecords.specs.Reading.{placesFrom, below}
+use Rattle.maprecords.proofs.Keys.{get-map, length-below, get-below}
 use Rattle.oneimage.proofs.Stands.{Place, first, later, place-get}
 
 module _ {A B : Type 0} (f : ℕ → A → B) where

@@ -29,11 +29,11 @@ use Rattle.scan.proofs.Rooms.{those-yes, those-no}
 use Rattle.clockimage.specs.Image.{isKind, dotsIn}
 use Rattle.clockimage.proofs.Dots.{map-snoc}
 use Rattle.opimage.specs.OpImage.{noRecord}
-use Rattle.mapreader.specs.Reading.{underKey, valueIn, valuesUnder, entryIn, entryKeys, entriesFor, waitingCount, below}
-use Rattle.mapreader.specs.Related.{placed}
-use Rattle.mapreader.proofs.Counts.{by-records}
-use Rattle.mapreader.proofs.Entries.{keys-more, keys-same}
-use Rattle.mapreader.proofs.Keys.{length-places, get-below}
+use Rattle.maprecords.specs.Reading.{underKey, valueIn, valuesUnder, entryIn, entryKeys, entriesFor, waitingCount, below}
+use Rattle.maprecords.specs.Related.{placed}
+use Rattle.maprecords.proofs.Counts.{by-records}
+use Rattle.maprecords.proofs.Entries.{keys-more, keys-same}
+use Rattle.maprecords.proofs.Keys.{length-places, get-below}
 use Rattle.mapreader.proofs.Readers.{placed-now}
 use Rattle.accepted.proofs.Limited.{at-key}
 use Rattle.oneimage.proofs.Stands.{Place, place-below, place-reads, in-place}

@@ -33,9 +33,9 @@ use Rattle.scan.proofs.Befores.{before-fields}
 use Rattle.clockimage.specs.Image.{dotRecord, dotsIn}
 use Rattle.opimage.specs.OpImage.{keyRecord}
 use Rattle.mapimage.specs.MapImage.{valueRecord, mapRecords}
-use Rattle.mapreader.specs.Reading.{underKey, clockIn, placesFrom, valueIn, valuesUnder, entryIn, entriesFor, waitingCount, waitingFor}
-use Rattle.mapreader.specs.Related.{valueFits, valueDotFits, placed, dotted, entryWhole, ascend, related}
-use Rattle.mapreader.proofs.Keys.{length-places}
+use Rattle.maprecords.specs.Reading.{underKey, clockIn, placesFrom, valueIn, valuesUnder, entryIn, entriesFor, waitingCount, waitingFor}
+use Rattle.maprecords.specs.Related.{valueFits, valueDotFits, placed, dotted, entryWhole, ascend, related}
+use Rattle.maprecords.proofs.Keys.{length-places}
 use Rattle.oneimage.proofs.Rising.{by-kind, by-index, records-ascend}
 use Rattle.oneimage.proofs.Stands.{Place, first, later, place-below, place-get, Part, clock-dot, entry-dot, value, value-dot, waiting-dot, waiting-key, stands-part}
 use Rattle.oneimage.proofs.Selected.{before-strict}

@@ -11,7 +11,7 @@ use Rattle.records.proofs.RoundTrips.{by-fields}
 use Rattle.scan.proofs.Rooms.{no-index, no-actor, no-key, no-number}
 use Rattle.clockimage.specs.Image.{isKind, dotOf, dotRecord}
 use Rattle.mapimage.specs.MapImage.{valueRecord, keyNumber, numberRecord}
-use Rattle.mapreader.specs.Reading.{underKey, underIndex, underBoth}
+use Rattle.maprecords.specs.Reading.{underKey, underIndex, underBoth}
 use Rattle.accepted.proofs.Limited.{is-kind, at-key, at-both, at-index}
 use Rattle.oneimage.proofs.Rising.{Fields}
 

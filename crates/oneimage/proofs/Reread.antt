@@ -29,7 +29,7 @@ use Rattle.clockimage.specs.Image.{isKind, dotRecord, dotOf, dotsIn}
 use Rattle.clockimage.proofs.RoundTrip.{dots-ascend}
 use Rattle.opimage.specs.OpImage.{keyRecord}
 use Rattle.mapimage.specs.MapImage.{valueRecord, keyNumber, numberRecord, mapRecords}
-use Rattle.mapreader.specs.Reading.{underKey, underIndex, underBoth, clockIn, placesFrom, valueIn, valuesUnder, entryIn, entryKeys, entriesFor, waitingCount, removalIn, below, waitingFor, mapIn}
+use Rattle.maprecords.specs.Reading.{underKey, underIndex, underBoth, clockIn, placesFrom, valueIn, valuesUnder, entryIn, entryKeys, entriesFor, waitingCount, removalIn, below, waitingFor, mapIn}
 use Rattle.accepted.proofs.Limited.{at-key, at-both, at-index}
 use Rattle.oneimage.proofs.Rising.{by-key, by-index, records-ascend}
 use Rattle.oneimage.proofs.Stands.{Place, place-in, place-below, place-get, place-one, Part, clock-dot, entry-dot, value, value-dot, waiting-dot, waiting-key, PartOf, part-stands, part-of}

@@ -20,9 +20,9 @@ use Rattle.scan.specs.Scanned.{scanNumber}
 use Rattle.scan.proofs.Eachs.{decide, both-left, both-right}
 use Rattle.clockimage.proofs.RoundTrip.{accepted}
 use Rattle.mapimage.specs.MapImage.{mapLongest, recordsIn, mapRecords, mapImage}
-use Rattle.mapreader.specs.Reading.{clockIn, entriesFor, waitingCount, removalIn, below, waitingFor, mapIn}
-use Rattle.mapreader.specs.Related.{placed, entryWhole, ascend, related, refusedMap, judgedMap, readMap}
-use Rattle.mapreader.proofs.Keys.{length-below}
+use Rattle.maprecords.specs.Reading.{clockIn, entriesFor, waitingCount, removalIn, below, waitingFor, mapIn}
+use Rattle.maprecords.specs.Related.{placed, entryWhole, ascend, related, refusedMap, judgedMap, readMap}
+use Rattle.maprecords.proofs.Keys.{length-below}
 use Rattle.accepted.proofs.Grouped.{rises}
 use Rattle.accepted.proofs.Maps.{related-within}
 use Rattle.accepted.proofs.Waited.{waiting-few}

@@ -29,8 +29,8 @@ use Rattle.scan.proofs.Builds.{Among, scan-of}
 use Rattle.clockimage.specs.Image.{dotRecord}
 use Rattle.opimage.specs.OpImage.{keyRecord}
 use Rattle.mapimage.specs.MapImage.{valueRecord, mapRecords}
-use Rattle.mapreader.specs.Reading.{below}
-use Rattle.mapreader.proofs.Keys.{length-below}
+use Rattle.maprecords.specs.Reading.{below}
+use Rattle.maprecords.proofs.Keys.{length-below}
 use Rattle.oneimage.proofs.Written.{records-ok}
 use Rattle.oneimage.proofs.Rising.{records-ascend}
 use Rattle.oneimage.proofs.Stands.{Place, place-in, place-below, place-one, Part, clock-dot, entry-dot, value, value-dot, waiting-dot, waiting-key, stands-part}

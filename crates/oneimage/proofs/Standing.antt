@@ -23,8 +23,8 @@ use Rattle.scan.proofs.Eachs.{decide, both}
 use Rattle.scan.proofs.Rooms.{kind-range}
 use Rattle.clockimage.specs.Image.{isKind, dotOf, dotsIn}
 use Rattle.opimage.specs.OpImage.{noRecord, keysIn}
-use Rattle.mapreader.specs.Reading.{underKey, underIndex, underBoth, clockIn, valueIn, valuesUnder, entryIn, entriesFor, waitingCount, removalIn, waitingFor}
-use Rattle.mapreader.specs.Related.{placed}
+use Rattle.maprecords.specs.Reading.{underKey, underIndex, underBoth, clockIn, valueIn, valuesUnder, entryIn, entriesFor, waitingCount, removalIn, waitingFor}
+use Rattle.maprecords.specs.Related.{placed}
 use Rattle.accepted.proofs.Grouped.{fine}
 use Rattle.accepted.proofs.Waited.{under-as, listed-as}
 use Rattle.oneimage.proofs.Stands.{Part, clock-dot, entry-dot, value, value-dot, waiting-dot, waiting-key, Place, place-get}

@@ -20,8 +20,8 @@ use Rattle.records.proofs.RoundTrips.{Fitting, read-written, length-bytes}
 use Rattle.scan.specs.Scanned.{scanNumber}
 use Rattle.clockimage.specs.Image.{dotRecord, DotFits}
 use Rattle.mapimage.specs.MapImage.{mapLongest, keyNumber, numberRecord, mapRecords, mapImage}
-use Rattle.mapreader.specs.Reading.{mapIn}
-use Rattle.mapreader.specs.Related.{related, judgedMap, readMap}
+use Rattle.maprecords.specs.Reading.{mapIn}
+use Rattle.maprecords.specs.Related.{related, judgedMap, readMap}
 use Rattle.oneimage.specs.Narrow.{Narrow}
 use Rattle.oneimage.proofs.Sizes.{image-most}
 use Rattle.oneimage.proofs.Stands.{place-in, place-below, Part, clock-dot, entry-dot, value, value-dot, waiting-dot, waiting-key, stands-part}

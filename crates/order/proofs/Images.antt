@@ -26,7 +26,7 @@ use Rattle.map.proofs.Accepts.{stage}
 use Rattle.scan.proofs.Eachs.{decide}
 use Rattle.opimage.specs.OpImage.{readOp}
 use Rattle.mapimage.specs.MapImage.{mapLongest, mapImage}
-use Rattle.mapreader.specs.Related.{readMap}
+use Rattle.maprecords.specs.Related.{readMap}
 use Rattle.answers.specs.Answer.{firstOf, numberOf}
 use Rattle.answers.proofs.Answers.{number-done}
 use Rattle.accepted.proofs.Maps.{map-within}

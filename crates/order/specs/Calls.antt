@@ -10,7 +10,7 @@ use Rattle.parts.specs.declared.Removal.{Removal}
 use Rattle.records.specs.Bytes.{Bytes}
 use Rattle.opimage.specs.OpImage.{readOp}
 use Rattle.mapimage.specs.MapImage.{mapLongest}
-use Rattle.mapreader.specs.Related.{readMap}
+use Rattle.maprecords.specs.Related.{readMap}
 use Rattle.answers.specs.Answer.{numberOf}
 use Rattle.castribba.specs.Calls.{applyAnswer}
 

@@ -1,6 +1,6 @@
 -- `castribba_apply` meets its contract: each way out is a law of `Ways`. Assumes nothing.
 use mathlib.Core.Path.{ap, ap₂, sym, _∙_}
-use Rattle.mapreader.specs.declared.ReadMap.{ReadMap}
+use Rattle.maprecords.specs.declared.ReadMap.{ReadMap}
 use Rattle.opimage.specs.declared.ReadOp.{ReadOp}
 use Rattle.map.specs.Judging.{judged}
 use Rattle.map.specs.Applying.{apply}

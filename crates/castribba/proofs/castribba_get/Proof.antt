@@ -1,6 +1,6 @@
 -- `castribba_get` meets its contract: each way out is a law of `Ways`. Assumes nothing.
 use mathlib.Core.Path.{refl, ap, sym, _∙_}
-use Rattle.mapreader.specs.declared.ReadMap.{ReadMap}
+use Rattle.maprecords.specs.declared.ReadMap.{ReadMap}
 use Rattle.map.specs.declared.Map.{Map}
 use Rattle.map.specs.Asking.{readKey}
 use Rattle.map.proofs.Kept.{valid-read}

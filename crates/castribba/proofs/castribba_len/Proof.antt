@@ -1,7 +1,7 @@
 -- `castribba_len` meets its contract. Assumes nothing.
 use mathlib.Core.Path.{refl, ap, _∙_}
 use Prim.Native.Nat.{_*_, _^_}
-use Rattle.mapreader.specs.declared.ReadMap.{ReadMap}
+use Rattle.maprecords.specs.declared.ReadMap.{ReadMap}
 use Rattle.answers.proofs.Answers.{bare}
 use Rattle.castribba.proofs.Carrying.{number-alone}
 use borrow.Author.Needs.{needs}

@@ -1,6 +1,6 @@
 -- `castribba_len_count` meets its contract. Assumes nothing.
 use mathlib.Core.Path.{refl, ap, sym, _∙_}
-use Rattle.mapreader.specs.declared.ReadMap.{ReadMap}
+use Rattle.maprecords.specs.declared.ReadMap.{ReadMap}
 use Rattle.map.specs.Asking.{count}
 use Rattle.answers.proofs.Answers.{both-pass, one-fails}
 use Rattle.castribba.proofs.Carrying.{carried-not, carried-here}

@@ -1,6 +1,6 @@
 -- `castribba_merge` meets its contract: each way out is a law of `Ways`. Assumes nothing.
 use mathlib.Core.Path.{ap, ap₂, sym, _∙_}
-use Rattle.mapreader.specs.declared.ReadMap.{ReadMap}
+use Rattle.maprecords.specs.declared.ReadMap.{ReadMap}
 use Rattle.map.specs.Judging.{judged}
 use Rattle.map.specs.Merging.{merge}
 use Rattle.map.proofs.Kept.{valid-merge}

@@ -1,6 +1,6 @@
 -- `castribba_reset_remove` meets its contract: each way out is a law of `Ways`. Assumes nothing.
 use mathlib.Core.Path.{ap, ap₂, sym, _∙_}
-use Rattle.mapreader.specs.declared.ReadMap.{ReadMap}
+use Rattle.maprecords.specs.declared.ReadMap.{ReadMap}
 use Rattle.clock.specs.Dots.{dotsOf}
 use Rattle.clockimage.specs.declared.ReadClock.{ReadClock}
 use Rattle.map.specs.Judging.{judged}

@@ -1,6 +1,6 @@
 -- `castribba_update` meets its contract: each way out is a law of `Ways`. Assumes nothing.
 use mathlib.Core.Path.{ap, sym, _∙_}
-use Rattle.mapreader.specs.declared.ReadMap.{ReadMap}
+use Rattle.maprecords.specs.declared.ReadMap.{ReadMap}
 use Rattle.map.specs.Asking.{makeUpdate}
 use Rattle.castribba.proofs.Ways.{first-out, op-out, made-out}
 use borrow.Author.Needs.{needs}

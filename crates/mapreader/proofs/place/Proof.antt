@@ -5,7 +5,7 @@ use lib.Dec.{eqb}
 use lib.ListN.{length, take, drop, length-take}
 use borrow.Author.Tests.{ne-eqb}
 use Rattle.lists.specs.First.{some}
-use Rattle.mapreader.proofs.Places.{some-on, some-end}
+use Rattle.maprecords.proofs.Places.{some-on, some-end}
 use borrow.Author.Needs.{needs}
 use native.Mathlib.Omega.{arith}
 use Rattle.mapreader.proofs.place.Statement.{statement}

@@ -1,6 +1,6 @@
 -- `merge` meets its contract: a refused image's number, or what both say. Assumes nothing.
 use mathlib.Core.Path.{ap, ap₂, sym, _∙_}
-use Rattle.mapreader.specs.declared.ReadMap.{ReadMap}
+use Rattle.maprecords.specs.declared.ReadMap.{ReadMap}
 use Rattle.map.specs.declared.Spent.the-variants.{Once}
 use Rattle.map.specs.Asking.{validateMerge, spentNumber}
 use Rattle.answers.proofs.Answers.{number-first, number-second, both-pass, one-fails, other-fails}

@@ -1,6 +1,6 @@
 -- `op` meets its contract: a refused image's number, or what both say. Assumes nothing.
 use mathlib.Core.Path.{ap, ap₂, sym, _∙_}
-use Rattle.mapreader.specs.declared.ReadMap.{ReadMap}
+use Rattle.maprecords.specs.declared.ReadMap.{ReadMap}
 use Rattle.opimage.specs.declared.ReadOp.{ReadOp}
 use Rattle.map.specs.declared.Order.the-variants.{Fits}
 use Rattle.map.specs.Asking.{validateOp, orderNumber}

@@ -13,7 +13,7 @@ use Rattle.records.specs.declared.Record.{Record}
 use Rattle.records.proofs.Feeding.{Feeding, Further, feed-start, feed-on, feed-end, further-start, further-on, further-some}
 use Rattle.scan.proofs.Eachs.{both-left, both-right}
 use Rattle.mapimage.proofs.Flats.{noEntryRead, noValueRead, noRemovalRead}
-use Rattle.mapreader.specs.Reading.{entryKeys, entriesFor}
+use Rattle.maprecords.specs.Reading.{entryKeys, entriesFor}
 use Rattle.mapreader.specs.SoFar.{MapSoFar}
 use Rattle.mapreader.specs.declared.MapReader.{MapReader}
 use Rattle.mapreader.proofs.SoFar.{handed, Growable}

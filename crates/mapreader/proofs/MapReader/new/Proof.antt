@@ -6,7 +6,7 @@ use Rattle.lists.specs.Sift.{sift}
 use Rattle.lists.specs.Fold.{fold}
 use Rattle.scan.specs.Each.{eachAfter}
 use Rattle.scan.proofs.Scanning.{under-none}
-use Rattle.mapreader.specs.Reading.{entryKeys, waitingCount, below}
+use Rattle.maprecords.specs.Reading.{entryKeys, waitingCount, below}
 use borrow.Author.Needs.{needs}
 use native.Mathlib.Omega.{arith}
 use Rattle.mapreader.proofs.MapReader.new.Statement.{statement}

@@ -16,10 +16,10 @@ use Rattle.parts.specs.declared.Entries.{Entries}
 use Rattle.parts.specs.Model.{noEntry, entriesAs}
 use Rattle.records.specs.declared.Record.{Record}
 use Rattle.scan.proofs.Eachs.{decide, both, some-of, some-none}
-use Rattle.mapreader.specs.Reading.{entryIn, entryKeys, entriesFor}
-use Rattle.mapreader.proofs.Packs.{entry-read}
-use Rattle.mapreader.proofs.Keys.{some-at, get-map, map-changed}
-use Rattle.mapreader.proofs.Entries.{keys-unique, entry-other}
+use Rattle.maprecords.specs.Reading.{entryIn, entryKeys, entriesFor}
+use Rattle.maprecords.proofs.Packs.{entry-read}
+use Rattle.maprecords.proofs.Keys.{some-at, get-map, map-changed}
+use Rattle.maprecords.proofs.Entries.{keys-unique, entry-other}
 
 module _ (l : List Record) (r : Record) where
   abbrev keyed : Entry → Bool

@@ -22,8 +22,8 @@ use Rattle.scan.specs.Limits.{tally, within}
 use Rattle.scan.specs.Scanned.{scanNumber}
 use Rattle.mapimage.specs.Sorted.{insert, inOrder}
 use Rattle.mapimage.specs.MapImage.{mapLongest, flatFrom, mapRecords, mapImage}
-use Rattle.mapreader.specs.Reading.{entryKeys, waitingCount, below, placesFrom}
-use Rattle.mapreader.specs.Related.{ascend, related, judgedMap, readMap}
+use Rattle.maprecords.specs.Reading.{entryKeys, waitingCount, below, placesFrom}
+use Rattle.maprecords.specs.Related.{ascend, related, judgedMap, readMap}
 
 dot : ℕ → ℕ → Dot
 dot a n = record { actor = a; counter = n }

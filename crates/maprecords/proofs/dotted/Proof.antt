@@ -6,12 +6,12 @@ use lib.ListN.{drop}
 use Rattle.register.specs.Values.{valuesOf}
 use Rattle.scan.specs.Each.{every}
 use Rattle.mapimage.proofs.Flats.{noValueRead}
-use Rattle.mapreader.specs.Related.{dotted}
-use Rattle.mapreader.proofs.Everys.{every-on, every-fails, every-end}
+use Rattle.maprecords.specs.Related.{dotted}
+use Rattle.maprecords.proofs.Everys.{every-on, every-fails, every-end}
 use borrow.Author.Needs.{needs}
 use native.Mathlib.Omega.{arith}
-use Rattle.mapreader.proofs.dotted.Statement.{statement}
-use Rattle.mapreader.proofs.dotted.Tie as tie
+use Rattle.maprecords.proofs.dotted.Statement.{statement}
+use Rattle.maprecords.proofs.dotted.Tie as tie
 
 abbrev Inv-loop : tie.InvT-loop
 Inv-loop register n i₀ i = (i ≤ n) × (every dotted (valuesOf register) ≡ every dotted (drop i (valuesOf register)))

@@ -19,8 +19,8 @@ use Rattle.scan.specs.Each.{every, each}
 use Rattle.scan.specs.Scanned.{scanNumber}
 use Rattle.clockimage.specs.Image.{isKind, imageOf}
 use Rattle.mapimage.specs.MapImage.{mapLongest}
-use Rattle.mapreader.specs.Reading.{clockIn, entriesFor, waitingCount, waitingFor, mapIn}
-use Rattle.mapreader.specs.declared.ReadMap.{ReadMap}
+use Rattle.maprecords.specs.Reading.{clockIn, entriesFor, waitingCount, waitingFor, mapIn}
+use Rattle.maprecords.specs.declared.ReadMap.{ReadMap}
 
 -- a value needs an entry, and its index is the next of its key: "indexes have no gap"
 abbrev pub valueFits : Record → Entry → Bool

@@ -23,8 +23,8 @@ use Rattle.scan.proofs.Eachs.{decide, both}
 use Rattle.scan.proofs.Rooms.{those-yes, those-no}
 use Rattle.clockimage.specs.Image.{isKind, dotOf, dotsIn}
 use Rattle.clockimage.proofs.Dots.{dots-more, dots-same}
-use Rattle.mapreader.specs.Reading.{underKey, underBoth, addNew, valueIn, valuesUnder, entryIn, entryKeys, entriesFor, placesFrom}
-use Rattle.mapreader.proofs.Keys.{Unique, unique-add, unique-none, fold-keeps, map-same, length-places, places-snoc, get-places}
+use Rattle.maprecords.specs.Reading.{underKey, underBoth, addNew, valueIn, valuesUnder, entryIn, entryKeys, entriesFor, placesFrom}
+use Rattle.maprecords.proofs.Keys.{Unique, unique-add, unique-none, fold-keeps, map-same, length-places, places-snoc, get-places}
 
 keys-snoc : (l : List Record) (r : Record) → entryKeys (l ++ (r ∷ [])) ≡ cond (isKind 2 r) (addNew (entryKeys l) (r .key)) (entryKeys l)
 unfolding entryKeys fold

@@ -10,7 +10,7 @@ use Rattle.lists.proofs.Rests.{drop-step, drop-end}
 use Rattle.parts.specs.declared.Removal.{Removal}
 use Rattle.parts.specs.Waits.{removalBefore}
 use Rattle.scan.specs.Each.{every}
-use Rattle.mapreader.specs.Related.{ascend}
+use Rattle.maprecords.specs.Related.{ascend}
 
 module _ {A : Type 0} (test : A → Bool) (xs : List A) (n i : ℕ) (e : every test (take n xs) ≡ every test (drop i (take n xs))) where
   module _ (d : A) (h : i < length (take n xs)) where

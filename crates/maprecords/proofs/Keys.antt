@@ -15,8 +15,8 @@ use Rattle.lists.specs.First.{firstIn, some}
 use Rattle.lists.specs.Fold.{fold}
 use Rattle.lists.proofs.Orders.{apart}
 use Rattle.scan.proofs.Eachs.{decide}
-use Rattle.mapreader.specs.Reading.{addNew, placesFrom, below}
-use Rattle.mapreader.proofs.Packs.{same-default}
+use Rattle.maprecords.specs.Reading.{addNew, placesFrom, below}
+use Rattle.maprecords.proofs.Packs.{same-default}
 
 -- what each step keeps, a fold keeps
 pub fold-keeps : {A S : Type 0} (P : S → Type 0) (step : S → A → S) (s : S) (l : List A) → P s → ((t : S) (x : A) → P t → P (step t x)) → P (fold step s l)

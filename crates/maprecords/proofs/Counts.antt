@@ -29,8 +29,8 @@ use Rattle.scan.proofs.Scans.{formed-snoc, alike, alike-outer, alike-middle, al
 use Rattle.scan.proofs.Scanning.{scan-good, scan-last}
 use Rattle.scan.proofs.Rooms.{good-at, no-index, no-key, inner-room, middle-room, outer-few}
 use Rattle.clockimage.specs.Image.{isKind, dotOf, dotsIn}
-use Rattle.mapreader.specs.Reading.{underKey, underIndex, underBoth, entryKeys}
-use Rattle.mapreader.proofs.Entries.{keys-more, keys-same}
+use Rattle.maprecords.specs.Reading.{underKey, underIndex, underBoth, entryKeys}
+use Rattle.maprecords.proofs.Entries.{keys-more, keys-same}
 
 -- tests that hold together
 alike-tests : (a b : Bool) → (a ≡ true → b ≡ true) → (b ≡ true → a ≡ true) → a ≡ b

@@ -1,7 +1,7 @@
 -- `entry_whole` meets its contract. Assumes nothing.
 use borrow.Author.Needs.{needs}
-use Rattle.mapreader.proofs.entry_whole.Statement.{statement}
-use Rattle.mapreader.proofs.entry_whole.Tie as tie
+use Rattle.maprecords.proofs.entry_whole.Statement.{statement}
+use Rattle.maprecords.proofs.entry_whole.Tie as tie
 
 returns : tie.Need-returns
 returns c = rw (c .before .covers .ensures, c .dotted .ensures)

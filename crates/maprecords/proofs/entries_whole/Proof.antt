@@ -7,12 +7,12 @@ use Rattle.clock.specs.Dots.{dotsOf}
 use Rattle.parts.specs.Model.{entriesOf}
 use Rattle.scan.specs.Each.{every}
 use Rattle.mapimage.proofs.Flats.{noEntryRead}
-use Rattle.mapreader.specs.Related.{entryWhole}
-use Rattle.mapreader.proofs.Everys.{every-on, every-fails, every-end}
+use Rattle.maprecords.specs.Related.{entryWhole}
+use Rattle.maprecords.proofs.Everys.{every-on, every-fails, every-end}
 use borrow.Author.Needs.{needs}
 use native.Mathlib.Omega.{arith}
-use Rattle.mapreader.proofs.entries_whole.Statement.{statement}
-use Rattle.mapreader.proofs.entries_whole.Tie as tie
+use Rattle.maprecords.proofs.entries_whole.Statement.{statement}
+use Rattle.maprecords.proofs.entries_whole.Tie as tie
 
 abbrev Inv-loop : tie.InvT-loop
 Inv-loop clock entries n i₀ i =

@@ -5,12 +5,12 @@ use lib.ListN.{drop}
 use borrow.Author.Tests.{not-true, not-false}
 use Rattle.parts.specs.Model.{waitingOf}
 use Rattle.mapimage.proofs.Flats.{noRemovalRead}
-use Rattle.mapreader.specs.Related.{ascend}
-use Rattle.mapreader.proofs.Everys.{ascend-start, ascend-on, ascend-fails, ascend-end}
+use Rattle.maprecords.specs.Related.{ascend}
+use Rattle.maprecords.proofs.Everys.{ascend-start, ascend-on, ascend-fails, ascend-end}
 use borrow.Author.Needs.{needs}
 use native.Mathlib.Omega.{arith}
-use Rattle.mapreader.proofs.ascend.Statement.{statement}
-use Rattle.mapreader.proofs.ascend.Tie as tie
+use Rattle.maprecords.proofs.ascend.Statement.{statement}
+use Rattle.maprecords.proofs.ascend.Tie as tie
 
 abbrev Inv-loop : tie.InvT-loop
 Inv-loop waiting n i₀ i = (1 ≤ i) × (ascend (waitingOf waiting) ≡ ascend (drop (i - 1) (waitingOf waiting)))
