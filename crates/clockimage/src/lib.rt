@@ -11,6 +11,7 @@ ghost use Rattle.records.specs.Records.{bytesOf, Wrote};
 ghost use Rattle.clockimage.specs.Image.{dotRecords, dotOf};
 ghost use Rattle.clockimage.specs.ClockImage.{clockImage, judgedClock, refusedClock, readClock, ClockSoFar};
 use clock::Clock;
+use clock::DOTS;
 use clock::Dot;
 use records::Record;
 use scan::Scan;
@@ -82,21 +83,13 @@ impl ClockReader {
 
     // One record more.
     pub fn take(self, r: Record) -> ClockReader
-        requires { ⌜ ((l : List Record) × ClockSoFar l self) ⌝ }
         ensures { λ s. ⌜ ((l : List Record) → ClockSoFar l self → ClockSoFar (l ++ (r ∷ [])) s) ⌝ }
     {
         let before = self.scan;
         let scan = before.take(1, 1, r, 0);
         let old = self.clock;
-        if scan.number == 0 {
-            let d = Dot {
-                actor: r.actor,
-                counter: r.number,
-            };
-            let clock = old.push(d);
-            return ClockReader { scan, clock };
-        }
-        ClockReader { scan, clock: old }
+        let clock = clock_with(old, scan.number == 0, r);
+        ClockReader { scan, clock }
     }
 
     // What the records are as a whole.
@@ -133,12 +126,11 @@ pub fn read_clock(bytes: &[u8]) -> ReadClock
     reader.verdict()
 }
 
-// The clock with the dot of a record behind its last, where `more` is set.
+// The clock with the dot of a record behind its last, where `more` is set and there is room.
 pub fn clock_with(clock: Clock, more: bool, r: Record) -> Clock
-    requires { ⌜ (more ≡ true → clock .len < dotLimit) ⌝ }
-    ensures { λ c. ⌜ ((l : List Dot) → clock ≡ clockOf l → c ≡ clockOf (cond more (l ++ (dotOf r ∷ [])) l)) ⌝ }
+    ensures { λ c. ⌜ ((l : List Dot) → clock ≡ clockOf l → (more ≡ true → length l < dotLimit) → c ≡ clockOf (cond more (l ++ (dotOf r ∷ [])) l)) ⌝ }
 {
-    if more {
+    if more & (clock.len < DOTS) {
         let d = Dot {
             actor: r.actor,
             counter: r.number,

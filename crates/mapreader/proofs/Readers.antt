@@ -49,6 +49,11 @@ or-false : (b : Bool) → (b || false) ≡ b
 or-false true = refl
 or-false false = refl
 
+-- a test that the other one makes sure of
+pub needless : (a b : Bool) → (a ≡ true → b ≡ true) → (a && b) ≡ false → a ≡ false
+needless true b h e = apart (sym (h refl) ∙ e)
+needless false b h e = refl
+
 module _ (l : List Record) (r : Record) where
   -- one record does not find what it needs
   pub lost-now : each placed l ≡ true → (e w : Bool) → e ≡ not (entryFits (entriesFor l) r) → w ≡ not (waitingFits (waitingCount l) r) → (e || w) ≡ not (each placed (l ++ (r ∷ [])))
@@ -107,12 +112,12 @@ module _ (l : List Record) (r : Record) where
     pub waiting-so-far : WaitingSoFar l (s .waiting) r
     waiting-so-far = record { held = g .parts .waiting; placed = g .placed; good = good-now }
 
-    pub clock-room : r .kind ≡ 1 → s .clock .len < 8
-    clock-room k = omega (arith, ap (λ c. c .len) (g .parts .clock), dots-room 1 6 l r good-now 1 k (λ b. omega arith) refl refl)
+    pub clock-room : r .kind ≡ 1 → length (clockIn l) < 8
+    clock-room k = dots-room 1 6 l r good-now 1 k (λ b. omega arith) refl refl
 
     -- what `place` has looked through
-    pub key-absent : s .entries .len ≤ 16 → some (λ k. eqb k (r .key)) (take (s .entries .len) (s .keys)) ≡ false → some (λ k. eqb k (r .key)) (entryKeys l) ≡ false
-    key-absent h n =
+    pub key-absent : some (λ k. eqb k (r .key)) (take (s .entries .len) (s .keys)) ≡ false → some (λ k. eqb k (r .key)) (entryKeys l) ≡ false
+    key-absent n =
         let m = ap (λ e. e .len) (g .parts .entries) ∙ length-map (entryKeys l) (entryIn l) in
         sym (ap (some (λ k. eqb k (r .key))) (ap₂ take m (g .parts .keys) ∙ take-pad 0 entryLimit (entryKeys l))) ∙ n
 

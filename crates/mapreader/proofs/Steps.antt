@@ -172,9 +172,6 @@ module _ (l : List Record) (r : Record) where
       same-keys : entryKeys (l ++ (r ∷ [])) ≡ entryKeys l → keys ≡ pad 0 entryLimit (entryKeys (l ++ (r ∷ [])))
       same-keys same = ks ∙ ap (pad 0 entryLimit) (sym same)
 
-      pub dots-few : scanNumber 1 6 (l ++ (r ∷ [])) ≡ 0 → r .kind ≡ 2 → own .len < 8
-      dots-few good k = omega (arith, ap (λ z. z .len) own-is, entry-dots-room l r good k)
-
       pub dot-now : r .kind ≡ 2 → {clock : Clock} → clock ≡ clockOf (dotsIn (underKey 2 (r .key)) l ++ (dotOf r ∷ [])) → EntriesNow l r false keys (handed entries at (getD keys at 0) clock register)
       dot-now k e =
           let same : entryKeys (l ++ (r ∷ [])) ≡ entryKeys l = keys-more l r k ∙ rw (key-known l r whole held at h key-at) in
@@ -232,9 +229,6 @@ module _ (l : List Record) (r : Record) where
             let vs = Rattle.lists.specs.Sift.those (underKey 3 (r .key)) l in
             let n : 0 + r .index ≡ r .index = omega arith in
             ap (λ v. v .clock) (value-is ∙ get-places (valueIn l (r .key)) 0 vs (r .index) r noValue (let g = length-places (valueIn l (r .key)) 0 vs in let b = in-values in omega arith)) ∙ ap (λ p. clockOf (dotsIn (underBoth 4 (r .key) p) l)) n
-
-        pub value-dots-few : scanNumber 1 6 (l ++ (r ∷ [])) ≡ 0 → getD (register .values) (r .index) d .clock .len < 8
-        value-dots-few good = omega (arith, ap (λ z. z .len) value-clock, value-dots-room l r good k)
 
         pub value-dot-now : {value : Value} → value ≡ record { clock = clockOf (dotsIn (underBoth 4 (r .key) (r .index)) l ++ (dotOf r ∷ [])); value = getD (register .values) (r .index) d .value }
             → EntriesNow l r false keys (handed entries at (getD keys at 0) own (record { values = set (register .values) (r .index) value; len = register .len }))

@@ -27,7 +27,7 @@ use Rattle.scan.specs.Scanned.{scanNumber}
 use Rattle.scan.proofs.Eachs.{decide, both, both-left, both-right, each-snoc, some-none}
 use Rattle.scan.proofs.Tallies.{tally-new}
 use Rattle.scan.proofs.Scans.{formed-snoc, outer-key, middle-index}
-use Rattle.scan.proofs.Scanning.{scan-good, scan-last}
+use Rattle.scan.proofs.Scanning.{scan-before, scan-good, scan-last}
 use Rattle.scan.proofs.Rooms.{those-yes, those-no, middle-few, no-key}
 use Rattle.clockimage.specs.Image.{isKind, dotOf, dotsIn}
 use Rattle.clockimage.proofs.Dots.{dots-more, dots-same, map-snoc}
@@ -116,6 +116,29 @@ waits-room l r p z k i =
     let c = counted-new l r k y (omega arith) in
     let d = waits-counted l p w in
     omega arith
+
+-- they are few
+waits-most : (l : List Record) → each placed l ≡ true → scanNumber 1 6 l ≡ 0 → waitingCount l ≤ 8
+unfolding waitingCount fold
+waits-most l = by-records (λ m. each placed m ≡ true → scanNumber 1 6 m ≡ 0 → waitingCount m ≤ 8) (λ p z. omega arith) more l
+  where
+    more : (m : List Record) (r : Record) → (each placed m ≡ true → scanNumber 1 6 m ≡ 0 → waitingCount m ≤ 8) → each placed (m ++ (r ∷ [])) ≡ true → scanNumber 1 6 (m ++ (r ∷ [])) ≡ 0 → waitingCount (m ++ (r ∷ [])) ≤ 8
+    more m r h p z =
+        let pm = sym (each-snoc placed m r) ∙ p in
+        let before = both-left (each placed m) (placed m r) pm in
+        let old = h before (scan-before 1 6 m r z) in
+        decide (eqb (r .kind) 5)
+        (λ t. let k = eqb-true (r .kind) 5 t in
+        let e = count-more m r k in
+        decide (eqb (r .index) (waitingCount m))
+        (λ a. let q = eqb-true (r .index) (waitingCount m) a in let b = waits-room m r before z k q in omega arith)
+        (λ a. let q = eqb-false (r .index) (waitingCount m) a in
+        let fit = both-right (entryFits (Rattle.maprecords.specs.Reading.entriesFor m) r) (waitingFits (waitingCount m) r) (both-right (each placed m) (placed m r) pm) in
+        let i = leb-true (r .index) (waitingCount m) (rw t at fit) in omega arith))
+        (λ f. let e = count-same m r (eqb-false (r .kind) 5 f) in omega arith)
+
+pub removal-keys-few : (l : List Record) (r : Record) → scanNumber 1 6 (l ++ (r ∷ [])) ≡ 0 → r .kind ≡ 6 → length (map (λ x. x .key) (those (underIndex 6 (r .index)) l)) < 16
+removal-keys-few l r good k = rw (length-map (those (underIndex 6 (r .index)) l) (λ (x : Record). x .key)) (waiting-keys-room l r good k)
 
 -- a test of another kind, or of another index
 other-kind : (kind index : ℕ) (r : Record) → (r .kind ≡ kind → ⊥) → underIndex kind index r ≡ false
@@ -221,13 +244,6 @@ module _ (l : List Record) (r : Record) (waiting : Waiting) (s : WaitingSoFar l 
     pub removal-here : getD (waiting .items) (r .index) d ≡ removalIn l (r .index)
     removal-here = removal-read (waitingFor l) (r .index) d (s .held) in-waiting ∙ removal-at l r known
 
-    pub removal-dots-few : r .kind ≡ 5 → getD (waiting .items) (r .index) d .clock .len < 8
-    removal-dots-few k = omega (arith, ap (λ z. z .clock .len) removal-here, waiting-dots-room l r (s .good) k)
-
-    pub removal-keys-few : r .kind ≡ 6 → getD (waiting .items) (r .index) d .keys .len < 16
-    removal-keys-few k =
-        omega (arith, ap (λ z. z .keys .len) removal-here ∙ length-map (those (underIndex 6 (r .index)) l) (λ x. x .key), waiting-keys-room l r (s .good) k)
-
     -- the removal of r's index changed in its place
     pub stored : {more new : Removal} → more ≡ new → record { items = set (waiting .items) (r .index) more; len = waiting .len } ≡ waitingAs (set (waitingFor l) (r .index) new)
     stored {more} q = removal-changed (waitingFor l) (r .index) more (s .held) in-waiting ∙ ap (λ x. waitingAs (set (waitingFor l) (r .index) x)) q
@@ -244,6 +260,9 @@ module _ (l : List Record) (r : Record) (waiting : Waiting) (s : WaitingSoFar l 
     key-now k q =
         let fit = fits-key k ∙ lt-ltb _ _ known in
         record { lost = rw fit; held = λ _. q ∙ ap waitingAs (ap (set (waitingFor l) (r .index)) (sym (key-removal l r k)) ∙ waiting-changed l r known (count-same l r (λ e. omega arith))) }
+
+  pub few-waiting : waiting .len ≤ 8
+  few-waiting = omega (arith, how-many, waits-most l (s .placed) (scan-before 1 6 l r (s .good)))
 
   pub new-waiting-room : r .kind ≡ 5 → r .index ≡ waiting .len → waiting .len < 8
   new-waiting-room k i = let n = how-many in omega (arith, waits-room l r (s .placed) (s .good) k (i ∙ n))

@@ -3,10 +3,9 @@
 use mathlib.Core.Path.{_≡_}
 use mathlib.Core.Bool.{Bool, true, not, _&&_}
 use mathlib.Core.List.{List}
-use Prim.Native.Nat.{_≤_}
 use Rattle.lists.specs.Pad.{pad}
 use Rattle.clock.specs.Dots.{dotsOf, clockOf}
-use Rattle.parts.specs.Model.{entryLimit, waitingLimit, entriesOf, entriesAs, waitingOf, waitingAs}
+use Rattle.parts.specs.Model.{entryLimit, entriesOf, entriesAs, waitingOf, waitingAs}
 use Rattle.records.specs.declared.Record.{Record}
 use Rattle.scan.specs.Each.{every, each}
 use Rattle.scan.specs.Scanned.{Scanned, Under}
@@ -27,11 +26,6 @@ pub record MapSoFar (l : List Record) (s : MapReader) : Type 0 where
   pub under : s .scan .number ≡ 0 → Under l (s .under)
   pub lost : s .scan .number ≡ 0 → s .lost ≡ not (each placed l)
   pub parts : s .scan .number ≡ 0 → each placed l ≡ true → MapParts l s
-
--- the reader has taken these records, and its lists are within their arrays
-pub record MapTaken (l : List Record) (s : MapReader) : Type 0 where
-  pub so-far : MapSoFar l s
-  pub few : (s .entries .len ≤ entryLimit) × (s .waiting .len ≤ waitingLimit)
 
 -- whether the records are related, asked of the parts
 abbrev pub relatedSoFar : MapReader → Bool

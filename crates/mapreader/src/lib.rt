@@ -4,7 +4,7 @@ ghost use mathlib.Core.Bool.{false, cond};
 ghost use mathlib.Core.List.{List, [], _∷_, _++_};
 ghost use Prim.Native.Nat.{ℕ, _+_, _%_, _≤_, _<_};
 ghost use lib.Dec.{eqb, ltb};
-ghost use lib.ListN.{getD, take};
+ghost use lib.ListN.{length, getD, take};
 ghost use Rattle.lists.specs.First.{some};
 ghost use Rattle.clock.specs.declared.Dot.{Dot};
 ghost use Rattle.clock.specs.Dots.{dotLimit, clockOf};
@@ -14,17 +14,21 @@ ghost use Rattle.records.specs.Records.{recordsOf};
 ghost use Rattle.clockimage.specs.Image.{dotOf};
 ghost use Rattle.mapimage.specs.MapImage.{mapLongest};
 ghost use Rattle.maprecords.specs.Related.{refusedMap, judgedMap, readMap};
-ghost use Rattle.mapreader.specs.SoFar.{MapSoFar, MapTaken, relatedSoFar};
+ghost use Rattle.mapreader.specs.SoFar.{MapSoFar, relatedSoFar};
 use clock::Clock;
 use map::Map;
 use maprecords::ReadMap;
+use parts::ENTRIES;
 use parts::Entries;
 use parts::Entry;
+use parts::KEYS;
 use parts::Keys;
 use parts::Removal;
+use parts::WAITING;
 use parts::Waiting;
 use records::Record;
 use register::Register;
+use register::VALUES;
 use register::Value;
 use scan::Scan;
 
@@ -43,8 +47,8 @@ pub struct MapReader {
 
 // The place of a key among the first n, or n where it is not there. Records of one entry stand together: `last` is tried first.
 fn place(keys: [u32; 16], n: usize, last: usize, key: u32) -> usize
-    requires { ⌜ (n ≤ entryLimit) × (last < entryLimit) ⌝ }
-    ensures { λ r. ⌜ (r < n → getD keys r 0 ≡ key) × (n ≤ r → some (λ k. eqb k key) (take n keys) ≡ false) ⌝ }
+    requires { ⌜ last < entryLimit ⌝ }
+    ensures { λ r. ⌜ (r < n → (r < entryLimit) × (getD keys r 0 ≡ key)) × (n ≤ r → some (λ k. eqb k key) (take n keys) ≡ false) ⌝ }
 {
     if last < n {
         if keys[last] == key {
@@ -52,7 +56,7 @@ fn place(keys: [u32; 16], n: usize, last: usize, key: u32) -> usize
         }
     }
     let mut i: usize = 0;
-    while i < n {
+    while i < n && i < ENTRIES {
         if keys[i] == key {
             return i;
         }
@@ -62,8 +66,7 @@ fn place(keys: [u32; 16], n: usize, last: usize, key: u32) -> usize
 }
 
 fn value_dot(v: Value, r: Record) -> Value
-    requires { ⌜ v .clock .len < dotLimit ⌝ }
-    ensures { λ q. ⌜ ((c : List Dot) → v .clock ≡ clockOf c → q ≡ record { clock = clockOf (c ++ (dotOf r ∷ [])); value = v .value }) ⌝ }
+    ensures { λ q. ⌜ ((c : List Dot) → v .clock ≡ clockOf c → length c < dotLimit → q ≡ record { clock = clockOf (c ++ (dotOf r ∷ [])); value = v .value }) ⌝ }
 {
     let old = v.clock;
     let clock = clockimage::clock_with(old, true, r);
@@ -74,8 +77,7 @@ fn value_dot(v: Value, r: Record) -> Value
 }
 
 fn removal_dot(w: Removal, r: Record) -> Removal
-    requires { ⌜ w .clock .len < dotLimit ⌝ }
-    ensures { λ q. ⌜ ((c : List Dot) (k : List ℕ) → w ≡ removalAs c k → q ≡ removalAs (c ++ (dotOf r ∷ [])) k) ⌝ }
+    ensures { λ q. ⌜ ((c : List Dot) (k : List ℕ) → w ≡ removalAs c k → length c < dotLimit → q ≡ removalAs (c ++ (dotOf r ∷ [])) k) ⌝ }
 {
     let old = w.clock;
     let clock = clockimage::clock_with(old, true, r);
@@ -99,10 +101,12 @@ fn new_removal(r: Record) -> Removal
 }
 
 fn removal_key(w: Removal, r: Record) -> Removal
-    requires { ⌜ w .keys .len < keyLimit ⌝ }
-    ensures { λ q. ⌜ ((c : List Dot) (k : List ℕ) → w ≡ removalAs c k → q ≡ removalAs c (k ++ (r .key ∷ []))) ⌝ }
+    ensures { λ q. ⌜ ((c : List Dot) (k : List ℕ) → w ≡ removalAs c k → length k < keyLimit → q ≡ removalAs c (k ++ (r .key ∷ []))) ⌝ }
 {
     let old = w.keys;
+    if KEYS <= old.len {
+        return w;
+    }
     let keys = old.push(r.key);
     let clock = w.clock;
     Removal { clock, keys }
@@ -152,7 +156,7 @@ fn first_number(length: u8, scanned: u8, related: bool) -> u8
 
 impl MapReader {
     pub fn new() -> MapReader
-        ensures { λ s. ⌜ MapTaken [] s ⌝ }
+        ensures { λ s. ⌜ MapSoFar [] s ⌝ }
     {
         let scan = Scan::new();
         let clock = Clock::new();
@@ -175,8 +179,7 @@ impl MapReader {
 
     // The whole records of a piece. The parts stand in locals that change in place, and the entry of the last record apart: a map is too big to be handed about for each record.
     pub fn feed(self, piece: &[u8]) -> MapReader
-        requires { ⌜ ((l : List Record) × MapTaken l self) ⌝ }
-        ensures { λ s. ⌜ ((l : List Record) → MapTaken l self → MapTaken (l ++ recordsOf (now (piece .entry))) s) ⌝ }
+        ensures { λ s. ⌜ ((l : List Record) → MapSoFar l self → MapSoFar (l ++ recordsOf (now (piece .entry))) s) ⌝ }
     {
         let mut scan = self.scan;
         let mut under = self.under;
@@ -222,7 +225,7 @@ impl MapReader {
                             if r.kind == 2 {
                                 own = clockimage::clock_with(own, true, r);
                             } else if r.kind == 3 {
-                                if register.len == r.index as usize {
+                                if (register.len == r.index as usize) & (register.len < VALUES) {
                                     let k = register.len;
                                     let blank = Clock::new();
                                     let value = Value {
@@ -236,7 +239,7 @@ impl MapReader {
                                 }
                             } else {
                                 let k = r.index as usize;
-                                if k < register.len {
+                                if (k < register.len) & (k < VALUES) {
                                     let v = register.values[k];
                                     let value = value_dot(v, r);
                                     register.values[k] = value;
@@ -244,7 +247,7 @@ impl MapReader {
                                     lost = true;
                                 }
                             }
-                        } else if r.kind == 2 {
+                        } else if (r.kind == 2) & (m < ENTRIES) {
                             let hand = Entry {
                                 key: keys[at],
                                 clock: own,
@@ -261,7 +264,7 @@ impl MapReader {
                         }
                     } else {
                         let k = r.index as usize;
-                        if k < waiting.len {
+                        if (k < waiting.len) & (k < WAITING) {
                             let w = waiting.items[k];
                             if r.kind == 5 {
                                 let more = removal_dot(w, r);
@@ -270,7 +273,7 @@ impl MapReader {
                                 let more = removal_key(w, r);
                                 waiting.items[k] = more;
                             }
-                        } else if (r.kind == 5) & (k == waiting.len) {
+                        } else if (r.kind == 5) & ((k == waiting.len) & (k < WAITING)) {
                             let new = new_removal(r);
                             waiting.items[k] = new;
                             waiting.len = k + 1;

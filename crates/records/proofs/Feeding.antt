@@ -40,16 +40,11 @@ module _ {S : Type 0} {Fed : List Record → S → Type 0} (s : List ℕ) where
 
 -- the same of a state that had been fed before: all that was said of `start` goes on with the records l
 pub record Further {S : Type 0} (Fed : List Record → S → Type 0) (start : S) (l : List Record) (state : S) : Type 0 where
-  pub some : (before : List Record) × Fed before start
   pub all : (before : List Record) → Fed before start → Fed (before ++ l) state
 
 module _ {S : Type 0} {Fed : List Record → S → Type 0} {start state : S} where
-  pub further-start : (before : List Record) × Fed before start → ((l : List Record) → Fed l start → Fed l state) → Further Fed start [] state
-  further-start b same = record { some = b; all = λ before f. rw (append-nil before) (same before f) }
+  pub further-start : ((l : List Record) → Fed l start → Fed l state) → Further Fed start [] state
+  further-start same = record { all = λ before f. rw (append-nil before) (same before f) }
 
   pub further-on : (r : Record) {next : S} → ((l : List Record) → Fed l state → Fed (l ++ (r ∷ [])) next) → (l : List Record) → Further Fed start l state → Further Fed start (l ++ (r ∷ [])) next
-  further-on r step l f = record { some = f .some; all = λ before b. rw (← append-assoc before l (r ∷ [])) (step (before ++ l) (f .all before b)) }
-
-  -- what is said of some records
-  pub further-some : (l : List Record) → Further Fed start l state → (k : List Record) × Fed k state
-  further-some l f = (f .some .0 ++ l, f .all (f .some .0) (f .some .1))
+  further-on r step l f = record { all = λ before b. rw (← append-assoc before l (r ∷ [])) (step (before ++ l) (f .all before b)) }

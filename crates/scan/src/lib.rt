@@ -28,14 +28,15 @@ pub struct Scan {
 
 // A count after one more record: of another group, of the same group and thing, or of the same group and another thing.
 fn tally(n: usize, group: bool, same: bool) -> usize
-    requires { ⌜ n ≤ 255 ⌝ }
-    ensures { λ r. ⌜ (r ≡ tallyOn n group same) × (r ≤ 256) ⌝ }
+    ensures { λ r. ⌜ (n ≤ 255 → r ≡ tallyOn n group same) ⌝ }
 {
-    if group {
-        if same { n } else { n + 1 }
-    } else {
-        1
+    if !group {
+        return 1;
     }
+    if same {
+        return n;
+    }
+    if n < 256 { n + 1 } else { n }
 }
 
 fn limit(limits: [u8; 13], kind: u8) -> usize
@@ -86,8 +87,7 @@ impl Scan {
 
     // The counts with a record that is no waiting key.
     fn by_key(self, r: Record) -> Scan
-        requires { ⌜ (self .outer ≤ 255) × ((self .middle ≤ 255) × (self .inner ≤ 255)) ⌝ }
-        ensures { λ s. ⌜ s ≡ byKey self r ⌝ }
+        ensures { λ s. ⌜ ((self .outer ≤ 255) × ((self .middle ≤ 255) × (self .inner ≤ 255)) → s ≡ byKey self r) ⌝ }
     {
         let last = self.last;
         let kind = self.any & (last.kind == r.kind);
@@ -102,8 +102,7 @@ impl Scan {
 
     // The counts with a waiting key, whose index has n.
     fn by_index(self, r: Record, n: u8) -> Scan
-        requires { ⌜ self .outer ≤ 255 ⌝ }
-        ensures { λ s. ⌜ s ≡ byIndex self r n ⌝ }
+        ensures { λ s. ⌜ (self .outer ≤ 255 → s ≡ byIndex self r n) ⌝ }
     {
         let last = self.last;
         let kind = self.any & (last.kind == r.kind);
@@ -116,8 +115,7 @@ impl Scan {
 
     // The counts with a record.
     fn tallied(self, r: Record, n: u8) -> Scan
-        requires { ⌜ ((l : List Record) × Tallied l self) ⌝ }
-        ensures { λ s. ⌜ s ≡ cond (eqb (r .kind) 6) (byIndex self r n) (byKey self r) ⌝ }
+        ensures { λ s. ⌜ ((l : List Record) → Tallied l self → s ≡ cond (eqb (r .kind) 6) (byIndex self r n) (byKey self r)) ⌝ }
     {
         if r.kind == 6 {
             self.by_index(r, n)
@@ -142,8 +140,7 @@ impl Scan {
 
     // The scan with a record that follows the last.
     fn counted(self, r: Record, n: u8) -> Scan
-        requires { ⌜ (self .number ≡ 0 → (l : List Record) × Tallied l self) ⌝ }
-        ensures { λ s. ⌜ s ≡ countedOn self r n ⌝ }
+        ensures { λ s. ⌜ ((l : List Record) → (self .number ≡ 0 → Tallied l self) → s ≡ countedOn self r n) ⌝ }
     {
         if self.number == 0 {
             return self.tallied(r, n).judged(r);
@@ -156,7 +153,6 @@ impl Scan {
 
     // One record more; where it is a waiting key, n stand under its index so far: they are not side by side, and whoever reads them counts them.
     pub fn take(self, low: u8, high: u8, r: Record, n: u8) -> Scan
-        requires { ⌜ ((l : List Record) × Scanned low high l self) ⌝ }
         ensures { λ s. ⌜ ((l : List Record) → Scanned low high l self → (self .number ≡ 0 → CountsUnder low high l r n) → Scanned low high (l ++ (r ∷ [])) s) ⌝ }
     {
         if self.number == 1 {

@@ -27,9 +27,6 @@ returns-2 c = rw (le-ltb _ _ (c .before .before .if1 .left), ne-eqb _ _ (c .befo
 loop-holds : tie.Need-loop-holds Inv-loop μ-loop
 loop-holds c = (refl, (omega arith, feed-start _ (c .new .ensures)))
 
-take-requires : tie.Need-take-requires Inv-loop μ-loop
-take-requires c κs = let f = c .before .before .loop .inv .1 .1 in (f .done, f .fed)
-
 loop-again : tie.Need-loop-again Inv-loop μ-loop
 loop-again c =
     (refl, (omega arith, feed-on _ (c .before .before .before .loop .inv .1 .1) (omega arith) (λ l f. rw (← c .before .read-record .ensures) (c .take .ensures l f))))
@@ -56,7 +53,7 @@ read-clock-spec =
     (λ c. search needs)
     (λ c κs. search needs)
     (λ c. search needs)
-    take-requires
+    (λ c κs. search needs)
     (λ c. search needs)
     loop-again
     (λ c κs. search needs)

@@ -1,21 +1,17 @@
 -- `first_dot` meets its contract. Assumes nothing.
-use mathlib.Core.Path.{ap}
 use mathlib.Core.List.{[]}
 use borrow.Author.Needs.{needs}
 use native.Mathlib.Omega.{arith}
 use Rattle.mapreader.proofs.first_dot.Statement.{statement}
 use Rattle.mapreader.proofs.first_dot.Tie as tie
 
-clock-with-requires : tie.Need-clock-with-requires
-clock-with-requires c κs t = omega (arith, ap (λ k. k .len) (c .new .ensures))
-
 returns : tie.Need-returns
-returns c = c .clock-with .ensures [] (c .before .new .ensures)
+returns c = c .clock-with .ensures [] (c .before .new .ensures) (λ _. omega arith)
 
 pub first-dot-spec : {M : Type 1} → statement M
 first-dot-spec =
     tie.close
     (tie.spec
     (λ c κs. search needs)
-    clock-with-requires
+    (λ c κs. search needs)
     returns)

@@ -14,13 +14,10 @@ slice-aggregate-feed : tie.Need-slice-aggregate-feed
 slice-aggregate-feed c =
     omega (arith, length-take (c .before .before .read-length .result) (c .before .before .before .before .before .args .bytes .now), c .before .before .read-length .ensures .0)
 
-feed-requires : tie.Need-feed-requires
-feed-requires c κs = ([], c .before .new .ensures)
-
 returns : tie.Need-returns
 returns c =
     let bytes = c .before .before .before .before .before .before .before .before .args .bytes .now in
-    let taken = c .before .before .feed .ensures [] (c .before .before .before .before .new .ensures) .so-far in
+    let taken = c .before .before .feed .ensures [] (c .before .before .before .before .new .ensures) in
     let whole = c .before .before .before .before .before .read-length .ensures .1 in
     read-is bytes _ _ _ (c .before .before .before .before .before .before .length-number .ensures) _ (λ z. ap (λ n. recordsOf (take n bytes)) (whole z) ∙ ap recordsOf (take-length bytes)) (c .before .number .ensures _ taken) (c .outcome .ensures _ taken)
 
@@ -32,7 +29,7 @@ read-map-spec =
     (λ c κs. search needs)
     (λ c κs. search needs)
     slice-aggregate-feed
-    feed-requires
+    (λ c κs. search needs)
     (λ c κs. search needs)
     (λ c κs. search needs)
     returns)

@@ -1,22 +1,23 @@
 -- `feed` meets its contract: each turn puts one record where it belongs. Assumes nothing.
 use mathlib.Core.Path.{_≡_, refl, ap, sym, _∙_}
-use mathlib.Core.Bool.{false}
+use mathlib.Core.Bool.{false, _&&_, and-assoc}
 use mathlib.Core.Logic.{⊎-elim}
 use mathlib.Core.List.{List, [], _∷_, _++_}
 use Prim.Native.Nat.{_+_, _-_, _/_, _≤_, _<_}
-use lib.Dec.{eqb}
+use lib.Dec.{eqb, ltb}
 use lib.ListN.{length, getD, set, length-set}
-use borrow.Author.Tests.{eqb-true, not-true, not-false}
+use borrow.Author.Tests.{eqb-true, eqb-false, lt-ltb, ltb-true, ltb-false, not-true, not-false}
 use Rattle.lists.specs.First.{some}
 use Rattle.parts.specs.Model.{entriesAs}
 use Rattle.records.specs.declared.Record.{Record}
-use Rattle.records.proofs.Feeding.{Feeding, Further, feed-start, feed-on, feed-end, further-start, further-on, further-some}
+use Rattle.records.proofs.Feeding.{Feeding, Further, feed-start, feed-on, feed-end, further-start, further-on}
 use Rattle.scan.proofs.Eachs.{both-left, both-right}
 use Rattle.mapimage.proofs.Flats.{noEntryRead, noValueRead, noRemovalRead}
 use Rattle.maprecords.specs.Reading.{entryKeys, entriesFor}
 use Rattle.mapreader.specs.SoFar.{MapSoFar}
 use Rattle.mapreader.specs.declared.MapReader.{MapReader}
 use Rattle.mapreader.proofs.SoFar.{handed, Growable}
+use Rattle.maprecords.proofs.Counts as counts
 use Rattle.mapreader.proofs.Steps as steps
 use Rattle.mapreader.proofs.Waits as waits
 use Rattle.mapreader.proofs.Readers as readers
@@ -28,9 +29,9 @@ use Rattle.mapreader.proofs.MapReader.feed.Tie as tie
 -- the place of the entry in hand is in use, or the first where none is
 abbrev Inv-records : tie.InvT-records
 Inv-records piece scan₀ under₀ lost₀ clock₀ keys₀ waiting₀ entries₀ at₀ own₀ register₀ n i₀ scan under lost clock keys waiting entries at own register i =
-    (i ≤ n) × ((entries .len ≤ 16) × ((at ≤ entries .len - 1) × ((waiting .len ≤ 8) × ((length under ≡ 256)
+    (i ≤ n) × ((at < 16) × ((at ≤ entries .len - 1) × ((length under ≡ 256)
     × Feeding (Further MapSoFar (record { scan = scan₀; under = under₀; lost = lost₀; clock = clock₀; keys = keys₀; waiting = waiting₀; entries = entries₀ })) piece i
-    (record { scan = scan; under = under; lost = lost; clock = clock; keys = keys; entries = handed entries at (getD keys at 0) own register; waiting = waiting })))))
+    (record { scan = scan; under = under; lost = lost; clock = clock; keys = keys; entries = handed entries at (getD keys at 0) own register; waiting = waiting }))))
 
 abbrev μ-records : tie.MeasureT-records
 μ-records piece scan₀ under₀ lost₀ clock₀ keys₀ waiting₀ entries₀ at₀ own₀ register₀ n i₀ scan under lost clock keys waiting entries at own register i = n - i
@@ -40,10 +41,10 @@ fits-index : (c : tie.After-struct-known Inv-records μ-records) → c .before .
 fits-index c = search needs
 
 in-under : (c : tie.After-tallied Inv-records μ-records) → c .before .before .before .read-record .result .index < length (c .before .before .before .before .before .records .under)
-in-under c = let n : c .before .before .before .read-record .result .index < 256 = fits-index (c .before .before) in omega (arith, n, c .before .before .before .before .before .records .inv .1 .1 .1 .1 .0)
+in-under c = let n : c .before .before .before .read-record .result .index < 256 = fits-index (c .before .before) in omega (arith, n, c .before .before .before .before .before .records .inv .1 .1 .1 .0)
 
 long-under : (c : tie.After-tallied Inv-records μ-records) → length (set (c .before .before .before .before .before .records .under) (c .before .before .before .read-record .result .index) (c .tallied .result)) ≡ 256
-long-under c = length-set (c .before .before .before .before .before .records .under) (c .before .before .before .read-record .result .index) (c .tallied .result) ∙ c .before .before .before .before .before .records .inv .1 .1 .1 .1 .0
+long-under c = length-set (c .before .before .before .before .before .records .under) (c .before .before .before .read-record .result .index) (c .tallied .result) ∙ c .before .before .before .before .before .records .inv .1 .1 .1 .0
 
 -- a turn in which nothing is wrong so far: what stands in the locals, and that a record may be added to it
 abbrev state : tie.Then2 Inv-records μ-records → MapReader
@@ -68,18 +69,12 @@ start c = c .before .before .before .before .before .before .before .before .bef
 on : (c : tie.Then2 Inv-records μ-records) {next : MapReader} → ((l : List Record) → Grows c l → MapSoFar (l ++ (c .before .before .before .before .before .before .read-record .result ∷ [])) next)
     → Feeding (Further MapSoFar (start c)) (c .before .before .before .before .before .before .before .before .before .before .before .before .before .before .before .before .before .before .before .args .piece .now) (c .before .before .before .before .before .before .before .before .records .i + 1) next
 on c step =
-    feed-on _ (c .before .before .before .before .before .before .before .before .records .inv .1 .1 .1 .1 .1) (omega (arith, c .before .before .before .before .before .before .before .records-test .taken))
+    feed-on _ (c .before .before .before .before .before .before .before .before .records .inv .1 .1 .1 .1) (omega (arith, c .before .before .before .before .before .before .before .records-test .taken))
     (further-on _ (λ l f. rw (← c .before .before .before .before .before .before .read-record .ensures) (step l (grow c l f))))
 
-some-of : (c : tie.Then2 Inv-records μ-records) → (l : List Record) × Grows c l
-some-of c =
-    let f = c .before .before .before .before .before .before .before .before .records .inv .1 .1 .1 .1 .1 in
-    let k = further-some (f .done) (f .fed) in
-    (k .0, grow c (k .0) (k .1))
-
--- the places are in the arrays
-small : (c : tie.Then2 Inv-records μ-records) → (c .before .before .before .before .before .before .before .before .records .at < 16) × (c .before .before .before .before .before .before .before .before .records .entries .len ≤ 16)
-small c = let v = c .before .before .before .before .before .before .before .before .records .inv in (omega (arith, v .1 .0, v .1 .1 .0), v .1 .0)
+-- the place in hand is in the arrays
+small : (c : tie.Then2 Inv-records μ-records) → c .before .before .before .before .before .before .before .before .records .at < 16
+small c = c .before .before .before .before .before .before .before .before .records .inv .1 .0
 
 less : (c : tie.Then2 Inv-records μ-records) → length (c .before .before .before .before .before .before .before .before .before .before .before .before .before .before .before .before .before .before .before .args .piece .now) / 16 - (c .before .before .before .before .before .before .before .before .records .i + 1) < length (c .before .before .before .before .before .before .before .before .before .before .before .before .before .before .before .before .before .before .before .args .piece .now) / 16 - c .before .before .before .before .before .before .before .before .records .i
 less c = omega (arith, c .before .before .before .before .before .before .before .records-test .taken)
@@ -104,73 +99,58 @@ held c l g =
     (c .if6 .came)
 
 key-here : (c : tie.Joined6 Inv-records μ-records) → getD (c .before .before .before .before .before .before .before .before .before .before .before .before .before .before .before .records .keys) (c .if6 .at) 0 ≡ c .before .before .before .before .before .before .before .before .before .before .before .before .before .read-record .result .key
-key-here c = ap (λ j. getD (c .before .before .before .before .before .before .before .before .before .before .before .before .before .before .before .records .keys) j 0) (at-place c .0) ∙ c .before .before .place .ensures .0 (c .before .if5 .taken)
+key-here c = ap (λ j. getD (c .before .before .before .before .before .before .before .before .before .before .before .before .before .before .before .records .keys) j 0) (at-place c .0) ∙ c .before .before .place .ensures .0 (c .before .if5 .taken) .1
 
 in-use : (c : tie.Joined6 Inv-records μ-records) → c .if6 .at < c .if6 .entries .len
 in-use c = let p = at-place c in omega (arith, p .0, p .1, c .before .if5 .taken)
 
-small-now : (c : tie.Joined6 Inv-records μ-records) → (c .if6 .entries .len ≤ 16) × (c .if6 .at ≤ c .if6 .entries .len - 1)
-small-now c = let p = at-place c in (omega (arith, p .1, small (c .before .before .before .before .before .before .before) .1), omega (arith, in-use c))
+small-now : (c : tie.Joined6 Inv-records μ-records) → (c .if6 .at < 16) × (c .if6 .at ≤ c .if6 .entries .len - 1)
+small-now c = let p = at-place c in (omega (arith, p .0, c .before .before .place .ensures .0 (c .before .if5 .taken) .0), omega (arith, in-use c))
 
 records-holds : tie.Need-records-holds Inv-records μ-records
-records-holds c =
-    let q = c .before .before .before .before .before .before .before .before .before .before .pre in
-    (omega arith, (q .1 .few .0, (omega arith, (q .1 .few .1, (search needs, feed-start _ (further-start (q .0, q .1 .so-far) (λ l m. readers.first-hand l _ noEntryRead m)))))))
+records-holds c = (omega arith, (omega arith, (omega arith, (search needs, feed-start _ (further-start (λ l m. readers.first-hand l _ noEntryRead m))))))
 
 read-record-requires : tie.Need-read-record-requires Inv-records μ-records
 read-record-requires c κs = omega (arith, c .records-test .taken)
-
-take-requires : tie.Need-take-requires Inv-records μ-records
-take-requires c κs = let f = c .before .before .before .records .inv .1 .1 .1 .1 .1 in let k = further-some (f .done) (f .fed) in (k .0, k .1 .scanned)
-
-clock-with-requires : tie.Need-clock-with-requires Inv-records μ-records
-clock-with-requires c κs t = let g = some-of (c .before .before) in readers.clock-room (g .0) _ (g .1) (c .if3 .taken)
 
 records-again : tie.Need-records-again Inv-records μ-records
 records-again c =
     let d = c .before .before .before in
     let v = d .before .before .before .before .before .before .before .before .records .inv in
-    (more d, (v .1 .0, (v .1 .1 .0, (v .1 .1 .1 .0, (long-under (d .before .before .before), on d (λ l g. readers.grown-clock l _ g (c .before .if3 .taken) (fine d) (c .clock-with .ensures _ (g .parts .clock))))))))
+    (more d, (v .1 .0, (v .1 .1 .0, (long-under (d .before .before .before), on d (λ l g. readers.grown-clock l _ g (c .before .if3 .taken) (fine d) (c .clock-with .ensures _ (g .parts .clock) (λ _. readers.clock-room l _ g (c .before .if3 .taken))))))))
 
 place-requires : tie.Need-place-requires Inv-records μ-records
-place-requires c κs = let s = small (c .before .before .before .before) in (s .1, s .0)
+place-requires c κs = small (c .before .before .before .before)
 
 mul-t53 : tie.Need-mul-t53 Inv-records μ-records
-mul-t53 c = omega (arith, small (c .before .before .before .before .before .before .before) .0)
+mul-t53 c = omega (arith, small (c .before .before .before .before .before .before .before))
 
 array-read-t56 : tie.Need-array-read-t56 Inv-records μ-records
-array-read-t56 c = omega (arith, small (c .before .before .before .before .before .before .before) .0)
+array-read-t56 c = omega (arith, small (c .before .before .before .before .before .before .before))
 
 mul-hand : tie.Need-mul-hand Inv-records μ-records
-mul-hand c = omega (arith, small (c .before .before .before .before .before .before .before) .0)
+mul-hand c = omega (arith, small (c .before .before .before .before .before .before .before))
 
 element-set-from-hand : tie.Need-element-set-from-hand Inv-records μ-records
-element-set-from-hand c = omega (arith, small (c .before .before .before .before .before .before .before) .0)
+element-set-from-hand c = omega (arith, small (c .before .before .before .before .before .before .before))
 
-mul-t79 : tie.Need-mul-t79 Inv-records μ-records
-mul-t79 c = omega (arith, small (c .before .before .before .before .before .before .before .before) .0)
+mul-t86 : tie.Need-mul-t86 Inv-records μ-records
+mul-t86 c = omega (arith, small (c .before .before .before .before .before .before .before .before))
 
-array-read-t82 : tie.Need-array-read-t82 Inv-records μ-records
-array-read-t82 c = omega (arith, small (c .before .before .before .before .before .before .before .before) .0)
+array-read-t89 : tie.Need-array-read-t89 Inv-records μ-records
+array-read-t89 c = omega (arith, small (c .before .before .before .before .before .before .before .before))
 
 mul-hand-2 : tie.Need-mul-hand-2 Inv-records μ-records
-mul-hand-2 c = omega (arith, small (c .before .before .before .before .before .before .before .before) .0)
+mul-hand-2 c = omega (arith, small (c .before .before .before .before .before .before .before .before))
 
 element-set-from-hand-2 : tie.Need-element-set-from-hand-2 Inv-records μ-records
-element-set-from-hand-2 c = omega (arith, small (c .before .before .before .before .before .before .before .before) .0)
+element-set-from-hand-2 c = omega (arith, small (c .before .before .before .before .before .before .before .before))
 
 mul-e : tie.Need-mul-e Inv-records μ-records
-mul-e c = omega (arith, small (c .before .before .before .before .before .before .before) .1, c .before .if5 .taken)
+mul-e c = omega (arith, c .before .before .place .ensures .0 (c .before .if5 .taken) .0)
 
 element-copy-out-e : tie.Need-element-copy-out-e Inv-records μ-records
-element-copy-out-e c = omega (arith, small (c .before .before .before .before .before .before .before) .1, c .before .if5 .taken)
-
-clock-with-requires-2 : tie.Need-clock-with-requires-2 Inv-records μ-records
-clock-with-requires-2 c κs t =
-    let q = some-of (c .before .before .before .before .before .before .before .before .before) in
-    let l = q .0 in
-    let g = q .1 in
-    steps.dots-few l (c .before .before .before .before .before .before .before .before .before .before .before .before .before .before .before .read-record .result) (c .before .before .before .before .before .before .before .before .before .before .before .before .before .before .before .before .before .records .keys) (c .before .before .if6 .entries) (c .before .before .if6 .at) (c .before .before .if6 .own) (c .before .before .if6 .register) (g .parts .keys) (held (c .before .before) l g) (in-use (c .before .before)) (key-here (c .before .before)) (readers.good-now l _ g) (c .if7 .taken)
+element-copy-out-e c = c .before .before .place .ensures .0 (c .before .if5 .taken) .0
 
 records-again-2 : tie.Need-records-again-2 Inv-records μ-records
 records-again-2 c =
@@ -183,12 +163,9 @@ records-again-2 c =
         (
           p .1,
           (
-            d .before .before .before .before .before .before .before .before .before .before .before .before .before .before .before .records .inv .1 .1 .1 .0,
-            (
-              long-under (e .before .before .before),
-              on e (λ l g. readers.grown-entries l _ g (d .before .before .before .before .before .if3 .left) (d .before .before .before .if4 .taken) (fine e)
-                  (steps.dot-now l (c .before .before .before .before .before .before .before .before .before .before .before .before .before .before .before .before .read-record .result) (c .before .before .before .before .before .before .before .before .before .before .before .before .before .before .before .before .before .before .records .keys) (c .before .before .before .if6 .entries) (c .before .before .before .if6 .at) (c .before .before .before .if6 .own) (c .before .before .before .if6 .register) (g .parts .keys) (held (c .before .before .before) l g) (in-use (c .before .before .before)) (key-here (c .before .before .before)) (c .before .if7 .taken) (c .clock-with2 .ensures _ (steps.own-is l (c .before .before .before .before .before .before .before .before .before .before .before .before .before .before .before .before .read-record .result) (c .before .before .before .before .before .before .before .before .before .before .before .before .before .before .before .before .before .before .records .keys) (c .before .before .before .if6 .entries) (c .before .before .before .if6 .at) (c .before .before .before .if6 .own) (c .before .before .before .if6 .register) (g .parts .keys) (held (c .before .before .before) l g) (in-use (c .before .before .before)) (key-here (c .before .before .before)))))),
-            ),
+            long-under (e .before .before .before),
+            on e (λ l g. readers.grown-entries l _ g (d .before .before .before .before .before .if3 .left) (d .before .before .before .if4 .taken) (fine e)
+                (steps.dot-now l (c .before .before .before .before .before .before .before .before .before .before .before .before .before .before .before .before .read-record .result) (c .before .before .before .before .before .before .before .before .before .before .before .before .before .before .before .before .before .before .records .keys) (c .before .before .before .if6 .entries) (c .before .before .before .if6 .at) (c .before .before .before .if6 .own) (c .before .before .before .if6 .register) (g .parts .keys) (held (c .before .before .before) l g) (in-use (c .before .before .before)) (key-here (c .before .before .before)) (c .before .if7 .taken) (c .clock-with2 .ensures _ (steps.own-is l (c .before .before .before .before .before .before .before .before .before .before .before .before .before .before .before .before .read-record .result) (c .before .before .before .before .before .before .before .before .before .before .before .before .before .before .before .before .before .before .records .keys) (c .before .before .before .if6 .entries) (c .before .before .before .if6 .at) (c .before .before .before .if6 .own) (c .before .before .before .if6 .register) (g .parts .keys) (held (c .before .before .before) l g) (in-use (c .before .before .before)) (key-here (c .before .before .before))) (λ _. counts.entry-dots-room l _ (readers.good-now l _ g) (c .before .if7 .taken))))),
           ),
         ),
       ),
@@ -197,21 +174,24 @@ records-again-2 c =
 four : (c : tie.Else8 Inv-records μ-records) (l : List Record) → Grows (c .before .before .before .before .before .before .before .before .before .before .before) l → c .before .before .before .before .before .before .before .before .before .before .before .before .before .before .before .before .before .read-record .result .kind ≡ 4
 four c l g = omega (arith, readers.kind-low l _ g, c .if8 .left, c .before .before .if7 .left, c .before .before .before .before .before .before .before .before .before .if3 .left, c .before .before .before .before .before .before .before .if4 .taken)
 
-few-values : (c : tie.Then9 Inv-records μ-records) → c .before .before .before .before .before .before .if6 .register .len < 4
-few-values c =
-    let q = some-of (c .before .before .before .before .before .before .before .before .before .before .before .before .before) in
-    let l = q .0 in
-    let g = q .1 in
-    steps.values-few l (c .before .before .before .before .before .before .before .before .before .before .before .before .before .before .before .before .before .before .before .read-record .result) (c .before .before .before .before .before .before .before .before .before .before .before .before .before .before .before .before .before .before .before .before .before .records .keys) (c .before .before .before .before .before .before .if6 .entries) (c .before .before .before .before .before .before .if6 .at) (c .before .before .before .before .before .before .if6 .own) (c .before .before .before .before .before .before .if6 .register) (g .parts .keys) (held (c .before .before .before .before .before .before) l g) (in-use (c .before .before .before .before .before .before)) (key-here (c .before .before .before .before .before .before)) (readers.good-now l _ g) (c .before .before .if8 .taken)
+same-index : (c : tie.Then9 Inv-records μ-records) → (c .before .before .before .before .before .before .if6 .register .len ≡ c .before .before .before .before .before .before .before .before .before .before .before .before .before .before .before .before .before .before .before .read-record .result .index) × (c .before .before .before .before .before .before .if6 .register .len < 4)
+same-index c =
+    let n = c .before .before .before .before .before .before .if6 .register .len in
+    let x = c .before .before .before .before .before .before .before .before .before .before .before .before .before .before .before .before .before .before .before .read-record .result .index in
+    (eqb-true n x (both-left (eqb n x) (ltb n 4) (c .if9 .taken)), ltb-true n 4 (both-right (eqb n x) (ltb n 4) (c .if9 .taken)))
+
+other-index : (c : tie.Else9 Inv-records μ-records) (l : List Record) → Grows (c .before .before .before .before .before .before .before .before .before .before .before .before .before) l → c .before .before .before .before .before .before .if6 .register .len ≡ c .before .before .before .before .before .before .before .before .before .before .before .before .before .before .before .before .before .before .before .read-record .result .index → ⊥
+other-index c l g =
+    eqb-false _ _ (readers.needless _ _ (λ _. lt-ltb _ 4 (steps.values-few l (c .before .before .before .before .before .before .before .before .before .before .before .before .before .before .before .before .before .before .before .read-record .result) (c .before .before .before .before .before .before .before .before .before .before .before .before .before .before .before .before .before .before .before .before .before .records .keys) (c .before .before .before .before .before .before .if6 .entries) (c .before .before .before .before .before .before .if6 .at) (c .before .before .before .before .before .before .if6 .own) (c .before .before .before .before .before .before .if6 .register) (g .parts .keys) (held (c .before .before .before .before .before .before) l g) (in-use (c .before .before .before .before .before .before)) (key-here (c .before .before .before .before .before .before)) (readers.good-now l _ g) (c .before .before .if8 .taken))) (c .if9 .left))
 
 mul-value : tie.Need-mul-value Inv-records μ-records
-mul-value c = omega (arith, few-values (c .before))
+mul-value c = omega (arith, same-index (c .before) .1)
 
 element-set-from-value : tie.Need-element-set-from-value Inv-records μ-records
-element-set-from-value c = few-values (c .before)
+element-set-from-value c = same-index (c .before) .1
 
 add-register : tie.Need-add-register Inv-records μ-records
-add-register c = omega (arith, few-values (c .before))
+add-register c = omega (arith, same-index (c .before) .1)
 
 records-again-3 : tie.Need-records-again-3 Inv-records μ-records
 records-again-3 c =
@@ -224,12 +204,9 @@ records-again-3 c =
         (
           p .1,
           (
-            d .before .before .before .before .before .before .before .before .before .before .before .before .before .before .before .records .inv .1 .1 .1 .0,
-            (
-              long-under (e .before .before .before),
-              on e (λ l g. readers.grown-entries l _ g (d .before .before .before .before .before .if3 .left) (d .before .before .before .if4 .taken) (fine e)
-                  (steps.value-now l (c .before .before .before .before .before .before .before .before .before .before .before .before .before .before .before .before .before .before .before .before .read-record .result) (c .before .before .before .before .before .before .before .before .before .before .before .before .before .before .before .before .before .before .before .before .before .before .records .keys) (c .before .before .before .before .before .before .before .if6 .entries) (c .before .before .before .before .before .before .before .if6 .at) (c .before .before .before .before .before .before .before .if6 .own) (c .before .before .before .before .before .before .before .if6 .register) (g .parts .keys) (held (c .before .before .before .before .before .before .before) l g) (in-use (c .before .before .before .before .before .before .before)) (key-here (c .before .before .before .before .before .before .before)) (readers.good-now l _ g) (c .before .before .before .if8 .taken) (c .before .if9 .taken) (c .new .ensures))),
-            ),
+            long-under (e .before .before .before),
+            on e (λ l g. readers.grown-entries l _ g (d .before .before .before .before .before .if3 .left) (d .before .before .before .if4 .taken) (fine e)
+                (steps.value-now l (c .before .before .before .before .before .before .before .before .before .before .before .before .before .before .before .before .before .before .before .before .read-record .result) (c .before .before .before .before .before .before .before .before .before .before .before .before .before .before .before .before .before .before .before .before .before .before .records .keys) (c .before .before .before .before .before .before .before .if6 .entries) (c .before .before .before .before .before .before .before .if6 .at) (c .before .before .before .before .before .before .before .if6 .own) (c .before .before .before .before .before .before .before .if6 .register) (g .parts .keys) (held (c .before .before .before .before .before .before .before) l g) (in-use (c .before .before .before .before .before .before .before)) (key-here (c .before .before .before .before .before .before .before)) (readers.good-now l _ g) (c .before .before .before .if8 .taken) (same-index (c .before) .0) (c .new .ensures))),
           ),
         ),
       ),
@@ -246,42 +223,35 @@ records-again-4 c =
         (
           p .1,
           (
-            d .before .before .before .before .before .before .before .before .before .before .before .before .before .before .before .records .inv .1 .1 .1 .0,
-            (
-              long-under (e .before .before .before),
-              on e (λ l g. readers.grown-entries l _ g (d .before .before .before .before .before .if3 .left) (d .before .before .before .if4 .taken) refl
-                  (steps.value-misfit l (c .before .before .before .before .before .before .before .before .before .before .before .before .before .before .before .before .before .before .before .read-record .result) (c .before .before .before .before .before .before .before .before .before .before .before .before .before .before .before .before .before .before .before .before .before .records .keys) (c .before .before .before .before .before .before .if6 .entries) (c .before .before .before .before .before .before .if6 .at) (c .before .before .before .before .before .before .if6 .own) (c .before .before .before .before .before .before .if6 .register) (g .parts .keys) (held (c .before .before .before .before .before .before) l g) (in-use (c .before .before .before .before .before .before)) (key-here (c .before .before .before .before .before .before)) (c .before .before .if8 .taken) (c .if9 .left) _ _)),
-            ),
+            long-under (e .before .before .before),
+            on e (λ l g. readers.grown-entries l _ g (d .before .before .before .before .before .if3 .left) (d .before .before .before .if4 .taken) refl
+                (steps.value-misfit l (c .before .before .before .before .before .before .before .before .before .before .before .before .before .before .before .before .before .before .before .read-record .result) (c .before .before .before .before .before .before .before .before .before .before .before .before .before .before .before .before .before .before .before .before .before .records .keys) (c .before .before .before .before .before .before .if6 .entries) (c .before .before .before .before .before .before .if6 .at) (c .before .before .before .before .before .before .if6 .own) (c .before .before .before .before .before .before .if6 .register) (g .parts .keys) (held (c .before .before .before .before .before .before) l g) (in-use (c .before .before .before .before .before .before)) (key-here (c .before .before .before .before .before .before)) (c .before .before .if8 .taken) (other-index c l g) _ _)),
           ),
         ),
       ),
     )
 
-in-values : (c : tie.Then10 Inv-records μ-records) → c .before .before .before .before .before .before .before .before .before .before .before .before .before .before .before .before .before .before .before .read-record .result .index < 4
+in-values : (c : tie.Then10 Inv-records μ-records) → (c .before .before .before .before .before .before .before .before .before .before .before .before .before .before .before .before .before .before .before .read-record .result .index < c .before .before .before .before .before .before .if6 .register .len) × (c .before .before .before .before .before .before .before .before .before .before .before .before .before .before .before .before .before .before .before .read-record .result .index < 4)
 in-values c =
-    let q = some-of (c .before .before .before .before .before .before .before .before .before .before .before .before .before) in
-    let l = q .0 in
-    let g = q .1 in
-    steps.in-register l (c .before .before .before .before .before .before .before .before .before .before .before .before .before .before .before .before .before .before .before .read-record .result) (c .before .before .before .before .before .before .before .before .before .before .before .before .before .before .before .before .before .before .before .before .before .records .keys) (c .before .before .before .before .before .before .if6 .entries) (c .before .before .before .before .before .before .if6 .at) (c .before .before .before .before .before .before .if6 .own) (c .before .before .before .before .before .before .if6 .register) (g .parts .keys) (held (c .before .before .before .before .before .before) l g) (in-use (c .before .before .before .before .before .before)) (key-here (c .before .before .before .before .before .before)) (four (c .before .before) l g) (c .if10 .taken) noValueRead (readers.good-now l _ g)
+    let x = c .before .before .before .before .before .before .before .before .before .before .before .before .before .before .before .before .before .before .before .read-record .result .index in
+    let n = c .before .before .before .before .before .before .if6 .register .len in
+    (ltb-true x n (both-left (ltb x n) (ltb x 4) (c .if10 .taken)), ltb-true x 4 (both-right (ltb x n) (ltb x 4) (c .if10 .taken)))
+
+behind-values : (c : tie.Else10 Inv-records μ-records) (l : List Record) → Grows (c .before .before .before .before .before .before .before .before .before .before .before .before .before) l → c .before .before .before .before .before .before .if6 .register .len ≤ c .before .before .before .before .before .before .before .before .before .before .before .before .before .before .before .before .before .before .before .read-record .result .index
+behind-values c l g =
+    ltb-false _ _ (readers.needless _ _ (λ t. lt-ltb _ 4 (steps.in-register l (c .before .before .before .before .before .before .before .before .before .before .before .before .before .before .before .before .before .before .before .read-record .result) (c .before .before .before .before .before .before .before .before .before .before .before .before .before .before .before .before .before .before .before .before .before .records .keys) (c .before .before .before .before .before .before .if6 .entries) (c .before .before .before .before .before .before .if6 .at) (c .before .before .before .before .before .before .if6 .own) (c .before .before .before .before .before .before .if6 .register) (g .parts .keys) (held (c .before .before .before .before .before .before) l g) (in-use (c .before .before .before .before .before .before)) (key-here (c .before .before .before .before .before .before)) (four (c .before .before) l g) (ltb-true _ _ t) noValueRead (readers.good-now l _ g))) (c .if10 .left))
 
 mul-v : tie.Need-mul-v Inv-records μ-records
-mul-v c = omega (arith, in-values c)
+mul-v c = omega (arith, in-values c .1)
 
 element-copy-out-v : tie.Need-element-copy-out-v Inv-records μ-records
-element-copy-out-v c = in-values c
-
-value-dot-requires : tie.Need-value-dot-requires Inv-records μ-records
-value-dot-requires c κs =
-    let q = some-of (c .before .before .before .before .before .before .before .before .before .before .before .before .before .before) in
-    let l = q .0 in
-    let g = q .1 in
-    steps.value-dots-few l (c .before .before .before .before .before .before .before .before .before .before .before .before .before .before .before .before .before .before .before .before .read-record .result) (c .before .before .before .before .before .before .before .before .before .before .before .before .before .before .before .before .before .before .before .before .before .before .records .keys) (c .before .before .before .before .before .before .before .if6 .entries) (c .before .before .before .before .before .before .before .if6 .at) (c .before .before .before .before .before .before .before .if6 .own) (c .before .before .before .before .before .before .before .if6 .register) (g .parts .keys) (held (c .before .before .before .before .before .before .before) l g) (in-use (c .before .before .before .before .before .before .before)) (key-here (c .before .before .before .before .before .before .before)) (four (c .before .before .before) l g) (c .before .if10 .taken) noValueRead (readers.good-now l _ g)
+element-copy-out-v c = in-values c .1
 
 mul-value-2 : tie.Need-mul-value-2 Inv-records μ-records
-mul-value-2 c = omega (arith, in-values (c .before .before))
+mul-value-2 c = omega (arith, in-values (c .before .before) .1)
 
 element-set-from-value-2 : tie.Need-element-set-from-value-2 Inv-records μ-records
-element-set-from-value-2 c = in-values (c .before .before)
+element-set-from-value-2 c = in-values (c .before .before) .1
 
 records-again-5 : tie.Need-records-again-5 Inv-records μ-records
 records-again-5 c =
@@ -294,12 +264,9 @@ records-again-5 c =
         (
           p .1,
           (
-            d .before .before .before .before .before .before .before .before .before .before .before .before .before .before .before .records .inv .1 .1 .1 .0,
-            (
-              long-under (e .before .before .before),
-              on e (λ l g. readers.grown-entries l _ g (d .before .before .before .before .before .if3 .left) (d .before .before .before .if4 .taken) (fine e)
-                  (steps.value-dot-now l (c .before .before .before .before .before .before .before .before .before .before .before .before .before .before .before .before .before .before .before .before .before .read-record .result) (c .before .before .before .before .before .before .before .before .before .before .before .before .before .before .before .before .before .before .before .before .before .before .before .records .keys) (c .before .before .before .before .before .before .before .before .if6 .entries) (c .before .before .before .before .before .before .before .before .if6 .at) (c .before .before .before .before .before .before .before .before .if6 .own) (c .before .before .before .before .before .before .before .before .if6 .register) (g .parts .keys) (held (c .before .before .before .before .before .before .before .before) l g) (in-use (c .before .before .before .before .before .before .before .before)) (key-here (c .before .before .before .before .before .before .before .before)) (four (c .before .before .before .before) l g) (c .before .before .if10 .taken) noValueRead (c .value-dot .ensures _ (steps.value-clock l (c .before .before .before .before .before .before .before .before .before .before .before .before .before .before .before .before .before .before .before .before .before .read-record .result) (c .before .before .before .before .before .before .before .before .before .before .before .before .before .before .before .before .before .before .before .before .before .before .before .records .keys) (c .before .before .before .before .before .before .before .before .if6 .entries) (c .before .before .before .before .before .before .before .before .if6 .at) (c .before .before .before .before .before .before .before .before .if6 .own) (c .before .before .before .before .before .before .before .before .if6 .register) (g .parts .keys) (held (c .before .before .before .before .before .before .before .before) l g) (in-use (c .before .before .before .before .before .before .before .before)) (key-here (c .before .before .before .before .before .before .before .before)) (four (c .before .before .before .before) l g) (c .before .before .if10 .taken) noValueRead)))),
-            ),
+            long-under (e .before .before .before),
+            on e (λ l g. readers.grown-entries l _ g (d .before .before .before .before .before .if3 .left) (d .before .before .before .if4 .taken) (fine e)
+                (steps.value-dot-now l (c .before .before .before .before .before .before .before .before .before .before .before .before .before .before .before .before .before .before .before .before .before .read-record .result) (c .before .before .before .before .before .before .before .before .before .before .before .before .before .before .before .before .before .before .before .before .before .before .before .records .keys) (c .before .before .before .before .before .before .before .before .if6 .entries) (c .before .before .before .before .before .before .before .before .if6 .at) (c .before .before .before .before .before .before .before .before .if6 .own) (c .before .before .before .before .before .before .before .before .if6 .register) (g .parts .keys) (held (c .before .before .before .before .before .before .before .before) l g) (in-use (c .before .before .before .before .before .before .before .before)) (key-here (c .before .before .before .before .before .before .before .before)) (four (c .before .before .before .before) l g) (in-values (c .before .before) .0) noValueRead (c .value-dot .ensures _ (steps.value-clock l (c .before .before .before .before .before .before .before .before .before .before .before .before .before .before .before .before .before .before .before .before .before .read-record .result) (c .before .before .before .before .before .before .before .before .before .before .before .before .before .before .before .before .before .before .before .before .before .before .before .records .keys) (c .before .before .before .before .before .before .before .before .if6 .entries) (c .before .before .before .before .before .before .before .before .if6 .at) (c .before .before .before .before .before .before .before .before .if6 .own) (c .before .before .before .before .before .before .before .before .if6 .register) (g .parts .keys) (held (c .before .before .before .before .before .before .before .before) l g) (in-use (c .before .before .before .before .before .before .before .before)) (key-here (c .before .before .before .before .before .before .before .before)) (four (c .before .before .before .before) l g) (in-values (c .before .before) .0) noValueRead) (counts.value-dots-room l _ (readers.good-now l _ g) (four (c .before .before .before .before) l g))))),
           ),
         ),
       ),
@@ -316,12 +283,9 @@ records-again-6 c =
         (
           p .1,
           (
-            d .before .before .before .before .before .before .before .before .before .before .before .before .before .before .before .records .inv .1 .1 .1 .0,
-            (
-              long-under (e .before .before .before),
-              on e (λ l g. readers.grown-entries l _ g (d .before .before .before .before .before .if3 .left) (d .before .before .before .if4 .taken) refl
-                  (steps.value-dot-misfit l (c .before .before .before .before .before .before .before .before .before .before .before .before .before .before .before .before .before .before .before .read-record .result) (c .before .before .before .before .before .before .before .before .before .before .before .before .before .before .before .before .before .before .before .before .before .records .keys) (c .before .before .before .before .before .before .if6 .entries) (c .before .before .before .before .before .before .if6 .at) (c .before .before .before .before .before .before .if6 .own) (c .before .before .before .before .before .before .if6 .register) (g .parts .keys) (held (c .before .before .before .before .before .before) l g) (in-use (c .before .before .before .before .before .before)) (key-here (c .before .before .before .before .before .before)) (four (c .before .before) l g) (c .if10 .left) _ _)),
-            ),
+            long-under (e .before .before .before),
+            on e (λ l g. readers.grown-entries l _ g (d .before .before .before .before .before .if3 .left) (d .before .before .before .if4 .taken) refl
+                (steps.value-dot-misfit l (c .before .before .before .before .before .before .before .before .before .before .before .before .before .before .before .before .before .before .before .read-record .result) (c .before .before .before .before .before .before .before .before .before .before .before .before .before .before .before .before .before .before .before .before .before .records .keys) (c .before .before .before .before .before .before .if6 .entries) (c .before .before .before .before .before .before .if6 .at) (c .before .before .before .before .before .before .if6 .own) (c .before .before .before .before .before .before .if6 .register) (g .parts .keys) (held (c .before .before .before .before .before .before) l g) (in-use (c .before .before .before .before .before .before)) (key-here (c .before .before .before .before .before .before)) (four (c .before .before) l g) (behind-values c l g) _ _)),
           ),
         ),
       ),
@@ -329,41 +293,43 @@ records-again-6 c =
 
 -- no entry has the record's key
 absent : (c : tie.Else5 Inv-records μ-records) (l : List Record) → Grows (c .before .before .before .before .before .before) l → some (λ k. eqb k (c .before .before .before .before .before .before .before .before .before .before .before .before .read-record .result .key)) (entryKeys l) ≡ false
-absent c l g = readers.key-absent l _ g (small (c .before .before .before .before .before .before) .1) (c .before .place .ensures .1 (c .if5 .left))
+absent c l g = readers.key-absent l _ g (c .before .place .ensures .1 (c .if5 .left))
 
-new-room : (c : tie.Then11 Inv-records μ-records) → c .before .before .before .before .before .before .before .before .before .before .before .before .before .before .before .before .records .entries .len < 16
+new-room : (c : tie.Then11 Inv-records μ-records) → (c .before .before .before .before .before .before .before .before .before .before .before .before .before .before .read-record .result .kind ≡ 2) × (c .before .before .before .before .before .before .before .before .before .before .before .before .before .before .before .before .records .entries .len < 16)
 new-room c =
-    let q = some-of (c .before .before .before .before .before .before .before .before) in
+    let k = c .before .before .before .before .before .before .before .before .before .before .before .before .before .before .read-record .result .kind in
+    let n = c .before .before .before .before .before .before .before .before .before .before .before .before .before .before .before .before .records .entries .len in
+    (eqb-true k 2 (both-left (eqb k 2) (ltb n 16) (c .if11 .taken)), ltb-true n 16 (both-right (eqb k 2) (ltb n 16) (c .if11 .taken)))
+
+no-dot : (c : tie.Else11 Inv-records μ-records) (l : List Record) → Grows (c .before .before .before .before .before .before .before .before) l → c .before .before .before .before .before .before .before .before .before .before .before .before .before .before .read-record .result .kind ≡ 2 → ⊥
+no-dot c l g =
     let t = c .before .before .before .before .before .before .before .before .before .before .before .before .before .before .before .before .records in
-    steps.new-room (q .0) _ (t .keys) (t .entries) (t .at) (t .own) (t .register) (q .1 .parts .keys) (q .1 .parts .entries) (absent (c .before .before) (q .0) (q .1)) (readers.good-now (q .0) _ (q .1)) (c .if11 .taken)
+    eqb-false _ _ (readers.needless _ _ (λ k. lt-ltb _ 16 (steps.new-room l _ (t .keys) (t .entries) (t .at) (t .own) (t .register) (g .parts .keys) (g .parts .entries) (absent (c .before .before) l g) (readers.good-now l _ g) (eqb-true _ 2 k))) (c .if11 .left))
 
 add-entries : tie.Need-add-entries Inv-records μ-records
-add-entries c = omega (arith, new-room c)
+add-entries c = omega (arith, new-room c .1)
 
 mul-keys : tie.Need-mul-keys Inv-records μ-records
-mul-keys c = omega (arith, new-room c)
+mul-keys c = omega (arith, new-room c .1)
 
 array-write-keys : tie.Need-array-write-keys Inv-records μ-records
-array-write-keys c = new-room c
+array-write-keys c = new-room c .1
 
 records-again-7 : tie.Need-records-again-7 Inv-records μ-records
 records-again-7 c =
     let d = c .before .before in
     let e = d .before .before .before .before .before .before .before .before in
     let t = e .before .before .before .before .before .before .before .before .records in
-    let room = new-room d in (
+    let room = new-room d .1 in (
       more e,
       (
         omega (arith, room),
         (
           omega arith,
           (
-            t .inv .1 .1 .1 .0,
-            (
-              long-under (e .before .before .before),
-              on e (λ l g. readers.grown-entries l _ g (d .before .before .before .before .before .before .if3 .left) (d .before .before .before .before .if4 .taken) (fine e)
-                  (steps.new-now l _ (t .keys) (t .entries) (t .at) (t .own) (t .register) (g .parts .keys) (g .parts .entries) (absent (d .before .before) l g) (readers.good-now l _ g) (d .if11 .taken) (c .before .first-dot .ensures) (c .new2 .ensures))),
-            ),
+            long-under (e .before .before .before),
+            on e (λ l g. readers.grown-entries l _ g (d .before .before .before .before .before .before .if3 .left) (d .before .before .before .before .if4 .taken) (fine e)
+                (steps.new-now l _ (t .keys) (t .entries) (t .at) (t .own) (t .register) (g .parts .keys) (g .parts .entries) (absent (d .before .before) l g) (readers.good-now l _ g) (new-room d .0) (c .before .first-dot .ensures) (c .new2 .ensures))),
           ),
         ),
       ),
@@ -379,50 +345,44 @@ records-again-8 c =
         (
           v .1 .1 .0,
           (
-            v .1 .1 .1 .0,
-            (
-              long-under (e .before .before .before),
-              on e (λ l g. readers.grown-entries l _ g (c .before .before .before .before .before .before .if3 .left) (c .before .before .before .before .if4 .taken) refl
-                  (steps.entry-lost l _ (absent (c .before .before) l g) (readers.kind-low l _ g) (c .before .before .before .before .before .before .if3 .left) (c .before .before .before .before .if4 .taken) (c .if11 .left) _ _)),
-            ),
+            long-under (e .before .before .before),
+            on e (λ l g. readers.grown-entries l _ g (c .before .before .before .before .before .before .if3 .left) (c .before .before .before .before .if4 .taken) refl
+                (steps.entry-lost l _ (absent (c .before .before) l g) (readers.kind-low l _ g) (c .before .before .before .before .before .before .if3 .left) (c .before .before .before .before .if4 .taken) (no-dot c l g) _ _)),
           ),
         ),
       ),
     )
 
-in-waiting : (c : tie.Then12 Inv-records μ-records) → c .before .before .before .before .before .before .before .before .before .before .before .before .read-record .result .index < 8
-in-waiting c = omega (arith, c .before .before .before .before .before .before .before .before .before .before .before .before .before .before .records .inv .1 .1 .1 .0, c .if12 .taken)
+in-waiting : (c : tie.Then12 Inv-records μ-records) → (c .before .before .before .before .before .before .before .before .before .before .before .before .read-record .result .index < c .before .before .before .before .before .before .before .before .before .before .before .before .before .before .records .waiting .len) × (c .before .before .before .before .before .before .before .before .before .before .before .before .read-record .result .index < 8)
+in-waiting c =
+    let x = c .before .before .before .before .before .before .before .before .before .before .before .before .read-record .result .index in
+    let n = c .before .before .before .before .before .before .before .before .before .before .before .before .before .before .records .waiting .len in
+    (ltb-true x n (both-left (ltb x n) (ltb x 8) (c .if12 .taken)), ltb-true x 8 (both-right (ltb x n) (ltb x 8) (c .if12 .taken)))
+
+behind-waiting : (c : tie.Else12 Inv-records μ-records) (l : List Record) → Grows (c .before .before .before .before .before .before) l → c .before .before .before .before .before .before .before .before .before .before .before .before .before .before .records .waiting .len ≤ c .before .before .before .before .before .before .before .before .before .before .before .before .read-record .result .index
+behind-waiting c l g =
+    ltb-false _ _ (readers.needless _ _ (λ t. lt-ltb (c .before .before .before .before .before .before .before .before .before .before .before .before .read-record .result .index) 8 (omega (arith, ltb-true (c .before .before .before .before .before .before .before .before .before .before .before .before .read-record .result .index) (c .before .before .before .before .before .before .before .before .before .before .before .before .before .before .records .waiting .len) t, waits.few-waiting l _ (c .before .before .before .before .before .before .before .before .before .before .before .before .before .before .records .waiting) (readers.waiting-so-far l _ g)))) (c .if12 .left))
 
 mul-w : tie.Need-mul-w Inv-records μ-records
-mul-w c = omega (arith, in-waiting c)
+mul-w c = omega (arith, in-waiting c .1)
 
 element-copy-out-w : tie.Need-element-copy-out-w Inv-records μ-records
-element-copy-out-w c = in-waiting c
-
-removal-dot-requires : tie.Need-removal-dot-requires Inv-records μ-records
-removal-dot-requires c κs =
-    let q = some-of (c .before .before .before .before .before .before .before .before .before) in
-    waits.removal-dots-few (q .0) _ (c .before .before .before .before .before .before .before .before .before .before .before .before .before .before .before .before .before .records .waiting) (readers.waiting-so-far (q .0) _ (q .1)) (c .before .before .before .if12 .taken) noRemovalRead (c .if13 .taken)
+element-copy-out-w c = in-waiting c .1
 
 mul-more : tie.Need-mul-more Inv-records μ-records
-mul-more c = omega (arith, in-waiting (c .before .before .before .before))
+mul-more c = omega (arith, in-waiting (c .before .before .before .before) .1)
 
 element-set-from-more : tie.Need-element-set-from-more Inv-records μ-records
-element-set-from-more c = in-waiting (c .before .before .before .before)
+element-set-from-more c = in-waiting (c .before .before .before .before) .1
 
 six : (c : tie.Else13 Inv-records μ-records) (l : List Record) → Grows (c .before .before .before .before .before .before .before .before .before) l → c .before .before .before .before .before .before .before .before .before .before .before .before .before .before .before .read-record .result .kind ≡ 6
 six c l g = omega (arith, readers.kind-high l _ g, c .if13 .left, c .before .before .before .before .before .if4 .left)
 
-removal-key-requires : tie.Need-removal-key-requires Inv-records μ-records
-removal-key-requires c κs =
-    let q = some-of (c .before .before .before .before .before .before .before .before .before) in
-    waits.removal-keys-few (q .0) _ (c .before .before .before .before .before .before .before .before .before .before .before .before .before .before .before .before .before .records .waiting) (readers.waiting-so-far (q .0) _ (q .1)) (c .before .before .before .if12 .taken) noRemovalRead (six c (q .0) (q .1))
-
 mul-more-2 : tie.Need-mul-more-2 Inv-records μ-records
-mul-more-2 c = omega (arith, in-waiting (c .before .before .before .before))
+mul-more-2 c = omega (arith, in-waiting (c .before .before .before .before) .1)
 
 element-set-from-more-2 : tie.Need-element-set-from-more-2 Inv-records μ-records
-element-set-from-more-2 c = in-waiting (c .before .before .before .before)
+element-set-from-more-2 c = in-waiting (c .before .before .before .before) .1
 
 records-again-9 : tie.Need-records-again-9 Inv-records μ-records
 records-again-9 c =
@@ -435,14 +395,11 @@ records-again-9 c =
         (
           v .1 .1 .0,
           (
-            v .1 .1 .1 .0,
-            (
-              long-under (e .before .before .before),
-              on e (λ l g. let s = readers.waiting-so-far l _ g in let h = c .before .before .before .before .if12 .taken in
-                  readers.grown-waiting l _ g (c .before .before .before .before .before .before .if4 .left) (fine e)
-                  (waits.dot-now l _ (t .waiting) s h noRemovalRead (c .before .if13 .taken)
-                  (waits.stored l _ (t .waiting) s h noRemovalRead (c .removal-dot .ensures _ _ (waits.removal-here l _ (t .waiting) s h noRemovalRead))))),
-            ),
+            long-under (e .before .before .before),
+            on e (λ l g. let s = readers.waiting-so-far l _ g in let h = in-waiting (c .before .before .before .before) .0 in
+                readers.grown-waiting l _ g (c .before .before .before .before .before .before .if4 .left) (fine e)
+                (waits.dot-now l _ (t .waiting) s h noRemovalRead (c .before .if13 .taken)
+                (waits.stored l _ (t .waiting) s h noRemovalRead (c .removal-dot .ensures _ _ (waits.removal-here l _ (t .waiting) s h noRemovalRead) (counts.waiting-dots-room l _ (s .good) (c .before .if13 .taken)))))),
           ),
         ),
       ),
@@ -459,40 +416,42 @@ records-again-10 c =
         (
           v .1 .1 .0,
           (
-            v .1 .1 .1 .0,
-            (
-              long-under (e .before .before .before),
-              on e (λ l g. let s = readers.waiting-so-far l _ g in let h = c .before .before .before .before .if12 .taken in
-                  readers.grown-waiting l _ g (c .before .before .before .before .before .before .if4 .left) (fine e)
-                  (waits.key-now l _ (t .waiting) s h noRemovalRead (six (c .before) l g)
-                  (waits.stored l _ (t .waiting) s h noRemovalRead (c .removal-key .ensures _ _ (waits.removal-here l _ (t .waiting) s h noRemovalRead))))),
-            ),
+            long-under (e .before .before .before),
+            on e (λ l g. let s = readers.waiting-so-far l _ g in let h = in-waiting (c .before .before .before .before) .0 in
+                readers.grown-waiting l _ g (c .before .before .before .before .before .before .if4 .left) (fine e)
+                (waits.key-now l _ (t .waiting) s h noRemovalRead (six (c .before) l g)
+                (waits.stored l _ (t .waiting) s h noRemovalRead (c .removal-key .ensures _ _ (waits.removal-here l _ (t .waiting) s h noRemovalRead) (waits.removal-keys-few l _ (s .good) (six (c .before) l g)))))),
           ),
         ),
       ),
     )
 
 -- a waiting clock that is the next
-next-clock : (c : tie.Then14 Inv-records μ-records) → (c .before .before .before .before .before .before .before .before .before .before .before .before .before .before .read-record .result .kind ≡ 5) × (c .before .before .before .before .before .before .before .before .before .before .before .before .before .before .read-record .result .index ≡ c .before .before .before .before .before .before .before .before .before .before .before .before .before .before .before .before .records .waiting .len)
+next-clock : (c : tie.Then14 Inv-records μ-records) → (c .before .before .before .before .before .before .before .before .before .before .before .before .before .before .read-record .result .kind ≡ 5) × ((c .before .before .before .before .before .before .before .before .before .before .before .before .before .before .read-record .result .index ≡ c .before .before .before .before .before .before .before .before .before .before .before .before .before .before .before .before .records .waiting .len) × (c .before .before .before .before .before .before .before .before .before .before .before .before .before .before .read-record .result .index < 8))
 next-clock c =
     let r = c .before .before .before .before .before .before .before .before .before .before .before .before .before .before .read-record .result in
     let n = c .before .before .before .before .before .before .before .before .before .before .before .before .before .before .before .before .records .waiting .len in
-    (eqb-true (r .kind) 5 (both-left (eqb (r .kind) 5) (eqb (r .index) n) (c .if14 .taken)), eqb-true (r .index) n (both-right (eqb (r .kind) 5) (eqb (r .index) n) (c .if14 .taken)))
+    let h = both-right (eqb (r .kind) 5) (eqb (r .index) n && ltb (r .index) 8) (c .if14 .taken) in
+    (eqb-true (r .kind) 5 (both-left (eqb (r .kind) 5) (eqb (r .index) n && ltb (r .index) 8) (c .if14 .taken)), (eqb-true (r .index) n (both-left (eqb (r .index) n) (ltb (r .index) 8) h), ltb-true (r .index) 8 (both-right (eqb (r .index) n) (ltb (r .index) 8) h)))
 
-waits-few : (c : tie.Then14 Inv-records μ-records) → c .before .before .before .before .before .before .before .before .before .before .before .before .before .before .read-record .result .index < 8
-waits-few c =
-    let q = some-of (c .before .before .before .before .before .before .before .before) in
-    let k = next-clock c in
-    omega (arith, k .1, waits.new-waiting-room (q .0) _ (c .before .before .before .before .before .before .before .before .before .before .before .before .before .before .before .before .records .waiting) (readers.waiting-so-far (q .0) _ (q .1)) (k .0) (k .1))
+not-next : (c : tie.Else14 Inv-records μ-records) (l : List Record) → Grows (c .before .before .before .before .before .before .before .before) l → (eqb (c .before .before .before .before .before .before .before .before .before .before .before .before .before .before .read-record .result .kind) 5 && eqb (c .before .before .before .before .before .before .before .before .before .before .before .before .before .before .read-record .result .index) (c .before .before .before .before .before .before .before .before .before .before .before .before .before .before .before .before .records .waiting .len)) ≡ false
+not-next c l g =
+    let r = c .before .before .before .before .before .before .before .before .before .before .before .before .before .before .read-record .result in
+    let w = c .before .before .before .before .before .before .before .before .before .before .before .before .before .before .before .before .records .waiting in
+    readers.needless _ (ltb (r .index) 8)
+    (λ t. let k = eqb-true (r .kind) 5 (both-left (eqb (r .kind) 5) (eqb (r .index) (w .len)) t) in
+    let i = eqb-true (r .index) (w .len) (both-right (eqb (r .kind) 5) (eqb (r .index) (w .len)) t) in
+    lt-ltb (r .index) 8 (omega (arith, i, waits.new-waiting-room l _ w (readers.waiting-so-far l _ g) k i)))
+    (and-assoc (eqb (r .kind) 5) (eqb (r .index) (w .len)) (ltb (r .index) 8) ∙ c .if14 .left)
 
 mul-new : tie.Need-mul-new Inv-records μ-records
-mul-new c = omega (arith, waits-few (c .before))
+mul-new c = omega (arith, next-clock (c .before) .1 .1)
 
 element-set-from-new : tie.Need-element-set-from-new Inv-records μ-records
-element-set-from-new c = waits-few (c .before)
+element-set-from-new c = next-clock (c .before) .1 .1
 
 add-waiting : tie.Need-add-waiting Inv-records μ-records
-add-waiting c = omega (arith, waits-few (c .before))
+add-waiting c = omega (arith, next-clock (c .before) .1 .1)
 
 records-again-11 : tie.Need-records-again-11 Inv-records μ-records
 records-again-11 c =
@@ -506,12 +465,9 @@ records-again-11 c =
         (
           v .1 .1 .0,
           (
-            omega (arith, waits-few (c .before)),
-            (
-              long-under (e .before .before .before),
-              on e (λ l g. let s = readers.waiting-so-far l _ g in
-                  readers.grown-waiting l _ g (c .before .before .before .before .before .if4 .left) (fine e) (waits.new-now l _ (t .waiting) s (k .0) (k .1) (waits.added l _ (t .waiting) s (k .0) (k .1) (c .new-removal .ensures)))),
-            ),
+            long-under (e .before .before .before),
+            on e (λ l g. let s = readers.waiting-so-far l _ g in
+                readers.grown-waiting l _ g (c .before .before .before .before .before .if4 .left) (fine e) (waits.new-now l _ (t .waiting) s (k .0) (k .1 .0) (waits.added l _ (t .waiting) s (k .0) (k .1 .0) (c .new-removal .ensures)))),
           ),
         ),
       ),
@@ -528,12 +484,9 @@ records-again-12 c =
         (
           v .1 .1 .0,
           (
-            v .1 .1 .1 .0,
-            (
-              long-under (e .before .before .before),
-              on e (λ l g. readers.grown-waiting l _ g (c .before .before .before .before .if4 .left) refl
-                  (waits.removal-lost l _ (t .waiting) (readers.waiting-so-far l _ g) (c .before .before .before .before .if4 .left) (readers.kind-high l _ g) (c .before .before .if12 .left) (c .if14 .left))),
-            ),
+            long-under (e .before .before .before),
+            on e (λ l g. readers.grown-waiting l _ g (c .before .before .before .before .if4 .left) refl
+                (waits.removal-lost l _ (t .waiting) (readers.waiting-so-far l _ g) (c .before .before .before .before .if4 .left) (readers.kind-high l _ g) (behind-waiting (c .before .before) l g) (not-next c l g))),
           ),
         ),
       ),
@@ -549,14 +502,11 @@ records-again-13 c =
         (
           v .1 .1 .0,
           (
-            v .1 .1 .1 .0,
-            (
-              long-under (c .before .before .before),
-              feed-on _ (v .1 .1 .1 .1 .1) (omega (arith, c .before .before .before .before .before .before .before .records-test .taken))
-                  (further-on _ (λ l f. rw (← c .before .before .before .before .before .before .read-record .ensures)
-                  (let now = c .before .before .before .before .take .ensures l (f .scanned) (readers.counted l _ _ f) in
-                  readers.still-lost l _ _ f _ _ now (readers.recounted l _ _ f now (in-under (c .before .before .before)) (c .before .before .before .tallied .ensures)) (c .before .if1 .taken) (not-false (t .lost) (c .if2 .left))))),
-            ),
+            long-under (c .before .before .before),
+            feed-on _ (v .1 .1 .1 .1) (omega (arith, c .before .before .before .before .before .before .before .records-test .taken))
+                (further-on _ (λ l f. rw (← c .before .before .before .before .before .before .read-record .ensures)
+                (let now = c .before .before .before .before .take .ensures l (f .scanned) (readers.counted l _ _ f) in
+                readers.still-lost l _ _ f _ _ now (readers.recounted l _ _ f now (in-under (c .before .before .before)) (c .before .before .before .tallied .ensures)) (c .before .if1 .taken) (not-false (t .lost) (c .if2 .left))))),
           ),
         ),
       ),
@@ -571,12 +521,9 @@ records-again-14 c =
         (
           v .1 .1 .0,
           (
-            v .1 .1 .1 .0,
-            (
-              long-under (c .before .before),
-              feed-on _ (v .1 .1 .1 .1 .1) (omega (arith, c .before .before .before .before .before .before .records-test .taken))
-                  (further-on _ (λ l f. rw (← c .before .before .before .before .before .read-record .ensures) (readers.scan-stops l _ (c .before .before .before .take .ensures l (f .scanned) (readers.counted l _ _ f)) (c .if1 .left)))),
-            ),
+            long-under (c .before .before),
+            feed-on _ (v .1 .1 .1 .1) (omega (arith, c .before .before .before .before .before .before .records-test .taken))
+                (further-on _ (λ l f. rw (← c .before .before .before .before .before .read-record .ensures) (readers.scan-stops l _ (c .before .before .before .take .ensures l (f .scanned) (readers.counted l _ _ f)) (c .if1 .left)))),
           ),
         ),
       ),
@@ -621,8 +568,8 @@ records-less-12 c = less (c .before .before .before .before .before .before .bef
 mul-t39 : tie.Need-mul-t39 Inv-records μ-records
 mul-t39 c = let v = c .before .records .inv in omega (arith, v .1 .0, v .1 .1 .0)
 
-array-read-t110 : tie.Need-array-read-t110 Inv-records μ-records
-array-read-t110 c = let v = c .before .records .inv in omega (arith, v .1 .0, v .1 .1 .0)
+array-read-t121 : tie.Need-array-read-t121 Inv-records μ-records
+array-read-t121 c = let v = c .before .records .inv in omega (arith, v .1 .0, v .1 .1 .0)
 
 mul-hand-3 : tie.Need-mul-hand-3 Inv-records μ-records
 mul-hand-3 c = let v = c .before .records .inv in omega (arith, v .1 .0, v .1 .1 .0)
@@ -632,9 +579,8 @@ element-set-from-hand-3 c = let v = c .before .records .inv in omega (arith, v .
 
 returns : tie.Need-returns Inv-records μ-records
 returns c l m =
-    let v = c .before .records .inv in
-    let f = feed-end _ (v .1 .1 .1 .1 .1) (omega (arith, c .records-test .left)) in
-    record { so-far = rw (← f .2) (f .1 .all l (m .so-far)); few = (v .1 .0, v .1 .1 .1 .0) }
+    let f = feed-end _ (c .before .records .inv .1 .1 .1 .1) (omega (arith, c .records-test .left)) in
+    rw (← f .2) (f .1 .all l m)
 
 pub feed-spec : {M : Type 1} → statement M
 feed-spec =
@@ -649,10 +595,10 @@ feed-spec =
     (λ c. search needs)
     (λ c. search needs)
     (λ c. search needs)
-    take-requires
+    (λ c κs. search needs)
     (λ c κs. search needs)
     (λ c. search needs)
-    clock-with-requires
+    (λ c κs. search needs)
     records-less
     records-again
     place-requires
@@ -662,7 +608,7 @@ feed-spec =
     element-set-from-hand
     mul-e
     element-copy-out-e
-    clock-with-requires-2
+    (λ c κs. search needs)
     records-less-2
     records-again-2
     (λ c. search needs)
@@ -677,15 +623,15 @@ feed-spec =
     (λ c. search needs)
     mul-v
     element-copy-out-v
-    value-dot-requires
+    (λ c κs. search needs)
     mul-value-2
     element-set-from-value-2
     records-less-5
     records-again-5
     records-less-6
     records-again-6
-    mul-t79
-    array-read-t82
+    mul-t86
+    array-read-t89
     mul-hand-2
     element-set-from-hand-2
     add-entries
@@ -700,12 +646,12 @@ feed-spec =
     (λ c. search needs)
     mul-w
     element-copy-out-w
-    removal-dot-requires
+    (λ c κs. search needs)
     mul-more
     element-set-from-more
     records-less-9
     records-again-9
-    removal-key-requires
+    (λ c κs. search needs)
     mul-more-2
     element-set-from-more-2
     records-less-10
@@ -723,7 +669,7 @@ feed-spec =
     (λ c. search needs)
     records-again-14
     mul-t39
-    array-read-t110
+    array-read-t121
     mul-hand-3
     element-set-from-hand-3
     returns)

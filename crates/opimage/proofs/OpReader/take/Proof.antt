@@ -1,12 +1,10 @@
 -- `OpReader::take` meets its contract. Assumes nothing.
 use mathlib.Core.Path.{sym, _∙_}
 use Rattle.scan.proofs.Scanning.{scan-before, none-under}
+use borrow.Author.Needs.{needs}
 use native.Mathlib.Omega.{arith}
 use Rattle.opimage.proofs.OpReader.take.Statement.{statement}
 use Rattle.opimage.proofs.OpReader.take.Tie as tie
-
-take-requires : tie.Need-take-requires
-take-requires c κs = let p = c .before .pre in (p .0, p .1 .scanned)
 
 with-requires : tie.Need-with-requires
 with-requires c κs =
@@ -29,7 +27,7 @@ pub take-spec : {M : Type 1} → statement M
 take-spec =
     tie.close
     (tie.spec
-    take-requires
+    (λ c κs. search needs)
     with-requires
     returns
     returns-2)

@@ -20,23 +20,11 @@ in-counts start h = search needs
 counted-requires : tie.Need-counted-requires
 counted-requires c κs = let p = c .before .before .before .before .before .pre in kind-known (p .1 .0) _ (sym (p .1 .1 .1 .number) ∙ p .0)
 
-clock-with-requires : tie.Need-clock-with-requires
-clock-with-requires c κs t =
-    let p = c .before .before .before .before .before .before .before .before .before .before .before .pre in
-    let e = p .1 .1 .0 .under in
-    omega (arith, ap (λ k. k .len) e, dots-room 7 12 (p .1 .0) _ (sym (p .1 .1 .1 .number) ∙ p .0) 8 (eqb-true _ 8 t) (λ b. omega arith) refl refl)
-
 keys-with-requires : tie.Need-keys-with-requires
 keys-with-requires c κs t =
     let p = c .before .before .before .before .before .before .before .before .before .before .before .before .before .pre in
     let e = p .1 .1 .0 .keys in
     omega (arith, ap (λ k. k .len) e, keys-room (p .1 .0) _ (sym (p .1 .1 .1 .number) ∙ p .0) t)
-
-clock-with-requires-2 : tie.Need-clock-with-requires-2
-clock-with-requires-2 c κs t =
-    let p = c .before .before .before .before .before .before .before .before .before .before .before .before .before .before .before .pre in
-    let e = p .1 .1 .0 .put in
-    omega (arith, ap (λ k. k .len) e, dots-room 7 12 (p .1 .0) _ (sym (p .1 .1 .1 .number) ∙ p .0) 12 (eqb-true _ 12 t) (λ b. omega arith) refl refl)
 
 returns : tie.Need-returns
 returns c l p s =
@@ -53,9 +41,9 @@ returns c l p s =
         counts = rw (at-counts .counted .ensures) (counts-snoc (start .args .self .counts) l _ (in-counts start (kind-known l _ z)) (p .counts));
         head = at-head .latest .ensures ∙ rw (p .head) (sym (record-snoc 10 l _));
         value = at-value .latest-number .ensures ∙ rw (p .value) (sym (number-snoc 11 l _));
-        under = at-under .clock-with .ensures _ (p .under) ∙ ap clockOf (sym (dots-snoc (isKind 8) l _));
+        under = at-under .clock-with .ensures _ (p .under) (λ t. dots-room 7 12 l _ z 8 (eqb-true _ 8 t) (λ b. omega arith) refl refl) ∙ ap clockOf (sym (dots-snoc (isKind 8) l _));
         keys = at-keys .keys-with .ensures _ (p .keys) ∙ ap keysAs (sym (keys-snoc (isKind 9) l _));
-        put = c .clock-with2 .ensures _ (p .put) ∙ ap clockOf (sym (dots-snoc (isKind 12) l _));
+        put = c .clock-with2 .ensures _ (p .put) (λ t. dots-room 7 12 l _ z 12 (eqb-true _ 12 t) (λ b. omega arith) refl refl) ∙ ap clockOf (sym (dots-snoc (isKind 12) l _));
       };
     }
 
@@ -66,7 +54,7 @@ with-spec =
     counted-requires
     (λ c κs. search needs)
     (λ c κs. search needs)
-    clock-with-requires
+    (λ c κs. search needs)
     keys-with-requires
-    clock-with-requires-2
+    (λ c κs. search needs)
     returns)

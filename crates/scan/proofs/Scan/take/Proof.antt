@@ -8,14 +8,11 @@ use Rattle.scan.proofs.Scan.take.Tie as tie
 returns : tie.Need-returns
 returns c l s u = scanned-bad _ _ l _ _ (rw (ill-formed _ _ l _ s (c .if1 .taken))) (c .if1 .taken)
 
-counted-requires : tie.Need-counted-requires
-counted-requires c κs = λ z. let p = c .before .before .before .before .pre in (p .0, p .1 .tallied z)
-
 returns-2 : tie.Need-returns-2
 returns-2 c l s u =
     let at-if1 = c .before .before .before in
     let n = at-if1 .if1 .left in
-    rw (c .counted .ensures)
+    rw (c .counted .ensures l (s .tallied))
     (scanned-on _ _ l _ _ _ s u n (sym (c .before .before .follows .ensures l (well-formed _ _ l _ s n) (s .ends (well-formed _ _ l _ s n))) ∙ c .before .if2 .taken))
 
 returns-3 : tie.Need-returns-3
@@ -30,6 +27,6 @@ take-spec =
     (tie.spec
     returns
     (λ c κs. search needs)
-    counted-requires
+    (λ c κs. search needs)
     returns-2
     returns-3)
