@@ -1,0 +1,108 @@
+-- What stands on both sides: a list woven with itself, and a clock, a register, an entry, a removal met with itself.
+-- Assumes nothing.
+use mathlib.Core.Path.{_≡_, refl, ap, ap₂, sym, _∙_}
+use mathlib.Core.Bool.{Bool, true, false, not}
+use mathlib.Core.List.{List, [], _∷_, _++_, map, map-id, append-nil, List·Memᴰ·head, List·Memᴰ·tail}
+use Prim.Native.Nat.{ℕ}
+use native.Mathlib.Omega.{arith}
+use borrow.Author.Tests.{eq-eqb, le-ltb}
+use Rattle.lists.specs.Order.{_∈_, by}
+use Rattle.lists.specs.Weave.{weave}
+use Rattle.lists.proofs.Somes.{some-holds, false-some}
+use Rattle.lists.proofs.Those.{those-all, those-none}
+use Rattle.clock.specs.declared.Dot.{Dot}
+use Rattle.clock.specs.declared.Order.{Order}
+use Rattle.clock.specs.declared.Order.the-variants.{Equal, Greater, Less, Concurrent}
+use Rattle.clock.specs.Dots.{dotsOf, counterIn, covers, orderOf, cutDots, commonDots}
+use Rattle.clock.specs.Lawful.{Lawful}
+use Rattle.clock.proofs.Counters.{same-clock}
+use Rattle.clock.proofs.Cuts.{lawful-cut, lawful-common, counter-cut, counter-common}
+use Rattle.clock.proofs.Joins.{lawful-join, counter-join, join-again}
+use Rattle.clock.proofs.Covers.{covers-means, covers-refl, empty-covered, order-self}
+use Rattle.clock.proofs.Empties.{empty-means}
+use Rattle.register.specs.declared.Value.{Value}
+use Rattle.register.specs.Values.{yielding, yields, outdone, standing, oursLeft, mergeValues}
+use Rattle.parts.specs.declared.Entry.{Entry}
+use Rattle.parts.specs.declared.Removal.{Removal}
+use Rattle.parts.specs.Model.{valuesIn, keysAs, underOf, listedIn}
+use Rattle.parts.specs.Entries.{keepDots, together}
+use Rattle.parts.specs.Waits.{removalBefore, unionKeys, unite, uniteAll}
+use Rattle.parts.specs.Valid.{ValidEntry, ValidRemoval, ValidWaiting}
+use Rattle.parts.proofs.Cuts.{cut-none-values}
+use Rattle.parts.proofs.Clocks.{before-self}
+use Rattle.parts.proofs.Wholes.{lawful-keep}
+use Rattle.selfmerge.specs.Premises.{NoneBelow}
+
+-- each element stands level with itself, and with nothing before it
+pub weave-self : {A : Type 0} (before : A → A → Bool) (first second : A → A) (both : A → A → A) → ((x : A) → before x x ≡ false) → (l : List A) → weave before first second both l l ≡ map (λ x. both x x) l
+unfolding weave
+weave-self before first second both level [] = refl
+weave-self before first second both level (x ∷ l) = rw (level x) (ap (λ s. both x x ∷ s) (weave-self before first second both level l))
+
+pub by-self : {A : Type 0} (rank : A → ℕ) (x : A) → by rank x x ≡ false
+by-self rank x = le-ltb (rank x) (rank x) (omega arith)
+
+map-same : {A : Type 0} (f : A → A) (l : List A) → ((x : A) → x ∈ l → f x ≡ x) → map f l ≡ l
+map-same f [] e = refl
+map-same f (x ∷ l) e = ap₂ (λ y s. y ∷ s) (e x (List·Memᴰ·head refl)) (map-same f l (λ y i. e y (List·Memᴰ·tail i)))
+
+-- a clock cut by itself
+pub cut-self : {a : List Dot} → Lawful a → cutDots a a ≡ []
+cut-self {a} h = empty-means (cutDots a a) (empty-covered a a ∙ covers-refl h)
+
+-- "keep" of a covered clock with itself
+pub keep-self : (seen : List Dot) {a : List Dot} → Lawful a → covers seen a ≡ true → keepDots seen seen a a ≡ a
+unfolding keepDots
+keep-self seen {a} h t = same-clock (lawful-keep seen seen h h) h counters
+  where
+    none : (x : ℕ) → counterIn (cutDots seen a) x ≡ 0
+    none x = rw (le-ltb (counterIn seen x) (counterIn a x) (covers-means seen a t x)) at (counter-cut seen h x)
+
+    all : (x : ℕ) → counterIn (commonDots a a) x ≡ counterIn a x
+    all x = rw (eq-eqb (counterIn a x) (counterIn a x) refl) at (counter-common a h x)
+
+    counters : (x : ℕ) → counterIn (keepDots seen seen a a) x ≡ counterIn a x
+    counters x =
+        omega (
+          arith,
+          none x,
+          all x,
+          counter-join (lawful-join (lawful-common a h) (lawful-cut seen h)) (lawful-cut seen h) x,
+          counter-join (lawful-common a h) (lawful-cut seen h) x,
+        )
+
+not-less : (o : Order) → (o ≡ Less → ⊥) → yielding false o ≡ false
+not-less Equal f = refl
+not-less Greater f = refl
+not-less Less f = absurd (f refl)
+not-less Concurrent f = refl
+
+-- a register merged with itself, in its order
+pub merge-values-self : (l : List Value) → NoneBelow l → ((v : Value) → v ∈ l → Lawful (dotsOf (v .clock))) → mergeValues l l ≡ l
+unfolding mergeValues oursLeft outdone yields
+merge-values-self l f h =
+    rw (those-all (standing false l) l (λ v i. ap not (false-some (yields false v) l (λ w j. not-less (orderOf (dotsOf (v .clock)) (dotsOf (w .clock))) (f v w i j)))))
+    (ap (λ s. l ++ s) (those-none (standing true l) l (λ v i. ap not (some-holds (yields true v) i (itself v (h v i))))) ∙ append-nil l)
+  where
+    itself : (v : Value) → Lawful (dotsOf (v .clock)) → yields true v v ≡ true
+    itself v k = ap (yielding true) (order-self k)
+
+-- an entry of a map met with itself
+pub together-self : {seen : List Dot} {e : Entry} → ValidEntry seen e → NoneBelow (valuesIn e) → together seen seen e e ≡ e
+unfolding together
+together-self {seen} {e} h f =
+    rw (keep-self seen (h .clock) (h .covered), join-again (h .clock), cut-self (h .clock), merge-values-self (valuesIn e) f (λ v i. h .values v i .clock), cut-none-values (valuesIn e) (h .values))
+    (sym (h .laid))
+
+-- a removal united with itself, and those that wait
+pub union-self : (k : List ℕ) → unionKeys k k ≡ k
+unfolding unionKeys
+union-self k = weave-self (by (λ x. x)) (λ x. x) (λ x. x) (λ x y. x) (by-self (λ x. x)) k ∙ map-id k
+
+unite-self : {r : Removal} → ValidRemoval r → unite r r ≡ r
+unite-self {r} h = ap (λ k. record { clock = r .clock; keys = keysAs k }) (union-self (listedIn r)) ∙ λ i. record { clock = r .clock; keys = sym (h .laid) i .keys }
+
+pub unite-all-self : {w : List Removal} → ValidWaiting w → uniteAll w w ≡ w
+unfolding uniteAll
+unite-all-self {w} h =
+    weave-self removalBefore (λ x. x) (λ x. x) unite (λ x. before-self (underOf x)) w ∙ map-same (λ x. unite x x) w (λ r i. unite-self (h .each r i))
