@@ -4,3 +4,4 @@ pub mod Crossing
 pub mod Narrow
 pub mod Images
 pub mod Leaves
+pub mod Itself
