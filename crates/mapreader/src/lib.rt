@@ -125,7 +125,7 @@ fn tallied(n: u8, kind: u8) -> u8
 }
 
 // What a length alone is answered with.
-fn length_number(len: usize) -> u8
+pub fn length_number(len: usize) -> u8
     ensures { λ r. ⌜ r ≡ cond (ltb mapLongest len) 2 (cond (eqb (len % 16) 0) 0 1) ⌝ }
 {
     if mapimage::MAP_LONGEST < len {
