@@ -66,7 +66,7 @@ pub fn read_record(s: &[u8], at: usize) -> Record
     }
 }
 
-fn put8(out: &mut [u8], at: usize, x: u8)
+pub fn put8(out: &mut [u8], at: usize, x: u8)
     requires { ⌜ at + 1 ≤ length (now out) ⌝ }
     ensures { λ _. ⌜ now (out .exit) ≡ placed at (numBytes 0 x) (now (out .entry)) ⌝ }
 {
@@ -89,7 +89,7 @@ fn put32(out: &mut [u8], at: usize, x: u32)
     put16(out, at + 2, (x / 65536) as u16);
 }
 
-fn put64(out: &mut [u8], at: usize, x: u64)
+pub fn put64(out: &mut [u8], at: usize, x: u64)
     requires { ⌜ at + 8 ≤ length (now out) ⌝ }
     ensures { λ _. ⌜ now (out .exit) ≡ placed at (numBytes 3 x) (now (out .entry)) ⌝ }
 {

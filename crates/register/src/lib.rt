@@ -142,7 +142,7 @@ impl Register {
     }
 
     // The values that yield to none of `over`.
-    fn standing(self, over: Register, equal_too: bool) -> Register
+    pub fn standing(self, over: Register, equal_too: bool) -> Register
         ensures { λ r. ⌜ r ≡ registerOf (those (standing «equal_too» (valuesOf over)) (valuesOf self)) ⌝ }
     {
         let n = self.size();

@@ -1,0 +1,20 @@
+-- Any two results that meet the contract of a call are identical.
+-- Assumes nothing.
+use mathlib.Core.List.{List}
+use Prim.Native.Nat.{ℕ}
+use Rattle.answers.specs.Answer.{Answer, Answered}
+use Rattle.answers.proofs.Answers.{Same, same-answer}
+use Rattle.loader.specs.Calls.{bayAnswer, baysAnswer}
+
+abbrev Written : Answer → Type 0
+Written a = (out d e : List ℕ) (r s : ℕ) → Answered a out d r → Answered a out e s → Same d e r s
+
+pub record Determined : Type 0 where
+  pub bay : (map : List ℕ) (bay : ℕ) → Written (bayAnswer map bay)
+  pub bays : (map : List ℕ) → Written (baysAnswer map)
+
+pub determined : Determined
+determined = record {
+  bay = λ map bay out d e r s p q. same-answer p q;
+  bays = λ map out d e r s p q. same-answer p q;
+}

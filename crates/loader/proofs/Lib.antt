@@ -1,0 +1,7 @@
+pub mod Smallest
+pub mod Reporting
+pub mod Strict
+pub mod Chosen
+pub mod Reordered
+pub mod Determined
+pub mod Examples

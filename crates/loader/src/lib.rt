@@ -1,0 +1,161 @@
+// The boot loader's choice: for a bay, the smallest of the values that no other has overwritten, as a report of eleven bytes.
+ghost use mathlib.Core.Path.{_≡_};
+ghost use Prim.Native.Nat.{_+_, _≤_};
+ghost use lib.ListN.{length};
+ghost use Rattle.lists.specs.First.{some};
+ghost use Rattle.register.specs.Values.{valuesOf};
+ghost use Rattle.records.specs.Records.{Wrote};
+ghost use Rattle.answers.specs.Answer.{Answered};
+ghost use Rattle.loader.specs.Choice.{smallest, another, reportOf};
+ghost use Rattle.loader.specs.Reports.{reportAt, flagOf, reportBytes, reportsAfter};
+ghost use Rattle.loader.specs.Calls.{bayCount, isBay, bayAnswer, baysAnswer};
+use map::Map;
+use register::Register;
+
+// The keys that are bays: from 1 to this.
+pub const BAYS: u32 = 24;
+
+// The bytes of a report, and of the reports of all bays.
+pub const REPORT: usize = 11;
+
+pub const REPORTS: usize = 264;
+
+// How many values remained, whether they differ, whether there is one, and the one taken.
+pub struct Report {
+    pub count: u8,
+    pub differ: bool,
+    pub found: bool,
+    pub value: u64,
+}
+
+// The smallest value.
+fn least(values: Register) -> u64
+    ensures { λ r. ⌜ r ≡ smallest (valuesOf values) ⌝ }
+{
+    let n = values.size();
+    if n == 0 {
+        return 0;
+    }
+    let first = values.values[0];
+    let mut best = first.value;
+    let mut i: usize = 0;
+    while i < n {
+        let v = values.values[i];
+        i += 1;
+        if v.value < best {
+            best = v.value;
+        }
+    }
+    best
+}
+
+// Whether some value is another than this.
+fn other_than(values: Register, value: u64) -> bool
+    ensures { λ r. ⌜ r ≡ some (another value) (valuesOf values) ⌝ }
+{
+    let n = values.size();
+    let mut i: usize = 0;
+    while i < n {
+        let v = values.values[i];
+        if value != v.value {
+            return true;
+        }
+        i += 1;
+    }
+    false
+}
+
+// The choice on a register.
+pub fn choose(register: Register) -> Report
+    ensures { λ r. ⌜ r ≡ reportOf (valuesOf register) ⌝ }
+{
+    let left = register.standing(register, false);
+    let n = left.size();
+    let value = least(left);
+    let differ = other_than(left, value);
+    Report {
+        count: n as u8,
+        differ,
+        found: n != 0,
+        value,
+    }
+}
+
+// The report of a bay.
+pub fn report_at(map: Map, bay: u32) -> Report
+    ensures { λ r. ⌜ r ≡ reportAt map bay ⌝ }
+{
+    let entries = map.entries;
+    let e = entries.at(bay);
+    choose(e.register)
+}
+
+fn flag(b: bool) -> u8
+    ensures { λ r. ⌜ r ≡ flagOf b ⌝ }
+{
+    if b { 1 } else { 0 }
+}
+
+// Writes a report at `at`, and answers the place behind it.
+fn write_report(out: &mut [u8], at: usize, r: Report) -> usize
+    requires { ⌜ at + 11 ≤ length (now out) ⌝ }
+    ensures { λ next. ⌜ Wrote at (reportBytes r) (now (out .entry)) (now (out .exit)) next ⌝ }
+{
+    records::put8(out, at, r.count);
+    records::put8(out, at + 1, flag(r.differ));
+    records::put8(out, at + 2, flag(r.found));
+    records::put64(out, at + 3, r.value);
+    at + 11
+}
+
+// Writes the reports of all bays.
+fn write_reports(map: Map, out: &mut [u8]) -> usize
+    requires { ⌜ 264 ≤ length (now out) ⌝ }
+    ensures { λ next. ⌜ Wrote 0 (reportsAfter map 0 bayCount) (now (out .entry)) (now (out .exit)) next ⌝ }
+{
+    let mut next: usize = 0;
+    let mut bay: u32 = 0;
+    while bay < BAYS {
+        bay += 1;
+        next = write_report(out, next, report_at(map, bay));
+    }
+    next
+}
+
+fn is_bay(key: u32) -> bool
+    ensures { λ r. ⌜ r ≡ isBay key ⌝ }
+{
+    (1 <= key) & (key <= BAYS)
+}
+
+#[no_mangle]
+pub extern "C" fn castribba_bay(map: &[u8], bay: u32, out: &mut [u8]) -> u64
+    ensures { λ r. ⌜ Answered (bayAnswer (now (map .entry)) bay) (now (out .entry)) (now (out .exit)) r ⌝ }
+{
+    let m = mapreader::read_map(map);
+    if m.number != 0 {
+        return answers::word(m.number);
+    }
+    if !is_bay(bay) {
+        return answers::word(14);
+    }
+    if out.len() < REPORT {
+        return answers::word(10);
+    }
+    let r = report_at(m.map, bay);
+    write_report(out, 0, r) as u64
+}
+
+#[no_mangle]
+pub extern "C" fn castribba_bays(map: &[u8], out: &mut [u8]) -> u64
+    ensures { λ r. ⌜ Answered (baysAnswer (now (map .entry))) (now (out .entry)) (now (out .exit)) r ⌝ }
+{
+    let m = mapreader::read_map(map);
+    if m.number != 0 {
+        return answers::word(m.number);
+    }
+    if out.len() < REPORTS {
+        return answers::word(10);
+    }
+    write_reports(m.map, out) as u64
+}
