@@ -2,17 +2,11 @@
  * bytes left alone. */
 #include <loader.h>
 
-#include <stdio.h>
-#include <string.h>
+enum { ALL = CASTRIBBA_BAYS * CASTRIBBA_REPORT };
 
-enum { PAINT = 0xEE, ALL = CASTRIBBA_BAYS * CASTRIBBA_REPORT };
-
-/* A record as document 01 lays it out: kind, index, actor, key, number, little-endian. */
-#define TWO(n) (uint8_t)(n), (uint8_t)((n) >> 8)
-#define FOUR(n) TWO(n), TWO((n) >> 16)
-#define EIGHT(n) FOUR((uint64_t)(n)), FOUR((uint64_t)(n) >> 32)
-#define ROW(kind, index, actor, key, number) \
-    (kind), (index), TWO(actor), FOUR(key), EIGHT(number)
+#define CHECKS_NAME "bays"
+#define CHECKS_OUT (ALL + 5)
+#include "../checks.h"
 
 /* Bay 1: 5 under {1:1} is strictly below 400 under {1:2}, and 300 under {2:1} is beside both.
  * Bay 3: 70 twice, under {1:1} and {2:1}. Bay 24: an entry without a value. Key 25 is no bay. */
@@ -35,63 +29,30 @@ static const uint8_t BAY_1[] = {2, 1, 1, EIGHT(300)};
 static const uint8_t BAY_3[] = {2, 0, 1, EIGHT(70)};
 static const uint8_t NONE[CASTRIBBA_REPORT];
 
-static uint8_t out[ALL + 5];
-static int checks, failures;
-
-static void report(int holds, const char *what)
-{
-    checks++;
-    if (!holds) {
-        failures++;
-        printf("bays: DIFFERENCE in %s\n", what);
-    }
-    memset(out, PAINT, sizeof out);
-}
-
-/* Accepted: exactly these bytes, and paint behind them. */
-static void gives(const char *what, uint64_t word, const uint8_t *bytes, size_t len)
-{
-    int holds = word == len && memcmp(out, bytes, len) == 0;
-    for (size_t place = len; place < sizeof out; place++)
-        holds = holds && out[place] == PAINT;
-    report(holds, what);
-}
-
-/* Refused: the number, length 0, and paint everywhere. */
-static void refuses(const char *what, uint64_t word, uint64_t number)
-{
-    int holds = word == number << 32;
-    for (size_t place = 0; place < sizeof out; place++)
-        holds = holds && out[place] == PAINT;
-    report(holds, what);
-}
-
-#define IMAGE(bytes) (bytes), sizeof(bytes)
-
 int main(void)
 {
     uint8_t all[ALL];
-    memset(out, PAINT, sizeof out);
+    paint();
     memset(all, 0, sizeof all);
     memcpy(all, BAY_1, sizeof BAY_1);
     memcpy(all + 2 * CASTRIBBA_REPORT, BAY_3, sizeof BAY_3);
 
-    gives("a bay whose values differ", castribba_bay(IMAGE(MAP), 1, out, sizeof out), IMAGE(BAY_1));
-    gives("its values in another order", castribba_bay(IMAGE(REORDERED), 1, out, sizeof out),
+    gives("a bay whose values differ", castribba_bay(IMAGE(MAP), 1, OUT), IMAGE(BAY_1));
+    gives("its values in another order", castribba_bay(IMAGE(REORDERED), 1, OUT),
           IMAGE(BAY_1));
-    gives("a bay whose values agree", castribba_bay(IMAGE(MAP), 3, out, sizeof out), IMAGE(BAY_3));
-    gives("a bay without an entry", castribba_bay(IMAGE(MAP), 2, out, sizeof out), IMAGE(NONE));
-    gives("a bay without a value", castribba_bay(IMAGE(MAP), 24, out, sizeof out), IMAGE(NONE));
-    gives("no map", castribba_bay(NULL, 0, 1, out, sizeof out), IMAGE(NONE));
+    gives("a bay whose values agree", castribba_bay(IMAGE(MAP), 3, OUT), IMAGE(BAY_3));
+    gives("a bay without an entry", castribba_bay(IMAGE(MAP), 2, OUT), IMAGE(NONE));
+    gives("a bay without a value", castribba_bay(IMAGE(MAP), 24, OUT), IMAGE(NONE));
+    gives("no map", castribba_bay(NULL, 0, 1, OUT), IMAGE(NONE));
     gives("just room enough", castribba_bay(IMAGE(MAP), 1, out, CASTRIBBA_REPORT), IMAGE(BAY_1));
-    gives("all bays", castribba_bays(IMAGE(MAP), out, sizeof out), all, sizeof all);
+    gives("all bays", castribba_bays(IMAGE(MAP), OUT), all, sizeof all);
 
-    refuses("bay 0", castribba_bay(IMAGE(MAP), 0, out, sizeof out), 14);
-    refuses("bay 25", castribba_bay(IMAGE(MAP), 25, out, sizeof out), 14);
+    refuses("bay 0", castribba_bay(IMAGE(MAP), 0, OUT), 14);
+    refuses("bay 25", castribba_bay(IMAGE(MAP), 25, OUT), 14);
     refuses("bay 25 before a short buffer", castribba_bay(IMAGE(MAP), 25, out, 0), 14);
     refuses("a bad image before bay 25", castribba_bay(IMAGE(BAD_KIND), 25, out, 0), 1);
-    refuses("a long image", castribba_bay(IMAGE(TOO_LONG), 1, out, sizeof out), 2);
-    refuses("unrelated records", castribba_bay(IMAGE(OUTSIDE_CLOCK), 1, out, sizeof out), 3);
+    refuses("a long image", castribba_bay(IMAGE(TOO_LONG), 1, OUT), 2);
+    refuses("unrelated records", castribba_bay(IMAGE(OUTSIDE_CLOCK), 1, OUT), 3);
     refuses("a short buffer", castribba_bay(IMAGE(MAP), 1, out, CASTRIBBA_REPORT - 1), 10);
     refuses("a short buffer for all", castribba_bays(IMAGE(MAP), out, ALL - 1), 10);
     refuses("a bad image for all", castribba_bays(IMAGE(BAD_KIND), out, 0), 1);

@@ -2,17 +2,9 @@
  * one, and checks the number, the length, the bytes written and the bytes left alone. */
 #include <castribba.h>
 
-#include <stdio.h>
-#include <string.h>
-
-enum { PAINT = 0xEE };
-
-/* A record as document 01 lays it out: kind, index, actor, key, number, little-endian. */
-#define TWO(n) (uint8_t)(n), (uint8_t)((n) >> 8)
-#define FOUR(n) TWO(n), TWO((n) >> 16)
-#define EIGHT(n) FOUR((uint64_t)(n)), FOUR((uint64_t)(n) >> 32)
-#define ROW(kind, index, actor, key, number) \
-    (kind), (index), TWO(actor), FOUR(key), EIGHT(number)
+#define CHECKS_NAME "every"
+#define CHECKS_OUT CASTRIBBA_LONGEST_MAP
+#include "../checks.h"
 
 /* 01's map M: clock {1:1}, entry 5 {1:1} holding ({1:1}, 40). */
 static const uint8_t M[] = {ROW(1, 0, 1, 0, 1), ROW(2, 0, 1, 5, 1), ROW(3, 0, 0, 5, 40),
@@ -32,50 +24,11 @@ static const uint8_t BAD_KIND[] = {ROW(13, 0, 0, 0, 0)};
 static const uint8_t OUTSIDE_CLOCK[] = {ROW(2, 0, 1, 5, 1)}; /* an entry dot without map clock */
 static const uint8_t TOO_LONG[CASTRIBBA_LONGEST_MAP + 1];
 
-static uint8_t out[CASTRIBBA_LONGEST_MAP];
-static int checks, failures;
-
-static void report(int holds, const char *what)
-{
-    checks++;
-    if (!holds) {
-        failures++;
-        printf("every: DIFFERENCE in %s\n", what);
-    }
-}
-
-static void paint(void)
-{
-    memset(out, PAINT, sizeof out);
-}
-
-/* Accepted: number 0, exactly the expected bytes, and paint behind them. */
-static void gives(const char *what, uint64_t word, const uint8_t *bytes, size_t len)
-{
-    int holds = word == len && memcmp(out, bytes, len) == 0;
-    for (size_t place = len; place < sizeof out; place++)
-        holds = holds && out[place] == PAINT;
-    report(holds, what);
-    paint();
-}
-
-/* Refused: the number, length 0, and paint everywhere. */
-static void refuses(const char *what, uint64_t word, uint32_t number)
-{
-    int holds = CASTRIBBA_NUMBER(word) == number && CASTRIBBA_LENGTH(word) == 0;
-    for (size_t place = 0; place < sizeof out; place++)
-        holds = holds && out[place] == PAINT;
-    report(holds, what);
-    paint();
-}
-
 static void is(const char *what, uint64_t found, uint64_t expected)
 {
     report(found == expected, what);
 }
 
-#define IMAGE(bytes) (bytes), sizeof(bytes)
-#define OUT out, sizeof out
 #define REFUSED(number) ((uint64_t)(number) << 32)
 
 static void changing(void)
