@@ -54,7 +54,7 @@ module _ {A : Type 0} (xs : List A) (n i : ℕ) (d : A) (h : i < length (take n 
 pub drop-end : {A : Type 0} (l : List A) (i : ℕ) → length l ≤ i → drop i l ≡ []
 drop-end l i h = drop-of-length-le l h
 
-module _ {A : Type 0} (before : A → A → Bool) (first second : A → A) (both : A → A → A) where
+module _ {A B : Type 0} (before : A → A → Bool) (first second : A → B) (both : A → A → B) where
   -- the first list is used up
   pub weave-second-left : (l m : List A) (i : ℕ) → length l ≤ i → weave before first second both (drop i l) m ≡ map second m
   unfolding weave

@@ -1,4 +1,4 @@
--- Laws of sifting twice, and of sifting what was changed before.
+-- Laws of changes that agree, of sifting twice, and of sifting what was changed before.
 -- Assumes nothing.
 use mathlib.Core.Path.{_≡_, refl}
 use mathlib.Core.Bool.{Bool, true, false, cond}
@@ -6,8 +6,12 @@ use mathlib.Core.List.{List, [], _∷_, map, List·Memᴰ·head, List·Memᴰ·t
 use Rattle.lists.specs.Sift.{sift}
 use Rattle.lists.specs.Order.{_∈_}
 
+-- changes that agree on the elements
+pub map-same : {A B : Type 0} (f g : A → B) (l : List A) → ((x : A) → x ∈ l → g x ≡ f x) → map g l ≡ map f l
+map-same f g [] e = refl
+map-same f g (x ∷ l) e = rw (e x (List·Memᴰ·head refl), map-same f g l (λ y i. e y (List·Memᴰ·tail i)))
+
 module _ {A B : Type 0} (keep : B → Bool) where
-  -- changes that agree on the elements
   pub sift-same : (f g : A → B) (l : List A) → ((x : A) → x ∈ l → f x ≡ g x) → sift keep f l ≡ sift keep g l
   unfolding sift
   sift-same f g [] e = refl

@@ -11,21 +11,21 @@ use Rattle.lists.proofs.Rests.{weave-first, weave-second, weave-both, w
 use Rattle.lists.proofs.Growing.{Growing, grow-start, grow-add}
 
 -- i of the n places of xs and j of the m places of ys are passed
-pub record Weaving {A S : Type 0} (pack : List A → S) (before : A → A → Bool) (first second : A → A) (both : A → A → A) (xs : List A) (n i : ℕ) (ys : List A) (m j : ℕ) (s : S) : Type 0 where
+pub record Weaving {A B S : Type 0} (pack : List B → S) (before : A → A → Bool) (first second : A → B) (both : A → A → B) (xs : List A) (n i : ℕ) (ys : List A) (m j : ℕ) (s : S) : Type 0 where
   pub growing : Growing pack (weave before first second both (take n xs) (take m ys)) (weave before first second both (drop i (take n xs)) (drop j (take m ys))) s
 
-module _ {A S : Type 0} {pack : List A → S} {before : A → A → Bool} {first second : A → A} {both : A → A → A} {xs : List A} {n : ℕ} {ys : List A} {m : ℕ} where
+module _ {A B S : Type 0} {pack : List B → S} {before : A → A → Bool} {first second : A → B} {both : A → A → B} {xs : List A} {n : ℕ} {ys : List A} {m : ℕ} where
   pub weaving-start : {s : S} → s ≡ pack [] → Weaving pack before first second both xs n 0 ys m 0 s
   weaving-start e = record { growing = grow-start e }
 
   module _ {i j : ℕ} {s : S} (d : A) (g : Weaving pack before first second both xs n i ys m j s) (h : i < length (take n xs)) (k : j < length (take m ys)) where
-    pub weaving-first : {t : S} → before (getD xs i d) (getD ys j d) ≡ true → ((l : List A) → s ≡ pack l → t ≡ pack (l ++ (first (getD xs i d) ∷ []))) → Weaving pack before first second both xs n (i + 1) ys m j t
+    pub weaving-first : {t : S} → before (getD xs i d) (getD ys j d) ≡ true → ((l : List B) → s ≡ pack l → t ≡ pack (l ++ (first (getD xs i d) ∷ []))) → Weaving pack before first second both xs n (i + 1) ys m j t
     weaving-first b f = record { growing = grow-add (g .growing) (weave-first before first second both xs n i ys m j d h k b) f }
 
-    pub weaving-second : {t : S} → before (getD xs i d) (getD ys j d) ≡ false → before (getD ys j d) (getD xs i d) ≡ true → ((l : List A) → s ≡ pack l → t ≡ pack (l ++ (second (getD ys j d) ∷ []))) → Weaving pack before first second both xs n i ys m (j + 1) t
+    pub weaving-second : {t : S} → before (getD xs i d) (getD ys j d) ≡ false → before (getD ys j d) (getD xs i d) ≡ true → ((l : List B) → s ≡ pack l → t ≡ pack (l ++ (second (getD ys j d) ∷ []))) → Weaving pack before first second both xs n i ys m (j + 1) t
     weaving-second b c f = record { growing = grow-add (g .growing) (weave-second before first second both xs n i ys m j d h k b c) f }
 
-    pub weaving-both : {t : S} → before (getD xs i d) (getD ys j d) ≡ false → before (getD ys j d) (getD xs i d) ≡ false → ((l : List A) → s ≡ pack l → t ≡ pack (l ++ (both (getD xs i d) (getD ys j d) ∷ []))) → Weaving pack before first second both xs n (i + 1) ys m (j + 1) t
+    pub weaving-both : {t : S} → before (getD xs i d) (getD ys j d) ≡ false → before (getD ys j d) (getD xs i d) ≡ false → ((l : List B) → s ≡ pack l → t ≡ pack (l ++ (both (getD xs i d) (getD ys j d) ∷ []))) → Weaving pack before first second both xs n (i + 1) ys m (j + 1) t
     weaving-both b c f = record { growing = grow-add (g .growing) (weave-both before first second both xs n i ys m j d h k b c) f }
 
   -- one of the two is used up: what is left of the other, and nothing of this one, goes behind what is done

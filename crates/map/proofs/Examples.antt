@@ -1,7 +1,7 @@
 -- The twelve settled examples of 01, as a single table under a single theorem.
 -- Assumes nothing.
 use mathlib.Core.Path.{_≡_, refl}
-use mathlib.Core.List.{List, [], _∷_, _++_}
+use mathlib.Core.List.{List, [], _∷_, _++_, flatten}
 use Prim.Native.Nat.{ℕ, zero, suc, _+_, _-_, _^_}
 use Rattle.lists.specs.Pad.{pad}
 use Rattle.lists.specs.Sift.{sift}
@@ -18,7 +18,7 @@ use Rattle.map.specs.declared.Map.{Map}
 use Rattle.map.specs.declared.Order.the-variants.{Missing}
 use Rattle.parts.specs.Model.{entryAs, removalAs}
 use Rattle.map.specs.Model.{mapAs, noMap}
-use Rattle.parts.specs.Entries.{cutEntry, listed, removeFrom, removeEntries, putEntry, entryAt, putEntries, alone, keepDots, together, mergeEntries}
+use Rattle.parts.specs.Entries.{cutEntry, listed, removeFrom, removeEntries, putEntry, entryAt, putEntries, cutAlone, alone, keepDots, mergeBoth, together, mergeEntries}
 use Rattle.parts.specs.Waits.{waits, clockBefore, unionKeys, uniteAll, resetWaiting}
 use Rattle.map.specs.Removing.{remove, afresh}
 use Rattle.map.specs.Updating.{update}
@@ -68,5 +68,5 @@ pub record Settled : Type 0 where
   pub w12 : putValues (value (one 1 1) 7 ∷ []) (value (one 1 1) 8) ≡ value (one 1 1) 8 ∷ []
 
 pub settled : Settled
-unfolding pad sift firstIn fold weave isEmpty counterIn covers orderOf cutDots joinDots commonDots addDot yields outdone remaining putValues cutValues oursLeft mergeValues cutEntry listed removeFrom removeEntries waits clockBefore unionKeys uniteAll remove afresh putEntry entryAt putEntries update alone keepDots together mergeEntries merge resetWaiting reset overDots overEntries overValues overWaiting overKeys overNumber judged clockAt following validateUpdate nextDot makeUpdate
+unfolding pad sift firstIn fold weave isEmpty counterIn covers orderOf cutDots joinDots commonDots addDot yields outdone remaining putValues cutValues oursLeft mergeValues cutEntry listed removeFrom removeEntries waits clockBefore unionKeys uniteAll remove afresh putEntry entryAt putEntries update cutAlone alone keepDots mergeBoth together flatten mergeEntries merge resetWaiting reset overDots overEntries overValues overWaiting overKeys overNumber judged clockAt following validateUpdate nextDot makeUpdate
 settled = record { w1 = refl; w2 = refl; w3 = refl; w4 = refl; w5 = refl; w6 = refl; w7 = refl; w8 = refl; w9 = refl; w9-without = refl; w10 = refl; w11 = refl; w12 = refl }

@@ -20,7 +20,7 @@ use Rattle.parts.specs.declared.Entry.{Entry}
 use Rattle.parts.specs.declared.Removal.{Removal}
 use Rattle.parts.specs.declared.Update.{Update}
 use Rattle.parts.specs.Model.{entryLimit, waitingLimit, dotsIn, overfull, overlong}
-use Rattle.parts.specs.Entries.{stays, cutEntry, removeEntries, run, entryAt, putEntries, weaveEntries}
+use Rattle.parts.specs.Entries.{stays, cutEntry, removeEntries, run, entryAt, putEntries, mergeEntries}
 use Rattle.parts.specs.Waits.{waits, uniteAll, resetWaiting}
 use Rattle.parts.proofs.Fits.{added-length}
 use Rattle.parts.proofs.Pieces.{dots-in}
@@ -87,7 +87,7 @@ module _ {m n : Map} (i : Within m) (j : Within n) where
   joinedClock = joinDots (seenBy m) (seenBy n)
 
   abbrev pub joinedEntries : List Entry
-  joinedEntries = sift stays (λ e. run (waitingIn m) (run (waitingIn n) e)) (weaveEntries (seenBy m) (seenBy n) (entriesIn m) (entriesIn n))
+  joinedEntries = sift stays (λ e. run (waitingIn m) (run (waitingIn n) e)) (mergeEntries (seenBy m) (seenBy n) (entriesIn m) (entriesIn n))
 
   abbrev pub joinedWaiting : List Removal
   joinedWaiting = uniteAll (those (waits joinedClock) (waitingIn m)) (those (waits joinedClock) (waitingIn n))

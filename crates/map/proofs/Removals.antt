@@ -28,7 +28,9 @@ use Rattle.parts.proofs.Cuts.{Whole, whole-valid}
 use Rattle.parts.proofs.Runs.{runs, run-trade, run-whole, removes-run, removes-changed}
 use Rattle.parts.proofs.Waits.{waits-covers, waits-same, unite-behind, unite-afresh, unite-those, unite-ascends, those-valid}
 use Rattle.parts.proofs.Rounds.{clocked-valid, run-unite, run-some}
-use Rattle.parts.proofs.Wholes.{wovenEntries, whole-woven, put-stays}
+use Rattle.parts.proofs.Wholes.{put-stays}
+use Rattle.parts.proofs.Goes.{merge-stays}
+use Rattle.parts.proofs.Listed.{whole-merged}
 use Rattle.map.specs.declared.Map.{Map}
 use Rattle.map.specs.Model.{seenBy, entriesIn, waitingIn, mapAs}
 use Rattle.map.specs.Removing.{remove, afresh}
@@ -107,23 +109,22 @@ module _ {m n : Map} (h : Valid m) (k : Valid n) where
   abbrev theirs : List Removal
   theirs = those (waits (seenBy m)) (waitingIn n)
 
-  abbrev woven : List Entry
-  woven = wovenEntries (seenBy m) (seenBy n) (entriesIn m) (entriesIn n)
+  abbrev mingled : List Entry
+  mingled = mergeEntries (seenBy m) (seenBy n) (entriesIn m) (entriesIn n)
 
   theirs-valid : ValidWaiting theirs
   theirs-valid = those-valid (waits (seenBy m)) (k .waiting)
 
   -- their waiting removals under our old clock
-  under : fold remove (record { clock = m .clock; entries = entriesAs (mergeEntries (seenBy m) (seenBy n) (entriesIn m) (entriesIn n)); waiting = m .waiting }) (waitingIn n) ≡ mapAs (seenBy m) (sift stays (run (waitingIn n)) woven) (uniteAll (waitingIn m) theirs)
-  unfolding mergeEntries
+  under : fold remove (record { clock = m .clock; entries = entriesAs mingled; waiting = m .waiting }) (waitingIn n) ≡ mapAs (seenBy m) (sift stays (run (waitingIn n)) mingled) (uniteAll (waitingIn m) theirs)
   under =
-      (λ i. fold remove (record { clock = h .laid i .clock; entries = entriesAs (those stays woven); waiting = h .laid i .waiting }) (waitingIn n))
-      ∙ removes (waitingIn n) (seenBy m) (those stays woven) (waitingIn m)
-      ∙ ap₂ (mapAs (seenBy m)) (removes-run (waitingIn n) woven) (unite-behind (waitingIn m) (theirs-valid .rising))
+      (λ i. fold remove (record { clock = h .laid i .clock; entries = entriesAs mingled; waiting = h .laid i .waiting }) (waitingIn n))
+      ∙ removes (waitingIn n) (seenBy m) mingled (waitingIn m)
+      ∙ ap₂ (mapAs (seenBy m)) (ap (runs (waitingIn n)) (sym (merge-stays (seenBy m) (seenBy n) (entriesIn m) (entriesIn n))) ∙ removes-run (waitingIn n) mingled) (unite-behind (waitingIn m) (theirs-valid .rising))
 
   -- ours then, with those of theirs that joined them
-  entries-closed : sift stays (λ e. run (uniteAll (waitingIn m) theirs) (run (waitingIn n) e)) woven ≡ sift stays (λ e. run (waitingIn m) (run (waitingIn n) e)) woven
-  entries-closed = sift-same stays _ _ woven (λ e i. each e (whole-woven (seenBy m) (seenBy n) (h .entries .rising) (k .entries .rising) (λ x j. whole-valid (h .entries .each x j)) (λ x j. whole-valid (k .entries .each x j)) e i))
+  entries-closed : sift stays (λ e. run (uniteAll (waitingIn m) theirs) (run (waitingIn n) e)) mingled ≡ sift stays (λ e. run (waitingIn m) (run (waitingIn n) e)) mingled
+  entries-closed = sift-same stays _ _ mingled (λ e i. each e (whole-merged (seenBy m) (seenBy n) (h .entries .rising) (k .entries .rising) (λ x j. whole-valid (h .entries .each x j)) (λ x j. whole-valid (k .entries .each x j)) e i))
     where
       each : (e : Entry) → Whole e → run (uniteAll (waitingIn m) theirs) (run (waitingIn n) e) ≡ run (waitingIn m) (run (waitingIn n) e)
       each e q =
@@ -139,11 +140,11 @@ module _ {m n : Map} (h : Valid m) (k : Valid n) where
       (those-those (waits joined) (waits (seenBy m)) (waitingIn n)
       ∙ those-same _ _ (waitingIn n) (λ r i. waits-less (seenBy m) joined r (covers-join-left (h .clock) (k .clock)) (k .waiting .each r i .clock)))
 
-  pub merge-closed : merge m n ≡ mapAs (joinDots (seenBy m) (seenBy n)) (sift stays (λ e. run (waitingIn m) (run (waitingIn n) e)) (wovenEntries (seenBy m) (seenBy n) (entriesIn m) (entriesIn n))) (uniteAll (those (waits (joinDots (seenBy m) (seenBy n))) (waitingIn m)) (those (waits (joinDots (seenBy m) (seenBy n))) (waitingIn n)))
+  pub merge-closed : merge m n ≡ mapAs (joinDots (seenBy m) (seenBy n)) (sift stays (λ e. run (waitingIn m) (run (waitingIn n) e)) (mingled)) (uniteAll (those (waits (joinDots (seenBy m) (seenBy n))) (waitingIn m)) (those (waits (joinDots (seenBy m) (seenBy n))) (waitingIn n)))
   unfolding merge
   merge-closed =
       ap (λ x. afresh (record { clock = clockOf joined; entries = x .entries; waiting = x .waiting })) under
-      ∙ afresh-closed joined (run (waitingIn n)) woven (unite-ascends (h .waiting .rising) (theirs-valid .rising))
+      ∙ afresh-closed joined (run (waitingIn n)) mingled (unite-ascends (h .waiting .rising) (theirs-valid .rising))
       ∙ ap₂ (mapAs joined) entries-closed waiting-closed
 
   -- the waiting removals of both, united, without those that the joined clock covers

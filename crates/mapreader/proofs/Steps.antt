@@ -15,6 +15,7 @@ use Rattle.lists.proofs.Orders.{apart}
 use Rattle.lists.specs.Pad.{pad}
 use Rattle.lists.proofs.Pads.{length-pad, take-pad, push-pad, length-snoc}
 use Rattle.lists.proofs.Those.{those-none}
+use Rattle.lists.proofs.Twice.{map-same}
 use Rattle.clock.specs.Dots.{clockOf}
 use Rattle.clock.specs.declared.Clock.{Clock}
 use Rattle.register.specs.declared.Value.{Value}
@@ -41,10 +42,6 @@ use Rattle.maprecords.proofs.Entries.{keys-more, keys-same, entry-other, entrie
 use Rattle.maprecords.proofs.Counts.{by-records, kinds-ascend, keys-counted, entry-dots-room, values-room, value-dots-room, entries-room}
 use Rattle.maprecords.proofs.Finding.{same-length, in-entries, entry-at, key-known, entries-changed, fits-at, fits-none}
 
-pub map-on-members : {A B : Type 0} (f g : A → B) (l : List A) → ((x : A) → x ∈ l → g x ≡ f x) → map g l ≡ map f l
-map-on-members f g [] h = refl
-map-on-members f g (x ∷ l) h = ap₂ _∷_ (h x (mathlib.Core.List.List·Memᴰ·head refl)) (map-on-members f g l (λ y i. h y (mathlib.Core.List.List·Memᴰ·tail i)))
-
 -- a new entry behind the last
 entries-new : (l : List Record) (r : Record) → scanNumber 1 6 (l ++ (r ∷ [])) ≡ 0 → r .kind ≡ 2 → some (λ x. eqb x (r .key)) (entryKeys l) ≡ false
     → entriesFor l ++ (entryAs (r .key) (dotOf r ∷ []) [] ∷ []) ≡ entriesFor (l ++ (r ∷ []))
@@ -53,7 +50,7 @@ entries-new l r z k f =
     let one : entryKeys (l ++ (r ∷ [])) ≡ entryKeys l ++ (r .key ∷ []) = keys-more l r k ∙ rw f in
     sym (ap (map (entryIn (l ++ (r ∷ [])))) one ∙ map-snoc (entryIn (l ++ (r ∷ []))) (entryKeys l) (r .key)
     ∙ ap₂ (λ m e. m ++ (e ∷ []))
-    (map-on-members (entryIn l) (entryIn (l ++ (r ∷ []))) (entryKeys l) (λ x i. entry-other l r x (λ e. apart (sym (some-of (λ y. eqb y (r .key)) (entryKeys l) x i (eq-eqb x (r .key) (sym e))) ∙ f))))
+    (map-same (entryIn l) (entryIn (l ++ (r ∷ []))) (entryKeys l) (λ x i. entry-other l r x (λ e. apart (sym (some-of (λ y. eqb y (r .key)) (entryKeys l) x i (eq-eqb x (r .key) (sym e))) ∙ f))))
     (dot-entry l r k ∙ ap₂ (λ d v. entryAs (r .key) (d ++ (dotOf r ∷ [])) v) (ap (map dotOf) (those-none (underKey 2 (r .key)) l no-dot)) (ap (placesFrom (valueIn l (r .key)) 0) (those-none (underKey 3 (r .key)) l no-value))))
   where
     no-dot : (x : Record) → x ∈ l → underKey 2 (r .key) x ≡ false

@@ -205,7 +205,7 @@ waiting-new l r z k i =
     let one : waitingCount (l ++ (r ∷ [])) ≡ suc (waitingCount l) = omega arith in
     sym (ap (λ n. map (removalIn (l ++ (r ∷ []))) (below n)) one ∙ map-snoc (removalIn (l ++ (r ∷ []))) (below (waitingCount l)) (waitingCount l)
     ∙ ap₂ (λ m w. m ++ (w ∷ []))
-    (Rattle.mapreader.proofs.Steps.map-on-members (removalIn l) (removalIn (l ++ (r ∷ []))) (below (waitingCount l))
+    (Rattle.lists.proofs.Twice.map-same (removalIn l) (removalIn (l ++ (r ∷ []))) (below (waitingCount l))
     (λ x j. let b = members-below (waitingCount l) x j in removal-same l r x (other-index 5 x r (λ q. omega arith)) (other-index 6 x r (λ q. omega arith))))
     (ap (removalIn (l ++ (r ∷ []))) (sym i) ∙ dot-removal l r k
     ∙ ap₂ (λ d m. removalAs (map dotOf d ++ (dotOf r ∷ [])) (map (λ x. x .key) m)) (those-none (underIndex 5 (r .index)) l no-dot) (those-none (underIndex 6 (r .index)) l no-keys)))

@@ -20,7 +20,7 @@ use Rattle.parts.specs.declared.Entry.{Entry}
 use Rattle.parts.specs.declared.Removal.{Removal}
 use Rattle.parts.specs.declared.Update.{Update}
 use Rattle.parts.specs.Model.{dotsIn, valuesIn, entryAs, underOf, listedIn}
-use Rattle.parts.specs.Entries.{cutEntry, listed, removeFrom, putEntry, alone, keepDots, together}
+use Rattle.parts.specs.Entries.{cutEntry, listed, removeFrom, putEntry, cutAlone, keepDots, mergeBoth}
 use Rattle.parts.specs.Valid.{ValidValue, ValidEntry}
 use Rattle.parts.proofs.Pieces.{dots-in, values-in}
 use Rattle.parts.proofs.Packs.{laid-as}
@@ -96,28 +96,19 @@ module _ {seen : List Dot} (h : Lawful seen) (u : Update) (n : 0 < u .dot .count
       (valid-put-values (λ v i. absurd (List·Memᴰ·not-nil i)) (u .put) g))
 
 -- an entry that one side has alone
-pub valid-alone : {seen : List Dot} {e : Entry} → ValidEntry seen e → (other : List Dot) → isEmpty (dotsIn (alone other e)) ≡ false → ValidEntry seen (alone other e)
-unfolding alone
-valid-alone {seen} {e} v other n = go (covers other (dotsIn e)) n
-  where
-    left : List Dot
-    left = cutDots other (dotsIn e)
-
-    kept : Entry
-    kept = entryAs (e .key) left (cutValues (cutDots left other) (valuesIn e))
-
-    go : (b : Bool) → isEmpty (dotsIn (cond b (entryAs (e .key) [] []) kept)) ≡ false → ValidEntry seen (cond b (entryAs (e .key) [] []) kept)
-    go true s = apart (sym nil-empty ∙ ap isEmpty (sym (dots-in (e .key) [] [])) ∙ s)
-    go false s =
-        let h = lawful-cut other (v .clock) in
-        let values = cutValues (cutDots left other) (valuesIn e) in
-        valid-as (e .key) left values h (rw (dots-in (e .key) left values) at s)
-        (covers-trans seen (dotsIn e) h (v .covered) (covers-cut other (v .clock)))
-        (valid-cut-values (cutDots left other) (valuesIn e) (v .values))
+pub valid-alone : {seen : List Dot} {e : Entry} → ValidEntry seen e → (other : List Dot) → isEmpty (dotsIn (cutAlone other e)) ≡ false → ValidEntry seen (cutAlone other e)
+unfolding cutAlone
+valid-alone {seen} {e} v other n =
+    let left = cutDots other (dotsIn e) in
+    let h = lawful-cut other (v .clock) in
+    let values = cutValues (cutDots left other) (valuesIn e) in
+    valid-as (e .key) left values h (rw (dots-in (e .key) left values) at n)
+    (covers-trans seen (dotsIn e) h (v .covered) (covers-cut other (v .clock)))
+    (valid-cut-values (cutDots left other) (valuesIn e) (v .values))
 
 -- an entry that both sides have
-pub valid-together : {ours theirs : List Dot} {e f : Entry} → Lawful ours → Lawful theirs → ValidEntry ours e → ValidEntry theirs f → isEmpty (dotsIn (together ours theirs e f)) ≡ false → ValidEntry (joinDots ours theirs) (together ours theirs e f)
-unfolding together
+pub valid-together : {ours theirs : List Dot} {e f : Entry} → Lawful ours → Lawful theirs → ValidEntry ours e → ValidEntry theirs f → isEmpty (dotsIn (mergeBoth ours theirs e f)) ≡ false → ValidEntry (joinDots ours theirs) (mergeBoth ours theirs e f)
+unfolding mergeBoth
 valid-together {ours} {theirs} {e} {f} h k v w n =
     let keep = keepDots ours theirs (dotsIn e) (dotsIn f) in
     let by = cutDots keep (joinDots (dotsIn e) (dotsIn f)) in

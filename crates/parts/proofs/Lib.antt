@@ -11,6 +11,7 @@ pub mod Runs
 pub mod Waits
 pub mod Rounds
 pub mod Wholes
+pub mod Goes
 pub mod Fits
 pub mod Kept
 pub mod Listed

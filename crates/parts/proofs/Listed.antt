@@ -8,7 +8,6 @@ use Prim.Native.Nat.{ℕ, _<_}
 use native.Mathlib.Omega.{arith}
 use borrow.Author.Tests.{ltb-true, lt-ltb, not-true}
 use Rattle.lists.specs.Sift.{sift, those}
-use Rattle.lists.specs.Weave.{weave}
 use Rattle.lists.specs.Order.{_∈_, Ascending, next, by}
 use Rattle.lists.proofs.Orders.{by-strict}
 use Rattle.lists.proofs.Those.{sift-means, those-means, those-ascends}
@@ -24,12 +23,13 @@ use Rattle.parts.specs.declared.Entry.{Entry}
 use Rattle.parts.specs.declared.Removal.{Removal}
 use Rattle.parts.specs.declared.Update.{Update}
 use Rattle.parts.specs.Model.{dotsIn, valuesIn, entryAs}
-use Rattle.parts.specs.Entries.{stays, cutEntry, removeFrom, removeEntries, putEntry, entryAt, aside, putEntries, alone, together, mergeEntries}
+use Rattle.parts.specs.Entries.{stays, cutEntry, removeFrom, removeEntries, putEntry, entryAt, aside, putEntries, cutAlone, mergeBoth, mergeEntries}
 use Rattle.parts.specs.Valid.{ValidValue, ValidEntry, ValidEntries}
 use Rattle.parts.proofs.Pieces.{dots-in}
-use Rattle.parts.proofs.Cuts.{cut-key}
+use Rattle.parts.proofs.Cuts.{cut-key, Whole}
 use Rattle.parts.proofs.Runs.{from-key}
-use Rattle.parts.proofs.Wholes.{at-every, put-every}
+use Rattle.parts.proofs.Wholes.{at-every, put-every, whole-alone, whole-together}
+use Rattle.parts.proofs.Goes.{wovenEntries, merge-sifted}
 use Rattle.parts.proofs.Kept.{valid-more, valid-reset, valid-from, valid-put, valid-new, valid-alone, valid-together}
 
 abbrev key : Entry → ℕ
@@ -40,19 +40,12 @@ pub put-key : (u : Update) (e : Entry) → putEntry u e .key ≡ e .key
 unfolding putEntry
 put-key u e = refl
 
-pub alone-key : (other : List Dot) (e : Entry) → alone other e .key ≡ e .key
-unfolding alone
-alone-key other e = go (covers other (dotsIn e))
-  where
-    left : List Dot
-    left = cutDots other (dotsIn e)
+pub alone-key : (other : List Dot) (e : Entry) → cutAlone other e .key ≡ e .key
+unfolding cutAlone
+alone-key other e = refl
 
-    go : (b : Bool) → cond b (entryAs (e .key) [] []) (entryAs (e .key) left (cutValues (cutDots left other) (valuesIn e))) .key ≡ e .key
-    go true = refl
-    go false = refl
-
-pub together-key : (ours theirs : List Dot) (e f : Entry) → together ours theirs e f .key ≡ e .key
-unfolding together
+pub together-key : (ours theirs : List Dot) (e f : Entry) → mergeBoth ours theirs e f .key ≡ e .key
+unfolding mergeBoth
 together-key ours theirs e f = refl
 
 -- the entry at a key has that key
@@ -77,17 +70,20 @@ reset-entries-each P c l f z i =
 
 -- the entries after a merge
 pub merge-entries-each : (P : Entry → Type 0) (ours theirs : List Dot) {l m : List Entry} → Ascending (by (λ e. e .key)) l → Ascending (by (λ e. e .key)) m
-    → ((e : Entry) → e ∈ l → isEmpty (dotsIn (alone theirs e)) ≡ false → P (alone theirs e))
-    → ((e : Entry) → e ∈ m → isEmpty (dotsIn (alone ours e)) ≡ false → P (alone ours e))
-    → ((e f : Entry) → e ∈ l → f ∈ m → e .key ≡ f .key → isEmpty (dotsIn (together ours theirs e f)) ≡ false → P (together ours theirs e f))
+    → ((e : Entry) → e ∈ l → isEmpty (dotsIn (cutAlone theirs e)) ≡ false → P (cutAlone theirs e))
+    → ((e : Entry) → e ∈ m → isEmpty (dotsIn (cutAlone ours e)) ≡ false → P (cutAlone ours e))
+    → ((e f : Entry) → e ∈ l → f ∈ m → e .key ≡ f .key → isEmpty (dotsIn (mergeBoth ours theirs e f)) ≡ false → P (mergeBoth ours theirs e f))
     → (z : Entry) → z ∈ mergeEntries ours theirs l m → P z
-unfolding mergeEntries
 merge-entries-each P ours theirs {l} {m} a b f g h z i =
-    let woven = weave (by key) (alone theirs) (alone ours) (together ours theirs) l m in
-    let r = those-means stays woven i in
-    weave-every (by key) (alone theirs) (alone ours) (together ours theirs) (by-strict key) (by-steady key)
+    let r = those-means stays (wovenEntries ours theirs l m) (rw (merge-sifted ours theirs l m) at i) in
+    weave-every (by key) (cutAlone theirs) (cutAlone ours) (mergeBoth ours theirs) (by-strict key) (by-steady key)
     (λ e. isEmpty (dotsIn e) ≡ false → P e) a b (λ e j s. f e j) (λ e j s. g e j) (λ e e′ j k s. h e e′ j k (by-level key e e′ s))
     z (r .0) (not-true _ (r .1))
+
+pub whole-merged : (ours theirs : List Dot) {l m : List Entry} → Ascending (by (λ e. e .key)) l → Ascending (by (λ e. e .key)) m → ((e : Entry) → e ∈ l → Whole e) → ((e : Entry) → e ∈ m → Whole e)
+    → (e : Entry) → e ∈ mergeEntries ours theirs l m → Whole e
+whole-merged ours theirs a b f g =
+    merge-entries-each Whole ours theirs a b (λ e i s. whole-alone theirs (f e i)) (λ e i s. whole-alone ours (g e i)) (λ e f′ i j q s. whole-together ours theirs (f e i) (g f′ j))
 
 module _ {seen : List Dot} {l : List Entry} (v : ValidEntries seen l) where
   pub valid-those : (p : Entry → Bool) → ValidEntries seen (those p l)
@@ -135,12 +131,12 @@ module _ {seen : List Dot} {l : List Entry} (v : ValidEntries seen l) where
     }
 
 merge-ascends : (ours theirs : List Dot) {l m : List Entry} → Ascending (by key) l → Ascending (by key) m → Ascending (by key) (mergeEntries ours theirs l m)
-unfolding mergeEntries
-merge-ascends ours theirs a b =
-    those-ascends stays
-    (weave-ascends (by key) (alone theirs) (alone ours) (together ours theirs) (by-strict key) (by-steady key)
-    (λ e. level-by key e (alone theirs e) (sym (alone-key theirs e))) (λ e. level-by key e (alone ours e) (sym (alone-key ours e)))
-    (λ e f s. level-by key e (together ours theirs e f) (sym (together-key ours theirs e f))) a b)
+merge-ascends ours theirs {l} {m} a b =
+    rw (merge-sifted ours theirs l m)
+    (those-ascends stays
+    (weave-ascends (by key) (cutAlone theirs) (cutAlone ours) (mergeBoth ours theirs) (by-strict key) (by-steady key)
+    (λ e. level-by key e (cutAlone theirs e) (sym (alone-key theirs e))) (λ e. level-by key e (cutAlone ours e) (sym (alone-key ours e)))
+    (λ e f s. level-by key e (mergeBoth ours theirs e f) (sym (together-key ours theirs e f))) a b))
 
 pub valid-merge : {ours theirs : List Dot} {l m : List Entry} → Lawful ours → Lawful theirs → ValidEntries ours l → ValidEntries theirs m → ValidEntries (joinDots ours theirs) (mergeEntries ours theirs l m)
 valid-merge {ours} {theirs} h k v w = record {

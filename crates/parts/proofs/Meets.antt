@@ -2,27 +2,50 @@
 -- Assumes nothing.
 use mathlib.Core.Path.{_≡_, refl, sym}
 use mathlib.Core.Bool.{Bool, true, false, not, _&&_, _||_, cond}
-use mathlib.Core.List.{List, _∷_}
+use mathlib.Core.Logic.{_⊎_, inl, inr}
+use mathlib.Core.List.{List, [], _∷_, flatten}
 use Prim.Native.Nat.{ℕ, _+_, _≤_, _<_}
 use native.Mathlib.Omega.{arith}
 use lib.Dec.{ltb}
 use lib.ListN.{length, take, drop, getD}
 use Rattle.lists.specs.Order.{by}
+use Rattle.lists.specs.Sift.{sift}
 use Rattle.lists.proofs.Orders.{apart}
 use Rattle.lists.proofs.Rests.{map-on, weave-first, weave-second, weave-both, weave-first-left, weave-second-left}
 use Rattle.clock.specs.declared.Dot.{Dot}
+use Rattle.clock.specs.Dots.{isEmpty, covers}
 use Rattle.parts.specs.declared.Entry.{Entry}
 use Rattle.parts.specs.declared.Met.{Met}
-use Rattle.parts.specs.Model.{handOf, Laid}
-use Rattle.parts.specs.Entries.{alone, together, meeting, weaveEntries}
+use Rattle.parts.specs.Model.{dotsIn, leftOf, Laid}
+use Rattle.parts.specs.Entries.{stays, cutAlone, alone, keepDots, mergeBoth, together, meeting, weaveEntries}
 use Rattle.parts.proofs.Packs.{noneRead, laid-alone, laid-together}
 
--- the entry in hand is the first of what is left of both lists, and some of them is taken
+-- nothing is left, or one entry as it is laid down
+abbrev pub One : List Entry → Type 0
+One l = (l ≡ []) ⊎ ((e : Entry) × (l ≡ e ∷ []) × Laid e)
+
+pub one-alone : (other : List Dot) (e : Entry) → One (alone other e)
+unfolding alone
+one-alone other e = go (covers other (dotsIn e))
+  where
+    go : (b : Bool) → One (cond b [] (cutAlone other e ∷ []))
+    go true = inl refl
+    go false = inr (cutAlone other e, refl, laid-alone other e)
+
+pub one-together : (ours theirs : List Dot) (e f : Entry) → One (together ours theirs e f)
+unfolding together
+one-together ours theirs e f = go (isEmpty (keepDots ours theirs (dotsIn e) (dotsIn f)))
+  where
+    go : (b : Bool) → One (cond b [] (mergeBoth ours theirs e f ∷ []))
+    go true = inl refl
+    go false = inr (mergeBoth ours theirs e f, refl, laid-together ours theirs e f)
+
+-- what is left of the next is the first of what both lists' rests are woven to, and some of them is taken
 pub record Next (mine yours : List Dot) (l m : List Entry) (i j : ℕ) (r : Met) : Type 0 where
-  pub entry : Entry
-  pub hand : r .hand ≡ handOf entry
-  pub laid : Laid entry
-  pub rest : weaveEntries mine yours (drop i l) (drop j m) ≡ entry ∷ weaveEntries mine yours (drop (i + r .ours) l) (drop (j + r .theirs) m)
+  pub entries : List Entry
+  pub left : r .left ≡ leftOf entries
+  pub one : One entries
+  pub rest : weaveEntries mine yours (drop i l) (drop j m) ≡ entries ∷ weaveEntries mine yours (drop (i + r .ours) l) (drop (j + r .theirs) m)
   pub ours : i + r .ours ≤ length l
   pub theirs : j + r .theirs ≤ length m
   pub some : 1 ≤ r .ours + r .theirs
@@ -35,8 +58,8 @@ At xs n i b x = (b ≡ true → (i < length (take n xs)) × (x ≡ getD xs i non
 module _ (mine yours : List Dot) (xs : List Entry) (n i : ℕ) (ys : List Entry) (m j : ℕ) (x y : Entry) (u : i ≤ length (take n xs)) (v : j ≤ length (take m ys)) where
   abbrev pick : Bool → Bool → Bool → Bool → Met
   pick a b p q =
-      cond (a && (not b || p)) (record { hand = handOf (alone yours x); ours = 1; theirs = 0 })
-      (cond (not a || q) (record { hand = handOf (alone mine y); ours = 0; theirs = 1 }) (record { hand = handOf (together mine yours x y); ours = 1; theirs = 1 }))
+      cond (a && (not b || p)) (record { left = leftOf (alone yours x); ours = 1; theirs = 0 })
+      (cond (not a || q) (record { left = leftOf (alone mine y); ours = 0; theirs = 1 }) (record { left = leftOf (together mine yours x y); ours = 1; theirs = 1 }))
 
   stay : (k : ℕ) → k + 0 ≡ k
   stay k = omega arith
@@ -46,9 +69,9 @@ module _ (mine yours : List Dot) (xs : List Entry) (n i : ℕ) (ys : List Entry)
       let h = f .0 refl in
       let k = g .1 refl in
       record {
-        entry = alone yours x;
-        hand = refl;
-        laid = laid-alone yours x;
+        entries = alone yours x;
+        left = refl;
+        one = one-alone yours x;
         rest = rw (stay j, h .1, weave-first-left (by (λ e. e .key)) (alone yours) (alone mine) (together mine yours) (drop i (take n xs)) (take m ys) j k, weave-first-left (by (λ e. e .key)) (alone yours) (alone mine) (together mine yours) (drop (i + 1) (take n xs)) (take m ys) j k)
             (map-on xs n i noneRead (h .0) (alone yours));
         ours = omega (arith, h .0);
@@ -60,9 +83,9 @@ module _ (mine yours : List Dot) (xs : List Entry) (n i : ℕ) (ys : List Entry)
       let h = f .0 refl in
       let k = g .0 refl in
       record {
-        entry = alone yours x;
-        hand = refl;
-        laid = laid-alone yours x;
+        entries = alone yours x;
+        left = refl;
+        one = one-alone yours x;
         rest = rw (stay j, h .1) (weave-first (by (λ e. e .key)) (alone yours) (alone mine) (together mine yours) xs n i ys m j noneRead (h .0) (k .0) (rw (h .1, k .1) at s));
         ours = omega (arith, h .0);
         theirs = omega arith;
@@ -73,9 +96,9 @@ module _ (mine yours : List Dot) (xs : List Entry) (n i : ℕ) (ys : List Entry)
       let h = f .0 refl in
       let k = g .0 refl in
       record {
-        entry = alone mine y;
-        hand = refl;
-        laid = laid-alone mine y;
+        entries = alone mine y;
+        left = refl;
+        one = one-alone mine y;
         rest = rw (stay i, k .1) (weave-second (by (λ e. e .key)) (alone yours) (alone mine) (together mine yours) xs n i ys m j noneRead (h .0) (k .0) (rw (h .1, k .1) at s) (rw (h .1, k .1) at t));
         ours = omega arith;
         theirs = omega (arith, k .0);
@@ -86,9 +109,9 @@ module _ (mine yours : List Dot) (xs : List Entry) (n i : ℕ) (ys : List Entry)
       let h = f .0 refl in
       let k = g .0 refl in
       record {
-        entry = together mine yours x y;
-        hand = refl;
-        laid = laid-together mine yours x y;
+        entries = together mine yours x y;
+        left = refl;
+        one = one-together mine yours x y;
         rest = rw (h .1, k .1) (weave-both (by (λ e. e .key)) (alone yours) (alone mine) (together mine yours) xs n i ys m j noneRead (h .0) (k .0) (rw (h .1, k .1) at s) (rw (h .1, k .1) at t));
         ours = omega (arith, h .0);
         theirs = omega (arith, k .0);
@@ -99,9 +122,9 @@ module _ (mine yours : List Dot) (xs : List Entry) (n i : ℕ) (ys : List Entry)
       let h = f .1 refl in
       let k = g .0 refl in
       record {
-        entry = alone mine y;
-        hand = refl;
-        laid = laid-alone mine y;
+        entries = alone mine y;
+        left = refl;
+        one = one-alone mine y;
         rest = rw (stay i, k .1, weave-second-left (by (λ e. e .key)) (alone yours) (alone mine) (together mine yours) (take n xs) (drop j (take m ys)) i h, weave-second-left (by (λ e. e .key)) (alone yours) (alone mine) (together mine yours) (take n xs) (drop (j + 1) (take m ys)) i h)
             (map-on ys m j noneRead (k .0) (alone mine));
         ours = omega arith;
@@ -115,3 +138,13 @@ module _ (mine yours : List Dot) (xs : List Entry) (n i : ℕ) (ys : List Entry)
   pub next : {a b : Bool} {r : Met} → At xs n i a x → At ys m j b y → (a || b) ≡ true → r ≡ meeting mine yours a b x y → Next mine yours (take n xs) (take m ys) i j r
   unfolding meeting
   next {a} {b} f g o e = rw e (go a b (ltb (x .key) (y .key)) (ltb (y .key) (x .key)) f g refl refl o)
+
+-- what a loop finishes of a list that begins with what is left of the next
+module _ (change : Entry → Entry) {left : List Entry} (rest : List (List Entry)) where
+  pub none-left : left ≡ [] → sift stays change (flatten (left ∷ rest)) ≡ sift stays change (flatten rest)
+  unfolding flatten
+  none-left e = rw e refl
+
+  pub one-left : (e : Entry) → left ≡ e ∷ [] → sift stays change (flatten (left ∷ rest)) ≡ sift stays change (e ∷ flatten rest)
+  unfolding flatten
+  one-left e q = rw q refl

@@ -17,7 +17,7 @@ use Rattle.parts.specs.declared.Removal.{Removal}
 use Rattle.parts.specs.declared.Waiting.{Waiting}
 use Rattle.parts.specs.declared.Update.{Update}
 use Rattle.parts.specs.Model.{entryLimit, waitingLimit, noEntry, noRemoval, dotsIn, valuesIn, entryAs, entriesAs, waitingOf, waitingAs, handOf, Laid}
-use Rattle.parts.specs.Entries.{stays, removeFrom, removeEntries, putEntry, alone, together}
+use Rattle.parts.specs.Entries.{stays, removeFrom, removeEntries, putEntry, cutAlone, mergeBoth}
 use Rattle.parts.proofs.Pieces.{dots-in, values-in, waiting-of}
 
 -- what the logic reads past the end of an array of entries, or of removals
@@ -50,16 +50,12 @@ pub remove-length : (r : Removal) (l : List Entry) → length (removeEntries r l
 unfolding removeEntries
 remove-length r l = length-sift stays (removeFrom r) l
 
-pub laid-alone : (other : List Dot) (e : Entry) → Laid (alone other e)
-unfolding alone
-laid-alone other e = go (covers other (dotsIn e))
-  where
-    go : (b : Bool) → Laid (cond b (entryAs (e .key) [] []) (entryAs (e .key) (cutDots other (dotsIn e)) (cutValues (cutDots (cutDots other (dotsIn e)) other) (valuesIn e))))
-    go true = laid-as _ _ _
-    go false = laid-as _ _ _
+pub laid-alone : (other : List Dot) (e : Entry) → Laid (cutAlone other e)
+unfolding cutAlone
+laid-alone other e = laid-as _ _ _
 
-pub laid-together : (ours theirs : List Dot) (e f : Entry) → Laid (together ours theirs e f)
-unfolding together
+pub laid-together : (ours theirs : List Dot) (e f : Entry) → Laid (mergeBoth ours theirs e f)
+unfolding mergeBoth
 laid-together ours theirs e f = laid-as _ _ _
 
 pub laid-put : (u : Update) (e : Entry) → Laid (putEntry u e)

@@ -18,7 +18,7 @@ use Rattle.parts.specs.declared.Entry.{Entry}
 use Rattle.parts.specs.declared.Removal.{Removal}
 use Rattle.parts.specs.declared.Update.{Update}
 use Rattle.parts.specs.Model.{dotsIn, valuesIn, entryAs, underOf, listedIn}
-use Rattle.parts.specs.Entries.{stays, cutEntry, listed, removeFrom, removeEntries, putEntry, putEntries, alone, keepDots, together, mergeEntries}
+use Rattle.parts.specs.Entries.{stays, cutEntry, listed, removeFrom, removeEntries, putEntry, putEntries, cutAlone, keepDots, mergeBoth, mergeEntries}
 use Rattle.parts.proofs.Pieces.{values-in}
 use Rattle.parts.proofs.Wholes.{at-every, put-every}
 use Rattle.parts.proofs.Listed.{remove-entries-each, reset-entries-each, merge-entries-each}
@@ -55,19 +55,14 @@ module _ {e : Entry} (s : SmallEntry e) where
   small-put u h =
       small-as (e .key) (addDot (dotsIn e) (u .dot)) (putValues (valuesIn e) (u .put)) (put-each SmallValue (valuesIn e) (u .put) (s .each) (λ n. h))
 
-  pub small-alone : (other : List Dot) → SmallEntry (alone other e)
-  unfolding alone
-  small-alone other = go (covers other (dotsIn e))
-    where
-      left : List Dot
-      left = cutDots other (dotsIn e)
+  pub small-alone : (other : List Dot) → SmallEntry (cutAlone other e)
+  unfolding cutAlone
+  small-alone other =
+      let left = cutDots other (dotsIn e) in
+      small-as (e .key) left (cutValues (cutDots left other) (valuesIn e)) (small-cut-values (cutDots left other) (valuesIn e) (s .each))
 
-      go : (b : Bool) → SmallEntry (cond b (entryAs (e .key) [] []) (entryAs (e .key) left (cutValues (cutDots left other) (valuesIn e))))
-      go true = small-as (e .key) [] [] (λ v i. absurd (List·Memᴰ·not-nil i))
-      go false = small-as (e .key) left (cutValues (cutDots left other) (valuesIn e)) (small-cut-values (cutDots left other) (valuesIn e) (s .each))
-
-  pub small-together : (ours theirs : List Dot) {f : Entry} → SmallEntry f → SmallEntry (together ours theirs e f)
-  unfolding together
+  pub small-together : (ours theirs : List Dot) {f : Entry} → SmallEntry f → SmallEntry (mergeBoth ours theirs e f)
+  unfolding mergeBoth
   small-together ours theirs {f} t =
       let keep = keepDots ours theirs (dotsIn e) (dotsIn f) in
       let c = cutDots keep (joinDots (dotsIn e) (dotsIn f)) in

@@ -28,7 +28,7 @@ use Rattle.register.proofs.Kept.{merge-each}
 use Rattle.parts.specs.declared.Entry.{Entry}
 use Rattle.parts.specs.declared.Update.{Update}
 use Rattle.parts.specs.Model.{dotsIn, valuesIn, entryAs}
-use Rattle.parts.specs.Entries.{stays, aside, putEntry, entryAt, putEntries, alone, keepDots, together}
+use Rattle.parts.specs.Entries.{stays, aside, putEntry, entryAt, putEntries, cutAlone, keepDots, mergeBoth}
 use Rattle.parts.specs.Valid.{ValidValue}
 use Rattle.parts.proofs.Pieces.{dots-in, values-in}
 use Rattle.parts.proofs.Cuts.{Whole, valid-cut-values}
@@ -43,32 +43,20 @@ whole-as k {c} {l} h f = record {
 pub whole-none : (k : ℕ) → Whole (entryAs k [] [])
 whole-none k = whole-as k lawful-nil (λ v i. absurd (List·Memᴰ·not-nil i))
 
-pub whole-alone : (other : List Dot) {e : Entry} → Whole e → Whole (alone other e)
-unfolding alone
-whole-alone other {e} h = go (covers other (dotsIn e))
-  where
-    go : (b : Bool) → Whole (cond b (entryAs (e .key) [] []) (entryAs (e .key) (cutDots other (dotsIn e)) (cutValues (cutDots (cutDots other (dotsIn e)) other) (valuesIn e))))
-    go true = whole-none (e .key)
-    go false = whole-as (e .key) (lawful-cut other (h .clock)) (valid-cut-values (cutDots (cutDots other (dotsIn e)) other) (valuesIn e) (h .values))
+pub whole-alone : (other : List Dot) {e : Entry} → Whole e → Whole (cutAlone other e)
+unfolding cutAlone
+whole-alone other {e} h =
+    whole-as (e .key) (lawful-cut other (h .clock)) (valid-cut-values (cutDots (cutDots other (dotsIn e)) other) (valuesIn e) (h .values))
 
 pub lawful-keep : (ours theirs : List Dot) {a b : List Dot} → Lawful a → Lawful b → Lawful (keepDots ours theirs a b)
 unfolding keepDots
 lawful-keep ours theirs {b = b} h k = lawful-join (lawful-join (lawful-common b h) (lawful-cut theirs h)) (lawful-cut ours k)
 
-pub whole-together : (ours theirs : List Dot) {e f : Entry} → Whole e → Whole f → Whole (together ours theirs e f)
-unfolding together
+pub whole-together : (ours theirs : List Dot) {e f : Entry} → Whole e → Whole f → Whole (mergeBoth ours theirs e f)
+unfolding mergeBoth
 whole-together ours theirs {e} {f} h k =
     whole-as (e .key) (lawful-keep ours theirs (h .clock) (k .clock))
     (valid-cut-values _ (mergeValues (valuesIn e) (valuesIn f)) (merge-each ValidValue (valuesIn e) (valuesIn f) (h .values) (k .values)))
-
--- the entries of two maps, woven
-abbrev pub wovenEntries : List Dot → List Dot → List Entry → List Entry → List Entry
-wovenEntries ours theirs l m = weave (by (λ e. e .key)) (alone theirs) (alone ours) (together ours theirs) l m
-
-pub whole-woven : (ours theirs : List Dot) {l m : List Entry} → Ascending (by (λ e. e .key)) l → Ascending (by (λ e. e .key)) m → ((e : Entry) → e ∈ l → Whole e) → ((e : Entry) → e ∈ m → Whole e) → (e : Entry) → e ∈ wovenEntries ours theirs l m → Whole e
-whole-woven ours theirs a b f g =
-    weave-every (by (λ e. e .key)) (alone theirs) (alone ours) (together ours theirs) (by-strict (λ e. e .key)) (by-steady (λ e. e .key)) Whole a b
-    (λ x i s. whole-alone theirs (f x i)) (λ y i s. whole-alone ours (g y i)) (λ x y i j e. whole-together ours theirs (f x i) (g y j))
 
 -- the entry of a key is one of the entries, or a new one
 pub at-every : (P : Entry → Type 0) (k : ℕ) (l : List Entry) → ((e : Entry) → e ∈ l → e .key ≡ k → P e) → P (entryAs k [] []) → P (entryAt k l)

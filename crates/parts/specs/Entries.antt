@@ -1,7 +1,7 @@
 -- 01 "Map", what becomes of an entry: in a removal, an update, a merge; and of all entries, in the order of their keys.
 -- Assumes nothing.
 use mathlib.Core.Bool.{Bool, true, false, not, _&&_, _||_, cond}
-use mathlib.Core.List.{List, [], _∷_, _++_}
+use mathlib.Core.List.{List, [], _∷_, _++_, flatten}
 use Prim.Native.Nat.{ℕ}
 use lib.Dec.{ltb, eqb}
 use Rattle.lists.specs.Sift.{sift, those}
@@ -16,7 +16,7 @@ use Rattle.parts.specs.declared.Entry.{Entry}
 use Rattle.parts.specs.declared.Removal.{Removal}
 use Rattle.parts.specs.declared.Update.{Update}
 use Rattle.parts.specs.declared.Met.{Met}
-use Rattle.parts.specs.Model.{dotsIn, valuesIn, entryAs, handOf, underOf, listedIn}
+use Rattle.parts.specs.Model.{dotsIn, valuesIn, entryAs, leftOf, underOf, listedIn}
 
 -- "Every entry clock is non-empty": an entry whose clock is emptied goes
 abbrev pub stays : Entry → Bool
@@ -54,33 +54,39 @@ aside below k e = cond below (ltb (e .key) k) (ltb k (e .key))
 unfoldable pub putEntries : Update → List Entry → List Entry
 putEntries u l = those (aside true (u .key)) l ++ (putEntry u (entryAt (u .key) l) ∷ those (aside false (u .key)) l)
 
--- "Merge, entry on one side only: if the other map's clock covers the entry clock, it goes. Else cut the entry clock by the other map's clock,
--- and cut the register by (other map's clock cut by the new entry clock)." An entry that goes is left with no dot.
-unfoldable pub alone : List Dot → Entry → Entry
-alone other e =
+-- "cut the entry clock by the other map's clock, and cut the register by (other map's clock cut by the new entry clock)"
+unfoldable pub cutAlone : List Dot → Entry → Entry
+cutAlone other e =
     let left = cutDots other (dotsIn e) in
-    cond (covers other (dotsIn e)) (entryAs (e .key) [] []) (entryAs (e .key) left (cutValues (cutDots left other) (valuesIn e)))
+    entryAs (e .key) left (cutValues (cutDots left other) (valuesIn e))
+
+-- "Merge, entry on one side only: if the other map's clock covers the entry clock, it goes. Else" it is cut: nothing is left of it, or one entry
+unfoldable pub alone : List Dot → Entry → List Entry
+alone other e = cond (covers other (dotsIn e)) [] (cutAlone other e ∷ [])
 
 -- "keep = common dots, joined with each entry clock cut by the other map's clock"
 unfoldable pub keepDots : List Dot → List Dot → List Dot → List Dot → List Dot
 keepDots ours theirs a b = joinDots (joinDots (commonDots a b) (cutDots theirs a)) (cutDots ours b)
 
 -- "merge registers, cut the result by (both entry clocks joined, then cut by keep), entry clock = keep"
-unfoldable pub together : List Dot → List Dot → Entry → Entry → Entry
-together ours theirs e f =
+unfoldable pub mergeBoth : List Dot → List Dot → Entry → Entry → Entry
+mergeBoth ours theirs e f =
     let keep = keepDots ours theirs (dotsIn e) (dotsIn f) in
     entryAs (e .key) keep (cutValues (cutDots keep (joinDots (dotsIn e) (dotsIn f))) (mergeValues (valuesIn e) (valuesIn f)))
 
--- the next entry of a merge in hand, and how many it takes of each side, where a side may have no more
+-- "Merge, entry on both: .. Empty: the entry goes. Else" they are merged
+unfoldable pub together : List Dot → List Dot → Entry → Entry → List Entry
+together ours theirs e f = cond (isEmpty (keepDots ours theirs (dotsIn e) (dotsIn f))) [] (mergeBoth ours theirs e f ∷ [])
+
+-- what is left of the next of a merge, and how many it takes of each side, where a side may have no more
 unfoldable pub meeting : List Dot → List Dot → Bool → Bool → Entry → Entry → Met
 meeting ours theirs a b x y =
-    cond (a && (not b || ltb (x .key) (y .key))) (record { hand = handOf (alone theirs x); ours = 1; theirs = 0 })
-    (cond (not a || ltb (y .key) (x .key)) (record { hand = handOf (alone ours y); ours = 0; theirs = 1 }) (record { hand = handOf (together ours theirs x y); ours = 1; theirs = 1 }))
+    cond (a && (not b || ltb (x .key) (y .key))) (record { left = leftOf (alone theirs x); ours = 1; theirs = 0 })
+    (cond (not a || ltb (y .key) (x .key)) (record { left = leftOf (alone ours y); ours = 0; theirs = 1 }) (record { left = leftOf (together ours theirs x y); ours = 1; theirs = 1 }))
 
--- what stands on one side only, and what stands on both, by key
-abbrev pub weaveEntries : List Dot → List Dot → List Entry → List Entry → List Entry
+-- what is left of each that stands on one side only, and of two that stand on both, by key
+abbrev pub weaveEntries : List Dot → List Dot → List Entry → List Entry → List (List Entry)
 weaveEntries ours theirs l m = weave (by (λ e. e .key)) (alone theirs) (alone ours) (together ours theirs) l m
 
--- "Empty: the entry goes." "Should the cut leave the entry clock empty, the entry is dropped."
 unfoldable pub mergeEntries : List Dot → List Dot → List Entry → List Entry → List Entry
-mergeEntries ours theirs l m = those stays (weaveEntries ours theirs l m)
+mergeEntries ours theirs l m = flatten (weaveEntries ours theirs l m)

@@ -2,7 +2,7 @@
 -- Assumes nothing.
 use mathlib.Core.Path.{_≡_}
 use mathlib.Core.Bool.{Bool, true, false, not, _&&_, cond}
-use mathlib.Core.List.{List, []}
+use mathlib.Core.List.{List, [], _∷_}
 use Prim.Native.Nat.{ℕ, _≤_}
 use lib.Dec.{ltb, leb}
 use lib.ListN.{length, take}
@@ -21,6 +21,7 @@ use Rattle.parts.specs.declared.Waiting.{Waiting}
 use Rattle.parts.specs.declared.Update.{Update}
 use Rattle.parts.specs.declared.United.{United}
 use Rattle.parts.specs.declared.Hand.{Hand}
+use Rattle.parts.specs.declared.Left.{Left}
 use Rattle.parts.specs.declared.Lying.{Lying}
 use Rattle.parts.specs.declared.Finished.{Finished}
 use Rattle.parts.specs.declared.Gathered.{Gathered}
@@ -92,6 +93,11 @@ keysFit l = within keyLimit (λ k. record { over = false; keys = keysAs k }) (re
 -- an entry in hand
 abbrev pub handOf : Entry → Hand
 handOf e = record { key = e .key; clock = e .clock; wide = wideOf (valuesIn e) }
+
+-- what is left of an entry: nothing, or one in hand
+abbrev pub leftOf : List Entry → Left
+leftOf [] = record { stays = false; hand = handOf noEntry }
+leftOf (e ∷ l) = record { stays = true; hand = handOf e }
 
 -- an entry laid down with zeros behind its dots and its values
 abbrev pub Laid : Entry → Type 0

@@ -9,13 +9,14 @@ ghost use Rattle.lists.specs.Sift.{sift, those};
 ghost use Rattle.lists.specs.Order.{_∈_};
 ghost use Rattle.clock.specs.Dots.{dotLimit, dotsOf, joinDots, addDot};
 ghost use Rattle.parts.specs.declared.Entry.{Entry};
-ghost use Rattle.parts.specs.Model.{entryLimit, dotsIn, entriesOf, entriesAs, waitingOf, entryAs, handOf, Laid, lying, Finishes};
-ghost use Rattle.parts.specs.Entries.{stays, cutEntry, removeFrom, removeEntries, run, putEntry, entryAt, aside, alone, keepDots, together, meeting, weaveEntries};
+ghost use Rattle.parts.specs.Model.{entryLimit, dotsIn, entriesOf, entriesAs, waitingOf, entryAs, handOf, leftOf, Laid, lying, Finishes};
+ghost use Rattle.parts.specs.Entries.{stays, cutEntry, removeFrom, removeEntries, run, putEntry, entryAt, aside, alone, keepDots, together, meeting, mergeEntries};
 use crate::ENTRIES;
 use crate::Entries;
 use crate::Entry;
 use crate::Finished;
 use crate::Hand;
+use crate::Left;
 use crate::Lying;
 use crate::Met;
 use crate::Removal;
@@ -100,40 +101,54 @@ impl Entry {
     }
 
     // What a merge leaves of an entry that one map has alone; `other` is the other map's clock.
-    pub fn alone(self, other: Clock) -> Hand
-        ensures { λ r. ⌜ r ≡ handOf (alone (dotsOf other) self) ⌝ }
+    pub fn alone(self, other: Clock) -> Left
+        ensures { λ r. ⌜ r ≡ leftOf (alone (dotsOf other) self) ⌝ }
     {
         if other.covers(self.clock) {
-            return Entry::new(self.key).hand();
+            return Left::none();
         }
         let clock = self.clock.cut(other);
         let deleted = other.cut(clock);
         let wide = self.register.wide().cut(deleted);
-        Hand {
+        let hand = Hand {
             key: self.key,
             clock,
             wide,
-        }
+        };
+        Left { stays: true, hand }
     }
 
     // What a merge makes of an entry that both maps have; `ours` and `theirs` are the maps' clocks.
-    pub fn together(self, other: Entry, ours: Clock, theirs: Clock) -> Hand
+    pub fn together(self, other: Entry, ours: Clock, theirs: Clock) -> Left
         requires { ⌜ (length (keepDots (dotsOf ours) (dotsOf theirs) (dotsIn self) (dotsIn other)) ≤ dotLimit) × (length (joinDots (dotsIn self) (dotsIn other)) ≤ dotLimit) ⌝ }
-        ensures { λ r. ⌜ r ≡ handOf (together (dotsOf ours) (dotsOf theirs) self other) ⌝ }
+        ensures { λ r. ⌜ r ≡ leftOf (together (dotsOf ours) (dotsOf theirs) self other) ⌝ }
     {
         let common = self.clock.common(other.clock);
         let mine = self.clock.cut(theirs);
         let yours = other.clock.cut(ours);
         let keep = common.join(mine).join(yours);
         let clock = keep.clock;
+        if clock.is_empty() {
+            return Left::none();
+        }
         let all = self.clock.join(other.clock);
         let deleted = all.clock.cut(clock);
         let wide = self.register.merge(other.register).cut(deleted);
-        Hand {
+        let hand = Hand {
             key: self.key,
             clock,
             wide,
-        }
+        };
+        Left { stays: true, hand }
+    }
+}
+
+impl Left {
+    fn none() -> Left
+        ensures { λ r. ⌜ r ≡ leftOf [] ⌝ }
+    {
+        let hand = Entry::new(0).hand();
+        Left { stays: false, hand }
     }
 }
 
@@ -298,24 +313,24 @@ fn meet(x: Entry, y: Entry, ours: bool, theirs: bool, mine: Clock, yours: Clock)
     ensures { λ r. ⌜ r ≡ meeting (dotsOf mine) (dotsOf yours) ours theirs x y ⌝ }
 {
     if ours & (!theirs | (x.key < y.key)) {
-        let hand = x.alone(yours);
+        let left = x.alone(yours);
         return Met {
-            hand,
+            left,
             ours: 1,
             theirs: 0,
         };
     }
     if !ours | (y.key < x.key) {
-        let hand = y.alone(mine);
+        let left = y.alone(mine);
         return Met {
-            hand,
+            left,
             ours: 0,
             theirs: 1,
         };
     }
-    let hand = x.together(y, mine, yours);
+    let left = x.together(y, mine, yours);
     Met {
-        hand,
+        left,
         ours: 1,
         theirs: 1,
     }
@@ -389,7 +404,7 @@ impl Entries {
         theirs: Waiting,
     ) -> Finished
         requires { ⌜ ((x y : Entry) → x ∈ entriesOf self → y ∈ entriesOf other → (length (keepDots (dotsOf mine) (dotsOf yours) (dotsIn x) (dotsIn y)) ≤ dotLimit) × (length (joinDots (dotsIn x) (dotsIn y)) ≤ dotLimit)) ⌝ }
-        ensures { λ r. ⌜ Finishes (sift stays (λ e. run (waitingOf ours) (run (waitingOf theirs) e)) (weaveEntries (dotsOf mine) (dotsOf yours) (entriesOf self) (entriesOf other))) r ⌝ }
+        ensures { λ r. ⌜ Finishes (sift stays (λ e. run (waitingOf ours) (run (waitingOf theirs) e)) (mergeEntries (dotsOf mine) (dotsOf yours) (entriesOf self) (entriesOf other))) r ⌝ }
     {
         let n = self.size();
         let m = other.size();
@@ -404,14 +419,17 @@ impl Entries {
             let met = meet(x, y, i < n, j < m, mine, yours);
             i += met.ours;
             j += met.theirs;
-            let h = met.hand.run(theirs).run(ours);
-            if !h.clock.is_empty() {
-                let laid = h.lay();
-                let e = laid.entry;
-                let k = slot(out.count);
-                out.items[k] = e;
-                out.wide = out.wide | laid.over;
-                out.count = out.count + 1;
+            let left = met.left;
+            if left.stays {
+                let h = left.hand.run(theirs).run(ours);
+                if !h.clock.is_empty() {
+                    let laid = h.lay();
+                    let e = laid.entry;
+                    let k = slot(out.count);
+                    out.items[k] = e;
+                    out.wide = out.wide | laid.over;
+                    out.count = out.count + 1;
+                }
             }
         }
         out

@@ -76,9 +76,15 @@ pub struct Lying {
     pub entry: Entry,
 }
 
-// The next entry of a merge in hand, and how many it takes of ours and of theirs.
-pub struct Met {
+// What is left of an entry in a merge: where `stays` is not set it goes, and the hand is empty.
+pub struct Left {
+    pub stays: bool,
     pub hand: Hand,
+}
+
+// What is left of the next entry of a merge, and how many it takes of ours and of theirs.
+pub struct Met {
+    pub left: Left,
     pub ours: usize,
     pub theirs: usize,
 }

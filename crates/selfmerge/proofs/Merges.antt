@@ -3,14 +3,15 @@
 use mathlib.Core.Path.{_≡_, refl, ap, ap₂, sym, _∙_}
 use mathlib.Core.Bool.{Bool, true, false, not}
 use mathlib.Core.Logic.{inl, inr}
-use mathlib.Core.List.{List, [], _∷_, List·Memᴰ·head, List·Memᴰ·tail}
+use mathlib.Core.List.{List, [], _∷_, flatten, List·Memᴰ·head, List·Memᴰ·tail}
 use borrow.Author.Tests.{lt-ltb, leb-true, leb-false}
 use lib.Dec.{leb}
 use Rattle.lists.specs.Fold.{fold}
 use Rattle.lists.specs.Sift.{sift, those}
 use Rattle.lists.specs.Order.{_∈_, by}
 use Rattle.lists.proofs.Those.{those-all}
-use Rattle.lists.proofs.Twice.{sift-same, sift-map}
+use Rattle.lists.proofs.Twice.{map-same, sift-same}
+use Rattle.lists.proofs.Weaves.{flatten-ones}
 use Rattle.clock.specs.declared.Dot.{Dot}
 use Rattle.clock.specs.Dots.{dotsOf, clockOf, counterIn, beyond, cutDots}
 use Rattle.clock.proofs.Joins.{join-again}
@@ -19,13 +20,12 @@ use Rattle.register.specs.Values.{alive, cutValue, cutValues}
 use Rattle.parts.specs.declared.Entry.{Entry}
 use Rattle.parts.specs.declared.Removal.{Removal}
 use Rattle.parts.specs.Model.{dotsIn, valuesIn, entryAs, underOf, listedIn}
-use Rattle.parts.specs.Entries.{stays, cutEntry, listed, removeFrom, run, alone, together}
+use Rattle.parts.specs.Entries.{stays, cutEntry, listed, removeFrom, run, alone, together, mergeEntries}
 use Rattle.parts.specs.Waits.{waits}
 use Rattle.parts.specs.Valid.{ValidValue}
 use Rattle.parts.proofs.Cuts.{Whole, whole-valid}
 use Rattle.parts.proofs.Runs.{from-listed, from-other}
 use Rattle.parts.proofs.Waits.{waits-covers}
-use Rattle.parts.proofs.Wholes.{wovenEntries}
 use Rattle.map.specs.declared.Map.{Map}
 use Rattle.map.specs.Model.{seenBy, entriesIn, waitingIn}
 use Rattle.map.specs.Merging.{merge}
@@ -69,16 +69,23 @@ run-above (r ∷ w) {e} h f =
 
 module _ {m : Map} (h : Valid m) (s : Standing m) (u : Untouched m) (n : Uncovered m) where
   -- what becomes of the entry of both sides
-  same-entry : (e : Entry) → e ∈ entriesIn m → run (waitingIn m) (run (waitingIn m) (together (seenBy m) (seenBy m) e e)) ≡ e
+  same-entry : (e : Entry) → e ∈ entriesIn m → run (waitingIn m) (run (waitingIn m) e) ≡ e
   same-entry e i =
-      let k = h .entries .each e i in
-      let r = run-above (waitingIn m) (whole-valid k) (u e i) in
-      ap (λ x. run (waitingIn m) (run (waitingIn m) x)) (together-self k (s e i)) ∙ ap (run (waitingIn m)) r ∙ r
+      let r = run-above (waitingIn m) (whole-valid (h .entries .each e i)) (u e i) in
+      ap (run (waitingIn m)) r ∙ r
 
-  same-entries : sift stays (λ e. run (waitingIn m) (run (waitingIn m) e)) (wovenEntries (seenBy m) (seenBy m) (entriesIn m) (entriesIn m)) ≡ entriesIn m
+  -- the entries of both sides
+  same-merged : mergeEntries (seenBy m) (seenBy m) (entriesIn m) (entriesIn m) ≡ entriesIn m
+  unfolding mergeEntries
+  same-merged =
+      ap flatten
+      (weave-self (by (λ e. e .key)) (alone (seenBy m)) (alone (seenBy m)) (together (seenBy m) (seenBy m)) (by-self (λ e. e .key)) (entriesIn m)
+      ∙ map-same (λ e. e ∷ []) (λ e. together (seenBy m) (seenBy m) e e) (entriesIn m) (λ e i. together-self (h .entries .each e i) (s e i)))
+      ∙ flatten-ones (entriesIn m)
+
+  same-entries : sift stays (λ e. run (waitingIn m) (run (waitingIn m) e)) (mergeEntries (seenBy m) (seenBy m) (entriesIn m) (entriesIn m)) ≡ entriesIn m
   same-entries =
-      ap (sift stays (λ e. run (waitingIn m) (run (waitingIn m) e))) (weave-self (by (λ e. e .key)) (alone (seenBy m)) (alone (seenBy m)) (together (seenBy m) (seenBy m)) (by-self (λ e. e .key)) (entriesIn m))
-      ∙ sift-map stays (λ e. run (waitingIn m) (run (waitingIn m) e)) (λ e. together (seenBy m) (seenBy m) e e) (entriesIn m)
+      ap (sift stays (λ e. run (waitingIn m) (run (waitingIn m) e))) same-merged
       ∙ sift-same stays _ (λ e. e) (entriesIn m) same-entry
       ∙ entries-stay h
 

@@ -3,7 +3,7 @@
 use mathlib.Core.Path.{_≡_, refl, ap, sym, _∙_}
 use mathlib.Core.Bool.{true, false}
 use mathlib.Core.Logic.{⊎-elim}
-use mathlib.Core.List.{List, [], _∷_, List·Memᴰ·not-nil, List·Memᴰ·cases-cons, List·Memᴰ·eq-of-singleton}
+use mathlib.Core.List.{List, [], _∷_, flatten, List·Memᴰ·not-nil, List·Memᴰ·cases-cons, List·Memᴰ·eq-of-singleton}
 use Prim.Native.Nat.{ℕ, _<_}
 use native.Mathlib.Omega.{arith}
 use lib.Dec.{ltb}
@@ -26,7 +26,7 @@ use Rattle.register.specs.Values.{yielding, yields, outdone, cutValues, oursLef
 use Rattle.parts.specs.declared.Entry.{Entry}
 use Rattle.parts.specs.declared.Removal.{Removal}
 use Rattle.parts.specs.Model.{noEntry, valuesIn, entryAs, underOf, removalAs}
-use Rattle.parts.specs.Entries.{cutEntry, listed, removeFrom, removeEntries, alone, keepDots, together, mergeEntries}
+use Rattle.parts.specs.Entries.{cutEntry, listed, removeFrom, removeEntries, cutAlone, alone, keepDots, mergeBoth, together, mergeEntries}
 use Rattle.parts.specs.Waits.{waits, clockBefore, unionKeys, uniteAll}
 use Rattle.parts.specs.Valid.{ValidValue, ValidEntry, ValidEntries, ValidWaiting}
 use Rattle.parts.proofs.Pieces.{dots-in}
@@ -104,7 +104,7 @@ record Computed : Type 0 where
   overtaken-fits : overNumber overtaken ≡ 0
 
 computed : Computed
-unfolding pad sift firstIn fold weave isEmpty counterIn covers orderOf cutDots joinDots commonDots yields outdone cutValues oursLeft mergeValues cutEntry listed removeFrom removeEntries waits clockBefore unionKeys uniteAll remove afresh alone keepDots together mergeEntries merge overDots overEntries overValues overWaiting overKeys overNumber
+unfolding pad sift firstIn fold weave isEmpty counterIn covers orderOf cutDots joinDots commonDots yields outdone cutValues oursLeft mergeValues cutEntry listed removeFrom removeEntries waits clockBefore unionKeys uniteAll remove afresh cutAlone alone keepDots mergeBoth together flatten mergeEntries merge overDots overEntries overValues overWaiting overKeys overNumber
 computed = record { outdated-merged = refl; entry-merged = refl; value-merged = refl; overtaken-merged = refl; outdated-fits = refl; entry-fits = refl; value-fits = refl; overtaken-fits = refl }
 
 -- a valid map within the limits that keeps two premises and not the third, and that a merge with itself changes

@@ -10,6 +10,7 @@ use Rattle.lists.specs.Order.{_∈_, by}
 use Rattle.lists.specs.Weave.{weave}
 use Rattle.lists.proofs.Somes.{some-holds, false-some}
 use Rattle.lists.proofs.Those.{those-all, those-none}
+use Rattle.lists.proofs.Twice.{map-same}
 use Rattle.clock.specs.declared.Dot.{Dot}
 use Rattle.clock.specs.declared.Order.{Order}
 use Rattle.clock.specs.declared.Order.the-variants.{Equal, Greater, Less, Concurrent}
@@ -25,7 +26,7 @@ use Rattle.register.specs.Values.{yielding, yields, outdone, standing, oursLeft
 use Rattle.parts.specs.declared.Entry.{Entry}
 use Rattle.parts.specs.declared.Removal.{Removal}
 use Rattle.parts.specs.Model.{valuesIn, keysAs, underOf, listedIn}
-use Rattle.parts.specs.Entries.{keepDots, together}
+use Rattle.parts.specs.Entries.{keepDots, mergeBoth, together}
 use Rattle.parts.specs.Waits.{removalBefore, unionKeys, unite, uniteAll}
 use Rattle.parts.specs.Valid.{ValidEntry, ValidRemoval, ValidWaiting}
 use Rattle.parts.proofs.Cuts.{cut-none-values}
@@ -34,17 +35,13 @@ use Rattle.parts.proofs.Wholes.{lawful-keep}
 use Rattle.selfmerge.specs.Premises.{NoneBelow}
 
 -- each element stands level with itself, and with nothing before it
-pub weave-self : {A : Type 0} (before : A → A → Bool) (first second : A → A) (both : A → A → A) → ((x : A) → before x x ≡ false) → (l : List A) → weave before first second both l l ≡ map (λ x. both x x) l
+pub weave-self : {A B : Type 0} (before : A → A → Bool) (first second : A → B) (both : A → A → B) → ((x : A) → before x x ≡ false) → (l : List A) → weave before first second both l l ≡ map (λ x. both x x) l
 unfolding weave
 weave-self before first second both level [] = refl
 weave-self before first second both level (x ∷ l) = rw (level x) (ap (λ s. both x x ∷ s) (weave-self before first second both level l))
 
 pub by-self : {A : Type 0} (rank : A → ℕ) (x : A) → by rank x x ≡ false
 by-self rank x = le-ltb (rank x) (rank x) (omega arith)
-
-map-same : {A : Type 0} (f : A → A) (l : List A) → ((x : A) → x ∈ l → f x ≡ x) → map f l ≡ l
-map-same f [] e = refl
-map-same f (x ∷ l) e = ap₂ (λ y s. y ∷ s) (e x (List·Memᴰ·head refl)) (map-same f l (λ y i. e y (List·Memᴰ·tail i)))
 
 -- a clock cut by itself
 pub cut-self : {a : List Dot} → Lawful a → cutDots a a ≡ []
@@ -88,11 +85,11 @@ merge-values-self l f h =
     itself v k = ap (yielding true) (order-self k)
 
 -- an entry of a map met with itself
-pub together-self : {seen : List Dot} {e : Entry} → ValidEntry seen e → NoneBelow (valuesIn e) → together seen seen e e ≡ e
-unfolding together
+pub together-self : {seen : List Dot} {e : Entry} → ValidEntry seen e → NoneBelow (valuesIn e) → together seen seen e e ≡ e ∷ []
+unfolding together mergeBoth
 together-self {seen} {e} h f =
-    rw (keep-self seen (h .clock) (h .covered), join-again (h .clock), cut-self (h .clock), merge-values-self (valuesIn e) f (λ v i. h .values v i .clock), cut-none-values (valuesIn e) (h .values))
-    (sym (h .laid))
+    rw (keep-self seen (h .clock) (h .covered), h .some, join-again (h .clock), cut-self (h .clock), merge-values-self (valuesIn e) f (λ v i. h .values v i .clock), cut-none-values (valuesIn e) (h .values))
+    (ap (λ x. x ∷ []) (sym (h .laid)))
 
 -- a removal united with itself, and those that wait
 pub union-self : (k : List ℕ) → unionKeys k k ≡ k
@@ -105,4 +102,4 @@ unite-self {r} h = ap (λ k. record { clock = r .clock; keys = keysAs k }) (unio
 pub unite-all-self : {w : List Removal} → ValidWaiting w → uniteAll w w ≡ w
 unfolding uniteAll
 unite-all-self {w} h =
-    weave-self removalBefore (λ x. x) (λ x. x) unite (λ x. before-self (underOf x)) w ∙ map-same (λ x. unite x x) w (λ r i. unite-self (h .each r i))
+    weave-self removalBefore (λ x. x) (λ x. x) unite (λ x. before-self (underOf x)) w ∙ map-same (λ x. x) (λ x. unite x x) w (λ r i. unite-self (h .each r i)) ∙ map-id w

@@ -1,7 +1,8 @@
 -- `Entries::merge` meets its contract: the loop finishes the next of both maps' entries, and the next, until neither has more. Assumes nothing.
 use mathlib.Core.Path.{_≡_, refl, ap, sym, _∙_}
 use mathlib.Core.Bool.{Bool, true, false, not, _||_}
-use mathlib.Core.List.{List, []}
+use mathlib.Core.Logic.{⊎-elim}
+use mathlib.Core.List.{List, [], _∷_, flatten}
 use Prim.Native.Nat.{ℕ, _≤_, _<_, _-_, _+_}
 use lib.Dec.{ltb}
 use lib.ListN.{length, drop, getD}
@@ -14,12 +15,12 @@ use Rattle.clock.specs.Dots.{dotsOf}
 use Rattle.parts.specs.declared.Entries.{Entries}
 use Rattle.parts.specs.declared.Entry.{Entry}
 use Rattle.parts.specs.declared.Removal.{Removal}
-use Rattle.parts.specs.Model.{entryLimit, entriesOf, waitingOf}
-use Rattle.parts.specs.Entries.{stays, run, alone, together, weaveEntries}
+use Rattle.parts.specs.Model.{entryLimit, entriesOf, waitingOf, leftOf, Laid}
+use Rattle.parts.specs.Entries.{stays, run, alone, together, weaveEntries, mergeEntries}
 use Rattle.parts.proofs.Runs.{run-laid}
 use Rattle.parts.proofs.Packs.{noneRead}
 use Rattle.parts.proofs.Finish.{Going, go-start, go-keep, go-skip, go-end, finish-one, one-stays, one-goes}
-use Rattle.parts.proofs.Meets.{Next, At, next}
+use Rattle.parts.proofs.Meets.{Next, At, next, none-left, one-left}
 use borrow.Author.Needs.{needs}
 use native.Mathlib.Omega.{arith}
 use Rattle.parts.proofs.Entries.merge.Statement.{statement}
@@ -29,11 +30,15 @@ use Rattle.parts.proofs.Entries.merge.Tie as tie
 abbrev fate : List Removal → List Removal → Entry → Entry
 fate ours theirs e = run ours (run theirs e)
 
+-- what is finished of both lists
+abbrev finished : List Removal → List Removal → List (List Entry) → List Entry
+finished ours theirs w = sift stays (fate ours theirs) (flatten w)
+
 abbrev Inv-loop : tie.InvT-loop
 Inv-loop mine yours ours theirs self other n m out₀ i₀ j₀ out i j =
     (i ≤ n) × (j ≤ m) × (out .count ≤ i + j)
-    × Going (sift stays (fate (waitingOf ours) (waitingOf theirs)) (weaveEntries (dotsOf mine) (dotsOf yours) (entriesOf self) (entriesOf other)))
-    (sift stays (fate (waitingOf ours) (waitingOf theirs)) (weaveEntries (dotsOf mine) (dotsOf yours) (drop i (entriesOf self)) (drop j (entriesOf other)))) out
+    × Going (finished (waitingOf ours) (waitingOf theirs) (weaveEntries (dotsOf mine) (dotsOf yours) (entriesOf self) (entriesOf other)))
+    (finished (waitingOf ours) (waitingOf theirs) (weaveEntries (dotsOf mine) (dotsOf yours) (drop i (entriesOf self)) (drop j (entriesOf other)))) out
 
 abbrev μ-loop : tie.MeasureT-loop
 μ-loop mine yours ours theirs self other n m out₀ i₀ j₀ out i j = (n - i) + (m - j)
@@ -85,55 +90,82 @@ add-j c =
 
 add-out : tie.Need-add-out Inv-loop μ-loop
 add-out c =
-    let k = c .before .before .before .before .before .before .before .before .before .before in
+    let k = c .before .before .before .before .before .before .before .before .before .before .before .before in
     let s = k .before .before .before .before .before .before in
     omega (arith, s .loop .inv .0, s .loop .inv .1, s .loop .inv .2, s .before .before .before .size .ensures, s .before .before .size2 .ensures)
 
+-- less is left of both
+less : (c : tie.After-meet Inv-loop μ-loop) → let s = c .before .before .before .before .before .before in
+    (s .before .before .before .size .result - (s .loop .i + c .meet .result .ours)) + (s .before .before .size2 .result - (s .loop .j + c .meet .result .theirs)) < (s .before .before .before .size .result - s .loop .i) + (s .before .before .size2 .result - s .loop .j)
+less c =
+    let s = c .before .before .before .before .before .before in
+    omega (arith, met c .ours, met c .theirs, met c .some, s .before .before .before .size .ensures, s .before .before .size2 .ensures)
+
 loop-less : tie.Need-loop-less Inv-loop μ-loop
-loop-less c =
-    let k = c .before .before .before .before .before .before .before .before .before .before in
-    let s = k .before .before .before .before .before .before in
-    omega (arith, met k .ours, met k .theirs, met k .some, s .before .before .before .size .ensures, s .before .before .size2 .ensures)
+loop-less c = less (c .before .before .before .before .before .before .before .before .before .before .before .before)
 
 loop-less-2 : tie.Need-loop-less-2 Inv-loop μ-loop
-loop-less-2 c =
-    let k = c .before .before .before .before .before .before in
-    let s = k .before .before .before .before .before .before in
-    omega (arith, met k .ours, met k .theirs, met k .some, s .before .before .before .size .ensures, s .before .before .size2 .ensures)
+loop-less-2 c = less (c .before .before .before .before .before .before .before .before)
+
+loop-less-3 : tie.Need-loop-less-3 Inv-loop μ-loop
+loop-less-3 c = less (c .before .before .before .before)
+
+-- the entry that is left of what meets
+here : (c : tie.After-meet Inv-loop μ-loop) → c .meet .result .left .stays ≡ true → (e : Entry) × (met c .entries ≡ e ∷ []) × Laid e
+here c t = ⊎-elim (λ n. apart (sym t ∙ ap (λ l. l .stays) (met c .left ∙ ap leftOf n))) (λ f. f) (met c .one)
+
+gone : (c : tie.After-meet Inv-loop μ-loop) → c .meet .result .left .stays ≡ false → met c .entries ≡ []
+gone c t = ⊎-elim (λ n. n) (λ f. apart (sym (ap (λ l. l .stays) (met c .left ∙ ap leftOf (f .1))) ∙ t)) (met c .one)
 
 loop-again : tie.Need-loop-again Inv-loop μ-loop
 loop-again c =
     let w = c .before .before .before in
     let i = w .before in
     let r = i .before .before in
-    let k = r .before .before .before .before in
+    let b = r .before .before in
+    let k = b .before .before .before .before in
     let s = k .before .before .before .before .before .before in
     let a = s .before .before .before .before .args in
     let g = met k in
+    let h = here k (b .if1 .taken) in
     let f : Entry → Entry = fate (waitingOf (a .ours)) (waitingOf (a .theirs)) in
-    let q = r .run2 .ensures _ (r .before .run .ensures (g .entry) (g .hand)) in
-    let u : stays (f (g .entry)) ≡ true = rw (ap (λ o. o .clock) q) at (ap not (sym (i .before .is-empty .ensures)) ∙ i .if1 .taken) in (
+    let q = r .run2 .ensures _ (r .before .run .ensures (h .0) (ap (λ l. l .hand) (g .left ∙ ap leftOf (h .1)))) in
+    let u : stays (f (h .0)) ≡ true = rw (ap (λ o. o .clock) q) at (ap not (sym (i .before .is-empty .ensures)) ∙ i .if2 .taken) in (
       omega (arith, g .ours, s .before .before .before .size .ensures),
       omega (arith, g .theirs, s .before .before .size2 .ensures),
       omega (arith, g .some, s .loop .inv .2),
-      go-keep (s .loop .inv .3) (ap (sift stays f) (g .rest) ∙ one-stays f (g .entry) _ u)
-          (λ l p. finish-one l (f (g .entry)) p q (run-laid (waitingOf (a .ours)) (run-laid (waitingOf (a .theirs)) (g .laid))) (w .lay .ensures) (c .before .slot3 .ensures .1)),
+      go-keep (s .loop .inv .3) (ap (finished (waitingOf (a .ours)) (waitingOf (a .theirs))) (g .rest) ∙ one-left f _ (h .0) (h .1) ∙ one-stays f (h .0) _ u)
+          (λ l p. finish-one l (f (h .0)) p q (run-laid (waitingOf (a .ours)) (run-laid (waitingOf (a .theirs)) (h .2))) (w .lay .ensures) (c .before .slot3 .ensures .1)),
     )
 
 loop-again-2 : tie.Need-loop-again-2 Inv-loop μ-loop
 loop-again-2 c =
     let r = c .before .before in
-    let k = r .before .before .before .before in
+    let b = r .before .before in
+    let k = b .before .before .before .before in
     let s = k .before .before .before .before .before .before in
     let a = s .before .before .before .before .args in
     let g = met k in
+    let h = here k (b .if1 .taken) in
     let f : Entry → Entry = fate (waitingOf (a .ours)) (waitingOf (a .theirs)) in
-    let q = r .run2 .ensures _ (r .before .run .ensures (g .entry) (g .hand)) in
-    let u : stays (f (g .entry)) ≡ false = rw (ap (λ o. o .clock) q) at (ap not (sym (c .before .is-empty .ensures)) ∙ c .if1 .left) in (
+    let q = r .run2 .ensures _ (r .before .run .ensures (h .0) (ap (λ l. l .hand) (g .left ∙ ap leftOf (h .1)))) in
+    let u : stays (f (h .0)) ≡ false = rw (ap (λ o. o .clock) q) at (ap not (sym (c .before .is-empty .ensures)) ∙ c .if2 .left) in (
       omega (arith, g .ours, s .before .before .before .size .ensures),
       omega (arith, g .theirs, s .before .before .size2 .ensures),
       omega (arith, g .some, s .loop .inv .2),
-      go-skip (s .loop .inv .3) (ap (sift stays f) (g .rest) ∙ one-goes f (g .entry) _ u),
+      go-skip (s .loop .inv .3) (ap (finished (waitingOf (a .ours)) (waitingOf (a .theirs))) (g .rest) ∙ one-left f _ (h .0) (h .1) ∙ one-goes f (h .0) _ u),
+    )
+
+loop-again-3 : tie.Need-loop-again-3 Inv-loop μ-loop
+loop-again-3 c =
+    let k = c .before .before .before .before in
+    let s = k .before .before .before .before .before .before in
+    let a = s .before .before .before .before .args in
+    let g = met k in (
+      omega (arith, g .ours, s .before .before .before .size .ensures),
+      omega (arith, g .theirs, s .before .before .size2 .ensures),
+      omega (arith, g .some, s .loop .inv .2),
+      go-skip (s .loop .inv .3) (ap (finished (waitingOf (a .ours)) (waitingOf (a .theirs))) (g .rest) ∙ none-left _ _ (gone k (c .if1 .left))),
     )
 
 -- both are used up
@@ -143,7 +175,7 @@ neither false true t = apart t
 neither false false t = (refl, refl)
 
 returns : tie.Need-returns Inv-loop μ-loop
-unfolding sift
+unfolding sift flatten mergeEntries
 returns c =
     let s = c .before in
     let a = s .before .before .before .before .args in
@@ -185,4 +217,6 @@ merge-spec =
     loop-again
     loop-less-2
     loop-again-2
+    loop-less-3
+    loop-again-3
     returns)

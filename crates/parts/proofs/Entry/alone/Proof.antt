@@ -1,8 +1,9 @@
 -- `Entry::alone` meets its contract. Assumes nothing.
-use mathlib.Core.Path.{sym, _∙_}
+use mathlib.Core.Path.{ap, sym, _∙_}
+use mathlib.Core.Bool.{true}
 use Rattle.clock.proofs.Packs.{dots-of}
 use Rattle.register.proofs.Packs.{wide-values}
-use Rattle.parts.specs.Entries.{alone}
+use Rattle.parts.specs.Entries.{cutAlone, alone}
 use Rattle.parts.proofs.Packs.{hand-as}
 use borrow.Author.Needs.{needs}
 use Rattle.parts.proofs.Entry.alone.Statement.{statement}
@@ -11,24 +12,22 @@ use Rattle.parts.proofs.Entry.alone.Tie as tie
 returns : tie.Need-returns
 unfolding alone
 returns c =
-    let i = c .before .before in
-    c .hand .ensures ∙ rw (c .before .new .ensures, sym (i .before .covers .ensures) ∙ i .if1 .taken)
+    c .none .ensures ∙ rw (sym (c .before .before .covers .ensures) ∙ c .before .if1 .taken)
 
 returns-2 : tie.Need-returns-2
-unfolding alone
+unfolding alone cutAlone
 returns-2 c =
     let w = c .before in
     let d = w .before in
     let k = d .before in
     let i = k .before in
     rw (sym (i .before .covers .ensures) ∙ i .if1 .left)
-    (rw (k .cut .ensures, c .cut3 .ensures, wide-values _ (w .wide .ensures), dots-of _ (d .cut2 .ensures), dots-of _ (k .cut .ensures)) (sym (hand-as _ _ _)))
+    (rw (k .cut .ensures, c .cut3 .ensures, wide-values _ (w .wide .ensures), dots-of _ (d .cut2 .ensures), dots-of _ (k .cut .ensures)) (ap (λ h. record { stays = true; hand = h }) (sym (hand-as _ _ _))))
 
 pub alone-spec : {M : Type 1} → statement M
 alone-spec =
     tie.close
     (tie.spec
-    (λ c κs. search needs)
     (λ c κs. search needs)
     (λ c κs. search needs)
     returns

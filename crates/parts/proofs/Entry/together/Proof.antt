@@ -1,11 +1,12 @@
 -- `Entry::together` meets its contract: both joins fit. Assumes nothing.
 use mathlib.Core.Path.{_≡_, ap, sym, _∙_}
+use mathlib.Core.Bool.{true}
 use borrow.Author.Needs.{needs}
-use Rattle.clock.specs.Dots.{dotsOf, fitted}
+use Rattle.clock.specs.Dots.{dotsOf, clockOf, fitted, isEmpty}
 use Rattle.clock.proofs.Packs.{fits, dots-of}
 use Rattle.register.proofs.Packs.{wide-values}
 use Rattle.parts.specs.Model.{dotsIn}
-use Rattle.parts.specs.Entries.{keepDots, together}
+use Rattle.parts.specs.Entries.{keepDots, mergeBoth, together}
 use Rattle.parts.proofs.Packs.{hand-as}
 use Rattle.parts.proofs.Entry.together.Statement.{statement}
 use Rattle.parts.proofs.Entry.together.Tie as tie
@@ -20,17 +21,30 @@ joined c =
     let m = y .before in
     c .join2 .ensures _ (j .join .ensures) ∙ rw (dots-of _ (y .cut2 .ensures), dots-of _ (m .cut .ensures), dots-of _ (m .before .common .ensures))
 
+-- what is kept, in a clock
+kept : (c : tie.After-join2) → let a = c .before .before .before .before .before in
+    c .join2 .result .clock ≡ clockOf (keepDots (dotsOf (a .args .ours)) (dotsOf (a .args .theirs)) (dotsIn (a .args .self)) (dotsIn (a .args .other)))
+kept c = ap (λ r. r .clock) (joined c ∙ fits _ (c .before .before .before .before .before .pre .0))
+
 returns : tie.Need-returns
 unfolding together
 returns c =
+    let e = c .before .before in
+    c .none .ensures ∙ rw (ap isEmpty (sym (dots-of _ (kept (e .before .before)))) ∙ sym (e .is-empty .ensures) ∙ c .before .if1 .taken)
+
+returns-2 : tie.Need-returns-2
+unfolding together mergeBoth
+returns-2 c =
     let m = c .before in
     let d = m .before in
     let j = d .before in
-    let q = j .before .before in
+    let i = j .before in
+    let q = i .before .before .before in
     let a = q .before .before .before .before .before in
-    let k = ap (λ r. r .clock) (joined q ∙ fits _ (a .pre .0)) in
+    let k = kept q in
     let all = ap (λ r. r .clock) (j .join3 .ensures ∙ fits _ (a .pre .1)) in
-    rw (k, c .cut4 .ensures, wide-values _ (m .merge .ensures), dots-of _ (d .cut3 .ensures), dots-of _ all, dots-of _ k) (sym (hand-as _ _ _))
+    rw (ap isEmpty (sym (dots-of _ k)) ∙ sym (i .before .is-empty .ensures) ∙ i .if1 .left)
+    (rw (k, c .cut4 .ensures, wide-values _ (m .merge .ensures), dots-of _ (d .cut3 .ensures), dots-of _ all, dots-of _ k) (ap (λ h. record { stays = true; hand = h }) (sym (hand-as _ _ _))))
 
 pub together-spec : {M : Type 1} → statement M
 together-spec =
@@ -43,6 +57,9 @@ together-spec =
     (λ c κs. search needs)
     (λ c κs. search needs)
     (λ c κs. search needs)
+    returns
     (λ c κs. search needs)
     (λ c κs. search needs)
-    returns)
+    (λ c κs. search needs)
+    (λ c κs. search needs)
+    returns-2)
