@@ -22,3 +22,4 @@ pub mod Somes
 pub mod Sides
 pub mod Tally
 pub mod Perms
+pub mod Often

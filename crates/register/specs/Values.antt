@@ -109,15 +109,17 @@ equalClock Concurrent = false
 unfoldable pub samePair : Value → Value → Bool
 samePair v w = equalClock (orderOf (dotsOf (v .clock)) (dotsOf (w .clock))) && eqb (v .value) (w .value)
 
-unfoldable pub found : List Value → Value → Bool
-found l v = some (samePair v) l
+-- how many times a pair occurs
+unfoldable pub timesIn : List Value → Value → ℕ
+timesIn l v = length (those (samePair v) l)
 
-unfoldable pub allFound : List Value → List Value → Bool
-allFound l m = none (λ v. not (found m v)) l
+-- every pair that stands here occurs the same number of times in l and in m
+unfoldable pub asOften : List Value → List Value → List Value → Bool
+asOften l m here = none (λ v. not (eqb (timesIn l v) (timesIn m v))) here
 
--- "Equality ignores order: every value-with-clock of each is found in the other."
+-- "Equality shall mean that every pair occurs the same number of times in both, order ignored."
 unfoldable pub equalValues : List Value → List Value → Bool
-equalValues l m = allFound l m && allFound m l
+equalValues l m = asOften l m l && asOften l m m
 
 -- the clock under which a register is read: those of its values, joined
 unfoldable pub clockOver : List Value → List Dot

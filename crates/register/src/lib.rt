@@ -6,7 +6,7 @@ ghost use lib.ListN.{length};
 ghost use Rattle.lists.specs.Sift.{those};
 ghost use Rattle.clock.specs.Dots.{dotsOf, fitted};
 ghost use Rattle.register.specs.declared.Value.{Value};
-ghost use Rattle.register.specs.Values.{valueLimit, wideRoom, valuesOf, wideValues, registerOf, wideOf, numbersOf, settled, yields, outdone, standing, putValues, cutValue, cutValues, mergeValues, samePair, found, allFound, equalValues, clockOver, readOf};
+ghost use Rattle.register.specs.Values.{valueLimit, wideRoom, valuesOf, wideValues, registerOf, wideOf, numbersOf, settled, yields, outdone, standing, putValues, cutValue, cutValues, mergeValues, samePair, timesIn, asOften, equalValues, clockOver, readOf};
 use clock::Clock;
 use clock::Joined;
 use clock::Order;
@@ -200,31 +200,32 @@ impl Register {
         ours.wide().trail(theirs)
     }
 
-    // Whether a value stands here under the same clock.
-    fn found(self, v: Value) -> bool
-        ensures { λ r. ⌜ r ≡ found (valuesOf self) v ⌝ }
+    // How many times a value stands here under the same clock.
+    fn times(self, v: Value) -> usize
+        ensures { λ r. ⌜ (r ≡ timesIn (valuesOf self) v) × (r ≤ valueLimit) ⌝ }
     {
         let n = self.size();
+        let mut count: usize = 0;
         let mut i: usize = 0;
         while i < n {
             let w = self.values[i];
-            if v.same_pair(w) {
-                return true;
-            }
             i += 1;
+            if v.same_pair(w) {
+                count += 1;
+            }
         }
-        false
+        count
     }
 
-    // Whether every value stands in `other` under the same clock.
-    fn all_found(self, other: Register) -> bool
-        ensures { λ r. ⌜ r ≡ allFound (valuesOf self) (valuesOf other) ⌝ }
+    // Whether every value that stands `here` stands in both the same number of times under its clock.
+    fn as_often(self, other: Register, here: Register) -> bool
+        ensures { λ r. ⌜ r ≡ asOften (valuesOf self) (valuesOf other) (valuesOf here) ⌝ }
     {
-        let n = self.size();
+        let n = here.size();
         let mut i: usize = 0;
         while i < n {
-            let v = self.values[i];
-            if !other.found(v) {
+            let v = here.values[i];
+            if self.times(v) != other.times(v) {
                 return false;
             }
             i += 1;
@@ -232,11 +233,11 @@ impl Register {
         true
     }
 
-    // Equality, in whatever order: the Rust's `eq`.
+    // Equality, in whatever order: the Rust's `eq`, where no pair stands twice.
     pub fn equals(self, other: Register) -> bool
         ensures { λ r. ⌜ r ≡ equalValues (valuesOf self) (valuesOf other) ⌝ }
     {
-        self.all_found(other) & other.all_found(self)
+        self.as_often(other, self) & self.as_often(other, other)
     }
 
     // The clocks of the values, joined: the Rust's `clock`.

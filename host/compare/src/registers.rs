@@ -1,4 +1,4 @@
-//! Register equality, which no call reaches: the plain program against 01's rule and the crate.
+//! Register equality, which no call reaches: the plain program against 02's rule (CR 5) and the crate.
 
 use crate::panics::caught;
 use crate::random::Random;
@@ -13,6 +13,25 @@ fn random_register(random: &mut Random) -> Vec<(Clock, u64)> {
             (clock, random.below(2) as u64)
         })
         .collect()
+}
+
+/// A register that holds one of another's pairs once more or once less, as a cut can leave it.
+fn with_another_count(random: &mut Random, values: &[(Clock, u64)]) -> Vec<(Clock, u64)> {
+    let mut changed = values.to_vec();
+    if !changed.is_empty() {
+        let place = random.below(changed.len());
+        if changed.len() < 4 && random.one_in(2) {
+            changed.push(changed[place].clone());
+        } else {
+            changed.remove(place);
+        }
+    }
+    changed
+}
+
+/// How many times a pair occurs.
+fn times(values: &[(Clock, u64)], pair: &(Clock, u64)) -> usize {
+    values.iter().filter(|other| *other == pair).count()
 }
 
 fn plain_register(values: &[(Clock, u64)]) -> plain::Register {
@@ -32,17 +51,21 @@ fn plain_register(values: &[(Clock, u64)]) -> plain::Register {
 /// meets a pair that the other register repeats before one that is missing there; where it
 /// answers, its answer must be the rule's, and it may panic on repeated pairs only.
 pub fn compare_equality(random: &mut Random, pairs: u64) -> u64 {
-    let (mut differences, mut panics) = (0, 0);
+    let (mut differences, mut panics, mut repeated) = (0, 0, 0);
     for _ in 0..pairs {
         let ours = random_register(random);
-        let mut theirs = if random.one_in(2) { ours.clone() } else { random_register(random) };
+        let mut theirs = match random.below(3) {
+            0 => ours.clone(),
+            1 => with_another_count(random, &ours),
+            _ => random_register(random),
+        };
         let turn = random.below(theirs.len() + 1);
         theirs.rotate_left(turn);
-        let rule = ours.iter().all(|pair| theirs.contains(pair))
-            && theirs.iter().all(|pair| ours.contains(pair));
-        let repeats = |values: &[(Clock, u64)]| {
-            (1..values.len()).any(|place| values[..place].contains(&values[place]))
-        };
+        let rule =
+            ours.iter().chain(&theirs).all(|pair| times(&ours, pair) == times(&theirs, pair));
+        let repeats =
+            |values: &[(Clock, u64)]| values.iter().any(|pair| times(values, pair) > 1);
+        repeated += u64::from(repeats(&ours) || repeats(&theirs));
         let (one, another) = (register_in(&ours), register_in(&theirs));
         let published = caught(|| one == another);
         let agrees = match published {
@@ -58,7 +81,7 @@ pub fn compare_equality(random: &mut Random, pairs: u64) -> u64 {
         }
     }
     println!(
-        "register equality: {pairs} pairs, {differences} differences, {panics} panics of the crate"
+        "register equality: {pairs} pairs, {repeated} with a repeated pair, {differences} differences, {panics} panics of the crate"
     );
     differences
 }

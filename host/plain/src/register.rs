@@ -73,8 +73,9 @@ impl<const ROOM: usize> Register<ROOM> {
 
     /// Equality ignores order: every value with its clock is found in the other.
     pub fn equals<const OTHER: usize>(&self, other: &Register<OTHER>) -> bool {
-        self.values().iter().all(|value| other.values().contains(value))
-            && other.values().iter().all(|value| self.values().contains(value))
+        let times = |values: &[Value], pair: &Value| values.iter().filter(|v| *v == pair).count();
+        let mut pairs = self.values().iter().chain(other.values());
+        pairs.all(|pair| times(self.values(), pair) == times(other.values(), pair))
     }
 }
 

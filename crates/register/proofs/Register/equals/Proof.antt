@@ -1,4 +1,4 @@
--- `Register::equals` meets its contract, by that of `all_found`, both ways. Assumes nothing.
+-- `Register::equals` meets its contract, by that of `as_often`, over both. Assumes nothing.
 use Rattle.register.specs.Values.{equalValues}
 use borrow.Author.Needs.{needs}
 use Rattle.register.proofs.Register.equals.Statement.{statement}
