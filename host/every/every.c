@@ -1,10 +1,12 @@
 /* every.c: calls every function of castribba.h once with an accepted input and once with a refused
- * one, and checks the number, the length, the bytes written and the bytes left alone. */
+ * one, and checks the number, the length, the bytes written and the bytes left alone. Then it runs the
+ * examples of the three rules in castribba.h, the code of docs/FORMAT.md, and the numbers' texts. */
 #include <castribba.h>
 
 #define CHECKS_NAME "every"
 #define CHECKS_OUT CASTRIBBA_LONGEST_MAP
 #include "../checks.h"
+#include "format.h" /* the C code of docs/FORMAT.md */
 
 /* 01's map M: clock {1:1}, entry 5 {1:1} holding ({1:1}, 40). */
 static const uint8_t M[] = {ROW(1, 0, 1, 0, 1), ROW(2, 0, 1, 5, 1), ROW(3, 0, 0, 5, 40),
@@ -19,6 +21,7 @@ static const uint8_t SPENT[] = {ROW(1, 0, 1, 0, UINT64_MAX)};
 static const uint8_t REMOVAL[] = {ROW(7, 0, 0, 0, 0), ROW(8, 0, 1, 0, 1), ROW(9, 0, 0, 5, 0)};
 static const uint8_t REMOVAL_OF_NONE[] = {ROW(7, 0, 0, 0, 0), ROW(9, 0, 0, 6, 0)};
 static const uint8_t UPDATE[] = {ROW(10, 0, 1, 5, 2), ROW(11, 0, 0, 0, 41), ROW(12, 0, 1, 0, 2)};
+static const uint8_t M_UPDATE[] = {ROW(10, 0, 1, 5, 1), ROW(11, 0, 0, 0, 40), ROW(12, 0, 1, 0, 1)};
 static const uint8_t UPDATE_ON_6[] = {ROW(10, 0, 1, 6, 2), ROW(11, 0, 0, 0, 41)};
 static const uint8_t BAD_KIND[] = {ROW(13, 0, 0, 0, 0)};
 static const uint8_t OUTSIDE_CLOCK[] = {ROW(2, 0, 1, 5, 1)}; /* an entry dot without map clock */
@@ -127,6 +130,193 @@ static void advancing(void)
     advances("clock_advance, a ninth dot", full, 8, 1, 4, full);
 }
 
+/* A pointer may be null where its length is 0. */
+static void nothing_at_null(void)
+{
+    gives("merge, both null", castribba_merge(NULL, 0, NULL, 0, OUT), M, 0);
+    gives("merge, nowhere to write", castribba_merge(NULL, 0, NULL, 0, NULL, 0), M, 0);
+    gives("apply, null", castribba_apply(NULL, 0, IMAGE(M_UPDATE), OUT), IMAGE(M));
+    refuses("apply, a null operation", castribba_apply(IMAGE(M), NULL, 0, OUT), 3);
+    gives("reset_remove, a null clock", castribba_reset_remove(IMAGE(M), NULL, 0, OUT), IMAGE(M));
+    refuses("get, nowhere to write", castribba_get(IMAGE(M), 5, NULL, 0), 10);
+    is("len, null", castribba_len(NULL, 0), 0);
+    is("validate_merge, null", castribba_validate_merge(NULL, 0, IMAGE(M)), 0);
+}
+
+/* The rules of castribba.h, on maps and operations that grow. */
+
+typedef struct image {
+    uint8_t bytes[CASTRIBBA_LONGEST_MAP];
+    size_t len;
+} image;
+
+#define HELD(held) (held)->bytes, (held)->len
+
+/* What a call wrote to `out` becomes the image. */
+static void take(const char *what, image *into, uint64_t word)
+{
+    report(CASTRIBBA_NUMBER(word) == CASTRIBBA_DONE, what);
+    into->len = CASTRIBBA_LENGTH(word);
+    memcpy(into->bytes, out, into->len);
+    paint();
+}
+
+static void deliver(image *map, const image *op)
+{
+    take("an operation delivered", map, castribba_apply(HELD(map), HELD(op), OUT));
+}
+
+static image merged(const image *map, const image *other)
+{
+    static image both;
+    take("two maps merged", &both, castribba_merge(HELD(map), HELD(other), OUT));
+    return both;
+}
+
+static void sets(image *map, uint16_t actor, uint32_t bay, uint64_t value, image *op)
+{
+    take("an update made", op, castribba_update(HELD(map), actor, bay, value, OUT));
+    deliver(map, op);
+}
+
+static void boots(const char *what, const image *map, uint32_t bay, uint64_t value)
+{
+    int count = 0, holds = 1;
+    for (size_t place = 0; place < map->len; place += CASTRIBBA_RECORD) {
+        record r = record_at(map->bytes, place);
+        if (r.kind == CASTRIBBA_VALUE && r.key == bay) {
+            count++;
+            holds = r.number == value;
+        }
+    }
+    report(holds && count == (value != 0), what);
+}
+
+enum { NOTHING = 0 }; /* no bay boots image 0 here */
+
+static void one_actor_in_order(void)
+{
+    static image ours, theirs, in_order, bay_5, bay_6, both;
+    sets(&ours, 1, 5, 40, &bay_5);
+    sets(&ours, 1, 6, 60, &bay_6);
+
+    report(!is_next(HELD(&theirs), bay_6.bytes), "rule 1: the second is not the next");
+    deliver(&theirs, &bay_6);
+    deliver(&theirs, &bay_5);
+    boots("rule 1: bay 5 is lost", &theirs, 5, NOTHING);
+    boots("rule 1: bay 6 is there", &theirs, 6, 60);
+    both = merged(&ours, &theirs);
+    boots("rule 1: a merge loses bay 5 for us too", &both, 5, NOTHING);
+
+    report(is_next(HELD(&in_order), bay_5.bytes), "rule 1: the first is the next");
+    deliver(&in_order, &bay_5);
+    report(!is_next(HELD(&in_order), bay_5.bytes), "rule 1: the first was seen");
+    report(is_next(HELD(&in_order), bay_6.bytes), "rule 1: then the second is the next");
+    is("rule 2: validate_op asks the bay's entry too",
+       castribba_validate_op(HELD(&in_order), HELD(&bay_6)), REFUSED(CASTRIBBA_GAP));
+    deliver(&in_order, &bay_6);
+    boots("rule 1: in order, bay 5 is there", &in_order, 5, 40);
+    report(is_next(HELD(&ours), REMOVAL), "rule 1: a removal is always the next");
+}
+
+/* Actor 1 wrote bay 5 in one map, and with the same counter another bay, or the same, in the other. */
+static void one_number_twice(void)
+{
+    static image ours, theirs, other, bay_5, bay_6, again, both;
+    sets(&ours, 1, 5, 40, &bay_5);
+    sets(&theirs, 1, 6, 60, &bay_6);
+    is("rule 3: 12 shows a number used twice",
+       castribba_validate_merge(HELD(&ours), HELD(&theirs)), REFUSED(CASTRIBBA_DOUBLE_SPENT));
+    both = merged(&ours, &theirs);
+    boots("rule 3: a merge drops bay 5", &both, 5, NOTHING);
+    boots("rule 3: a merge drops bay 6", &both, 6, NOTHING);
+    deliver(&ours, &bay_6);
+    boots("rule 3: the other's update counts as seen", &ours, 6, NOTHING);
+
+    sets(&other, 1, 5, 50, &again);
+    is("rule 3: the same bay is not shown", castribba_validate_merge(HELD(&ours), HELD(&other)), 0);
+    both = merged(&ours, &other);
+    boots("rule 3: we keep our value", &both, 5, 40);
+    both = merged(&other, &ours);
+    boots("rule 3: they keep theirs", &both, 5, 50);
+}
+
+static void one_sided_reset(void)
+{
+    static image ours, theirs, bay_5, bay_6, both;
+    sets(&ours, 1, 5, 40, &bay_5);
+    deliver(&theirs, &bay_5);
+    take("our map reset", &ours, castribba_reset_remove(HELD(&ours), IMAGE(ONLY_CLOCK), OUT));
+    is("rule 3: a reset leaves nothing", ours.len, 0);
+    both = merged(&ours, &theirs);
+    boots("rule 3: a merge brings back what one side reset", &both, 5, 40);
+
+    sets(&ours, 1, 6, 60, &bay_6);
+    deliver(&theirs, &bay_6);
+    boots("rule 3: the counter began again, and counts as seen", &theirs, 6, NOTHING);
+    is("rule 3: 12 shows the reset", castribba_validate_merge(HELD(&theirs), HELD(&ours)),
+       REFUSED(CASTRIBBA_DOUBLE_SPENT));
+    both = merged(&theirs, &ours);
+    boots("rule 3: the merge drops bay 5", &both, 5, NOTHING);
+    boots("rule 3: the merge drops bay 6", &both, 6, NOTHING);
+}
+
+/* docs/FORMAT.md shows a map, an update and a removal: the ones above. */
+static void bytes_of_the_page(void)
+{
+    static const uint8_t bytes[] = {
+#include "format_bytes.h"
+    };
+    static const uint8_t rows[] = {
+#include "format_rows.h"
+    };
+    uint8_t expected[sizeof M + sizeof UPDATE + sizeof REMOVAL];
+    memcpy(expected, M, sizeof M);
+    memcpy(expected + sizeof M, UPDATE, sizeof UPDATE);
+    memcpy(expected + sizeof M + sizeof UPDATE, REMOVAL, sizeof REMOVAL);
+    report(sizeof bytes == sizeof expected && memcmp(bytes, expected, sizeof expected) == 0,
+           "the bytes of docs/FORMAT.md");
+    report(sizeof rows == sizeof expected && memcmp(rows, expected, sizeof expected) == 0,
+           "the numbers of docs/FORMAT.md");
+}
+
+/* docs/FORMAT.md: a clock struct to an image and back. */
+static void clocks_and_images(void)
+{
+    const castribba_clock two = {.dots = {{1, 1}, {0x0203, UINT64_MAX - 1}}, .len = 2};
+    static const uint8_t bytes[] = {ROW(1, 0, 1, 0, 1), ROW(1, 0, 0x0203, 0, UINT64_MAX - 1)};
+    castribba_clock full = {.len = CASTRIBBA_MOST_DOTS}, back;
+    uint8_t image[CASTRIBBA_LONGEST_CLOCK];
+    for (uint16_t place = 0; place < CASTRIBBA_MOST_DOTS; place++)
+        full.dots[place] = (castribba_dot){.actor = place, .counter = 1};
+
+    size_t len = clock_to_image(&two, image);
+    report(len == sizeof bytes && memcmp(image, bytes, len) == 0, "a clock's image");
+    clock_from_image(&back, image, len);
+    report(same_clock(&back, &two), "a clock from its image");
+    len = clock_to_image(&full, image);
+    is("a full clock's image is accepted", castribba_reset_remove(NULL, 0, image, len, OUT), 0);
+    clock_from_image(&back, image, len);
+    report(same_clock(&back, &full), "a full clock from its image");
+    clock_from_image(&back, IMAGE(M));
+    report(back.len == 1 && back.dots[0].actor == 1 && back.dots[0].counter == 1, "a map's clock");
+    clock_from_image(&back, NULL, 0);
+    is("the empty clock", back.len, 0);
+}
+
+/* Each number that a call can answer has a text of its own, and every other one the same. */
+static void texts(void)
+{
+    const char *unknown = castribba_number_text(UINT32_MAX);
+    for (uint32_t number = 0; number <= 20; number++) {
+        const char *text = castribba_number_text(number);
+        int known = number <= CASTRIBBA_DOUBLE_SPENT || number == CASTRIBBA_NO_BAY;
+        report((strcmp(text, unknown) != 0) == known, "a number's text");
+        for (uint32_t other = 0; known && other < number; other++)
+            report(strcmp(text, castribba_number_text(other)) != 0, "two numbers with one text");
+    }
+}
+
 int main(void)
 {
     paint();
@@ -135,6 +325,13 @@ int main(void)
     reading();
     validating();
     advancing();
-    printf("every: %d checks of the 18 calls, %d differences\n", checks, failures);
+    nothing_at_null();
+    one_actor_in_order();
+    one_number_twice();
+    one_sided_reset();
+    bytes_of_the_page();
+    clocks_and_images();
+    texts();
+    printf("every: %d checks of the 18 calls and the rules, %d differences\n", checks, failures);
     return failures != 0;
 }

@@ -1,5 +1,5 @@
-//! castribba.h, declared for Rust: what a pointer points to, and for how long, is the caller's to see
-//! to. [`slices`](crate::slices) has the same calls, safe.
+//! castribba.h and loader.h, declared for Rust: what a pointer points to, and for how long, is the
+//! caller's to see to. [`slices`](crate::slices) and `loader` have the same calls, safe.
 
 use crate::slices::LentClock;
 
@@ -23,4 +23,11 @@ extern "C" {
     pub fn castribba_validate_merge_our_key(map: *const u8, map_len: usize, other: *const u8, other_len: usize) -> u64;
     pub fn castribba_validate_merge_their_key(map: *const u8, map_len: usize, other: *const u8, other_len: usize) -> u64;
     pub fn castribba_clock_advance(clock: *mut LentClock, actor: u16, counter: u64) -> u64;
+}
+
+#[cfg(feature = "loader")]
+#[rustfmt::skip]
+extern "C" {
+    pub fn castribba_bay(map: *const u8, map_len: usize, bay: u32, out: *mut u8, out_len: usize) -> u64;
+    pub fn castribba_bays(map: *const u8, map_len: usize, out: *mut u8, out_len: usize) -> u64;
 }

@@ -1,63 +1,11 @@
 //! Maps, operations and clocks that own their image.
 
-use std::fmt;
+use alloc::vec;
+use alloc::vec::Vec;
+use core::fmt;
 
 use crate::slices::{self, LentClock, LentDot};
-use crate::{Refusal, LONGEST_MAP, LONGEST_OPERATION};
-
-/// One record of an image: 16 bytes, as document 01 lays them out.
-#[derive(Clone, Copy, Debug, PartialEq, Eq, Hash)]
-pub struct Record {
-    pub kind: u8,
-    pub index: u8,
-    pub actor: u16,
-    pub key: u32,
-    pub number: u64,
-}
-
-const CLOCK_DOT: u8 = 1;
-const VALUE: u8 = 3;
-
-impl Record {
-    const BYTES: usize = 16;
-
-    /// The record's bytes.
-    pub fn to_bytes(self) -> [u8; Record::BYTES] {
-        let mut bytes = [0; Record::BYTES];
-        bytes[0] = self.kind;
-        bytes[1] = self.index;
-        bytes[2..4].copy_from_slice(&self.actor.to_le_bytes());
-        bytes[4..8].copy_from_slice(&self.key.to_le_bytes());
-        bytes[8..].copy_from_slice(&self.number.to_le_bytes());
-        bytes
-    }
-
-    /// The record that these bytes are.
-    pub fn from_bytes(bytes: [u8; Record::BYTES]) -> Record {
-        let [kind, index, a0, a1, k0, k1, k2, k3, number @ ..] = bytes;
-        Record {
-            kind,
-            index,
-            actor: u16::from_le_bytes([a0, a1]),
-            key: u32::from_le_bytes([k0, k1, k2, k3]),
-            number: u64::from_le_bytes(number),
-        }
-    }
-
-    fn all_of(image: &[u8]) -> impl Iterator<Item = Record> + '_ {
-        image.chunks_exact(Record::BYTES).map(|chunk| {
-            Record::from_bytes(chunk.try_into().expect("a chunk has the length of a record"))
-        })
-    }
-}
-
-impl fmt::Display for Record {
-    /// Kind, index, actor, key and number.
-    fn fmt(&self, f: &mut fmt::Formatter<'_>) -> fmt::Result {
-        let Record { kind, index, actor, key, number } = self;
-        write!(f, "{kind} {index} {actor} {key} {number}")
-    }
-}
+use crate::{kind, Record, Refusal, LONGEST_MAP, LONGEST_OPERATION};
 
 /// What a call writes, given a buffer in which its longest answer fits.
 fn written(
@@ -83,6 +31,11 @@ macro_rules! image {
             pub fn records(&self) -> impl Iterator<Item = Record> + '_ {
                 Record::all_of(&self.0)
             }
+
+            /// Its records of one kind, in order.
+            pub fn of_kind(&self, kind: u8) -> impl Iterator<Item = Record> + '_ {
+                self.records().filter(move |record| record.kind == kind)
+            }
         }
 
         impl fmt::Debug for $name {
@@ -104,6 +57,7 @@ pub struct Map(Vec<u8>);
 
 /// An edit that can be sent to other maps: an update or a removal.
 #[derive(Clone, PartialEq, Eq, Hash)]
+#[must_use = "an operation changes nothing until it is applied"]
 pub struct Operation(Vec<u8>);
 
 /// How many operations of each actor were seen.
@@ -134,18 +88,24 @@ impl Map {
     }
 
     /// Applies an operation. One that was seen before changes nothing.
+    ///
+    /// One actor's updates must come in its order: a later one is applied over the gap, and the earlier
+    /// one then counts as seen, and is lost ([the crate's page](crate#one-actors-updates-in-its-order)
+    /// has the guard).
     pub fn apply(&mut self, op: &Operation) -> Result<(), Refusal> {
         self.0 = written(LONGEST_MAP, |out| slices::apply(&self.0, &op.0, out))?;
         Ok(())
     }
 
-    /// Merges another map into this one.
+    /// Merges another map into this one. [`Map::validate_merge`] tells beforehand of an actor number
+    /// that was used twice, which would lose settings here.
     pub fn merge(&mut self, other: &Map) -> Result<(), Refusal> {
         self.0 = written(LONGEST_MAP, |out| slices::merge(&self.0, &other.0, out))?;
         Ok(())
     }
 
-    /// Forgets all that the clock has seen.
+    /// Forgets all that the clock has seen, counters too: reset all maps by the same clock, or none
+    /// ([why](crate#actor-numbers-belong-to-one-party)).
     ///
     /// ```
     /// use castribba::Map;
@@ -198,13 +158,12 @@ impl Map {
 
     /// The values under a key, those that did not know of each other side by side.
     pub fn values(&self, key: u32) -> Vec<u64> {
-        self.get(key).records().filter(|r| r.kind == VALUE).map(|r| r.number).collect()
+        self.get(key).of_kind(kind::VALUE).map(|record| record.number).collect()
     }
 
     /// The map clock: what this map has seen.
     pub fn clock(&self) -> Clock {
-        let dots = self.records().filter(|r| r.kind == CLOCK_DOT);
-        Clock(dots.flat_map(Record::to_bytes).collect())
+        Clock::of(self.of_kind(kind::CLOCK_DOT))
     }
 
     /// The number of entries.
@@ -217,14 +176,23 @@ impl Map {
         self.len() == 0
     }
 
-    /// Whether the operation is the next one of its actor; [`Refusal::Gap`] says what is missing.
+    /// Whether neither the map clock nor the entry of the update's key misses updates of its actor:
+    /// each must be at most one behind, and [`Refusal::Gap`] says what the first that is not has missed.
+    /// A removal passes.
+    ///
+    /// It does not say whether this is the actor's next update: that one is refused too, when it is on
+    /// a key that the actor did not write last. [`Operation::dot`] has the guard that does.
     ///
     /// ```
     /// use castribba::{Map, Refusal};
     ///
-    /// let (mut ours, theirs) = (Map::new(), Map::new());
-    /// ours.apply(&ours.update(1, 5, 40)?)?;
-    /// let second = ours.update(1, 5, 41)?;
+    /// let (mut ours, mut theirs) = (Map::new(), Map::new());
+    /// let first = ours.update(1, 5, 40)?;
+    /// ours.apply(&first)?;
+    /// let second = ours.update(1, 6, 60)?;
+    /// assert_eq!(theirs.validate_op(&second), Err(Refusal::Gap { start: 1, end: 2 }));
+    /// // the first one comes, but not on key 6
+    /// theirs.apply(&first)?;
     /// assert_eq!(theirs.validate_op(&second), Err(Refusal::Gap { start: 1, end: 2 }));
     /// # Ok::<(), Refusal>(())
     /// ```
@@ -232,7 +200,9 @@ impl Map {
         slices::validate_op(&self.0, &op.0)
     }
 
-    /// Whether no dot stands under different keys in the two maps, as [`Refusal::DoubleSpent`] says.
+    /// Whether no dot stands under different keys in the two maps, as [`Refusal::DoubleSpent`] says:
+    /// then an actor number was used twice, or one map alone was reset, and a merge would drop both.
+    /// Under the same key it is not seen.
     pub fn validate_merge(&self, other: &Map) -> Result<(), Refusal> {
         slices::validate_merge(&self.0, &other.0)
     }
@@ -247,6 +217,31 @@ impl Operation {
             Err(refusal) => Err(refusal),
         }
     }
+
+    /// An update's own dot, its actor and counter; a removal has none.
+    ///
+    /// An update is its actor's next when its counter is one above the map clock's. One that is further
+    /// above is held back until those before it have come, or the maps are merged.
+    ///
+    /// ```
+    /// use castribba::{Map, Operation};
+    ///
+    /// fn is_next(map: &Map, op: &Operation) -> bool {
+    ///     op.dot().map_or(true, |(actor, counter)| counter - 1 == map.clock().get(actor))
+    /// }
+    ///
+    /// let (mut ours, mut theirs) = (Map::new(), Map::new());
+    /// let first = ours.update(1, 5, 40)?;
+    /// ours.apply(&first)?;
+    /// let second = ours.update(1, 6, 60)?;
+    /// assert!(is_next(&theirs, &first) && !is_next(&theirs, &second));
+    /// theirs.apply(&first)?;
+    /// assert!(is_next(&theirs, &second));
+    /// # Ok::<(), castribba::Refusal>(())
+    /// ```
+    pub fn dot(&self) -> Option<(u16, u64)> {
+        self.of_kind(kind::UPDATE).next().map(|head| (head.actor, head.number))
+    }
 }
 
 impl Clock {
@@ -260,6 +255,30 @@ impl Clock {
         // the empty map stays empty under every clock: the answer needs no room
         slices::reset_remove(&[], image, &mut [])?;
         Ok(Clock(image.to_vec()))
+    }
+
+    /// The clock of some dots, whatever they belong to in an image that was judged: there they are no
+    /// more than a clock may have, in order.
+    pub(crate) fn of(dots: impl Iterator<Item = Record>) -> Clock {
+        let records = dots.map(|dot| Record { kind: kind::CLOCK_DOT, index: 0, key: 0, ..dot });
+        Clock(records.flat_map(Record::to_bytes).collect())
+    }
+
+    /// The counter of an actor: 0 where the clock has none.
+    ///
+    /// ```
+    /// let mut clock = castribba::Clock::new();
+    /// clock.advance(1, 7)?;
+    /// assert_eq!((clock.get(1), clock.get(2)), (7, 0));
+    /// # Ok::<(), castribba::Refusal>(())
+    /// ```
+    pub fn get(&self, actor: u16) -> u64 {
+        self.dots().find(|dot| dot.0 == actor).map_or(0, |dot| dot.1)
+    }
+
+    /// Whether this clock has seen all that the other has.
+    pub fn covers(&self, other: &Clock) -> bool {
+        other.dots().all(|(actor, counter)| counter <= self.get(actor))
     }
 
     /// The dots, as actor and counter.
@@ -287,14 +306,13 @@ impl Clock {
         }
         slices::clock_advance(&mut lent, actor, counter)?;
         let dots = lent.dots[..lent.len].iter();
-        let records = dots.map(|dot| Record {
-            kind: CLOCK_DOT,
+        *self = Clock::of(dots.map(|&LentDot { actor, counter }| Record {
+            kind: kind::CLOCK_DOT,
             index: 0,
-            actor: dot.actor,
+            actor,
             key: 0,
-            number: dot.counter,
-        });
-        self.0 = records.flat_map(Record::to_bytes).collect();
+            number: counter,
+        }));
         Ok(())
     }
 }

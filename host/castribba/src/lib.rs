@@ -2,8 +2,9 @@
 //!
 //! A [`Map`] gives each key (a bay) the values (numbers of boot images) that were last put there.
 //! Parties edit their own copies while apart. An edit is an [`Operation`]: it may arrive late, and
-//! twice. Whole maps are merged when parties meet. A value is overwritten only by one who had seen
-//! it; values that did not know of each other stand side by side.
+//! twice, but [in its actor's order](#one-actors-updates-in-its-order). Whole maps are merged when
+//! parties meet. A value is overwritten only by one who had seen it; values that did not know of each
+//! other stand side by side.
 //!
 //! ```
 //! use castribba::Map;
@@ -30,14 +31,101 @@
 //!
 //! [`Map`], [`Operation`] and [`Clock`] own their image, the bytes that travel between parties, and
 //! it was judged when they were made. [`slices`] has the same calls on byte slices, for callers who
-//! have no heap. A refused call answers a [`Refusal`] and changes nothing.
+//! have no heap. A refused call answers a [`Refusal`] and changes nothing. docs/FORMAT.md lays out an
+//! image's records; [`Record`] is one of them.
+//!
+//! # Three rules, or settings are lost
+//!
+//! Where one is broken settings are lost, though every call answers `Ok`.
+//!
+//! ## One actor's updates in its order
+//!
+//! An update may arrive late, and twice, but not behind a later one of its actor. [`Map::apply`] takes
+//! the later one over the gap, and the earlier one then counts as seen.
+//!
+//! ```
+//! use castribba::Map;
+//!
+//! let (mut ours, mut theirs) = (Map::new(), Map::new());
+//! let bay_5 = ours.update(1, 5, 40)?;
+//! ours.apply(&bay_5)?;
+//! let bay_6 = ours.update(1, 6, 60)?;
+//! ours.apply(&bay_6)?;
+//!
+//! theirs.apply(&bay_6)?;
+//! theirs.apply(&bay_5)?;
+//! assert_eq!((theirs.values(5), theirs.values(6)), (vec![], vec![60]));
+//! // a merge takes the loss for a removal
+//! ours.merge(&theirs)?;
+//! assert_eq!(ours.values(5), []);
+//! # Ok::<(), castribba::Refusal>(())
+//! ```
+//!
+//! The guard: an update is its actor's next when the counter of [`Operation::dot`] is one above
+//! [`Clock::get`] of the map's clock. Removals have no counter: they may come before what they remove,
+//! and in any order among themselves.
+//!
+//! ## `validate_op` is not that guard
+//!
+//! [`Map::validate_op`] asks the entry of the update's key too, and so refuses an actor's next update
+//! on another key.
+//!
+//! ## Actor numbers belong to one party
+//!
+//! An actor number belongs to one party, and its counters never start again. Where two count as one,
+//! or one map alone is reset, a dot stands for two updates: each side takes the other's for seen, and a
+//! merge drops both. [`Map::validate_merge`] shows it, unless both wrote the same key.
+//!
+//! ```
+//! use castribba::{Map, Refusal};
+//!
+//! let (mut ours, mut theirs) = (Map::new(), Map::new());
+//! ours.apply(&ours.update(1, 5, 40)?)?;
+//! theirs.apply(&theirs.update(1, 6, 60)?)?;
+//! let spent = Refusal::DoubleSpent { actor: 1, counter: 1, our_key: 5, their_key: 6 };
+//! assert_eq!(ours.validate_merge(&theirs), Err(spent));
+//! ours.merge(&theirs)?;
+//! assert!(ours.is_empty());
+//!
+//! // the same by a reset of one side: its owner counts from 1 again
+//! let (mut ours, mut theirs) = (Map::new(), Map::new());
+//! let bay_5 = ours.update(1, 5, 40)?;
+//! ours.apply(&bay_5)?;
+//! theirs.apply(&bay_5)?;
+//! ours.reset_remove(&ours.clock())?;
+//! ours.apply(&ours.update(1, 6, 60)?)?;
+//! assert_eq!(theirs.validate_merge(&ours), Err(spent));
+//! # Ok::<(), Refusal>(())
+//! ```
+//!
+//! # What it needs
+//!
+//! `CASTRIBBA_LIB_DIR` names the folder of `libcastribba.a` when the crate is built. The crate is
+//! `no_std`: [`Map`], [`Operation`] and [`Clock`] need `alloc` (the feature `alloc`, on by default),
+//! [`slices`] and `loader` need `core` alone. The feature `loader` links `libloader.a` too, from the same
+//! folder or from `CASTRIBBA_LOADER_DIR`. A program has both archives in it without a clash.
+
+#![no_std]
+
+#[cfg(feature = "alloc")]
+extern crate alloc;
 
 pub mod declared;
+#[cfg(feature = "alloc")]
 mod image;
+#[cfg(feature = "loader")]
+pub mod loader;
+#[cfg(feature = "alloc")]
+mod parts;
+mod record;
 mod refusal;
 pub mod slices;
 
-pub use image::{Clock, Map, Operation, Record};
+#[cfg(feature = "alloc")]
+pub use image::{Clock, Map, Operation};
+#[cfg(feature = "alloc")]
+pub use parts::{Entry, Removal, Standing, Value};
+pub use record::{kind, Record};
 pub use refusal::Refusal;
 
 /// The longest image of a map, in bytes.

@@ -1,9 +1,12 @@
-//! Why a call was refused: document 01's numbers, and the values that two of them carry.
+//! Why a call was refused: the numbers of castribba_common.h, and the values that two of them carry.
 
-use std::fmt;
+use core::fmt;
 
 /// Why a call was refused. Nothing was changed, and nothing was written.
+///
+/// More may come with later versions.
 #[derive(Clone, Copy, Debug, PartialEq, Eq, Hash)]
+#[non_exhaustive]
 pub enum Refusal {
     /// 1: a bad length, kind, unused field, order or zero counter in an image.
     Malformed,
@@ -15,7 +18,7 @@ pub enum Refusal {
     TooManyDots,
     /// 5: the result would have more than 16 entries.
     TooManyEntries,
-    /// 6: the result would have a register of more than 4 values.
+    /// 6: the result would have an entry of more than 4 values.
     TooManyValues,
     /// 7: the result would have more than 8 waiting removals.
     TooManyWaiting,
@@ -25,14 +28,19 @@ pub enum Refusal {
     CounterSpent,
     /// 10: the output buffer is shorter than the answer.
     ShortBuffer,
-    /// 11: the operations of the update's actor from `start` on are missing; `end` is its own.
+    /// 11: the map clock, or else the entry of the update's key, has not seen the update's actor from
+    /// counter `start` on; `end` is the update's own.
     Gap { start: u64, end: u64 },
     /// 12: the two maps hold one dot under different keys.
     DoubleSpent { actor: u16, counter: u64, our_key: u32, their_key: u32 },
+    /// 14: the loader has no such bay.
+    NoBay,
+    /// A number that this version does not know: the archive is of a later one.
+    Unknown(u32),
 }
 
 impl Refusal {
-    /// Document 01's number.
+    /// The number that the archive answers.
     ///
     /// ```
     /// assert_eq!(castribba::Refusal::Gap { start: 1, end: 2 }.number(), 11);
@@ -51,6 +59,8 @@ impl Refusal {
             Refusal::ShortBuffer => 10,
             Refusal::Gap { .. } => 11,
             Refusal::DoubleSpent { .. } => 12,
+            Refusal::NoBay => 14,
+            Refusal::Unknown(number) => *number,
         }
     }
 
@@ -67,7 +77,8 @@ impl Refusal {
             8 => Refusal::TooManyKeys,
             9 => Refusal::CounterSpent,
             10 => Refusal::ShortBuffer,
-            _ => unreachable!("castribba.h has no call that answers {number} here"),
+            14 => Refusal::NoBay,
+            _ => Refusal::Unknown(number),
         }
     }
 }
@@ -76,24 +87,26 @@ impl fmt::Display for Refusal {
     fn fmt(&self, f: &mut fmt::Formatter<'_>) -> fmt::Result {
         match self {
             Refusal::Malformed => write!(f, "an image is malformed"),
-            Refusal::OverLimit => write!(f, "an image is over a limit"),
+            Refusal::OverLimit => write!(f, "an image is over its longest length or a limit"),
             Refusal::Unrelated => write!(f, "records of an image that belong together do not"),
             Refusal::TooManyDots => write!(f, "a clock would have more than 8 dots"),
             Refusal::TooManyEntries => write!(f, "the map would have more than 16 entries"),
-            Refusal::TooManyValues => write!(f, "a register would have more than 4 values"),
+            Refusal::TooManyValues => write!(f, "an entry would have more than 4 values"),
             Refusal::TooManyWaiting => write!(f, "more than 8 removals would wait"),
             Refusal::TooManyKeys => write!(f, "a waiting removal would have more than 16 keys"),
             Refusal::CounterSpent => write!(f, "the actor's counter is at its largest"),
             Refusal::ShortBuffer => write!(f, "the output buffer is shorter than the answer"),
             Refusal::Gap { start, end } => {
-                write!(f, "operation {end} came, but those from {start} on are missing")
+                write!(f, "update {end} came, but those from {start} on are missing")
             }
             Refusal::DoubleSpent { actor, counter, our_key, their_key } => write!(
                 f,
-                "dot {counter} of actor {actor} is under key {our_key} here, {their_key} there"
+                "update {counter} of actor {actor} is under key {our_key} here, {their_key} there"
             ),
+            Refusal::NoBay => write!(f, "there is no such bay"),
+            Refusal::Unknown(_) => write!(f, "a number that this version does not know"),
         }
     }
 }
 
-impl std::error::Error for Refusal {}
+impl core::error::Error for Refusal {}

@@ -40,7 +40,7 @@ fn number_of(word: u64) -> u32 {
 }
 
 /// What a word says, where its number carries nothing.
-fn judged(word: u64) -> Result<usize, Refusal> {
+pub(crate) fn judged(word: u64) -> Result<usize, Refusal> {
     match number_of(word) {
         0 => Ok(word as u32 as usize),
         number => Err(Refusal::with_number(number)),
@@ -53,12 +53,14 @@ macro_rules! with_one {
         // SAFETY: each pointer goes with the length of the slice that it comes from, and a mutable
         // slice overlaps no other.
         unsafe {
-            declared::$call(
+            $crate::declared::$call(
                 $image.as_ptr(), $image.len() $(, $argument)* $(, $out.as_mut_ptr(), $out.len())?
             )
         }
     };
 }
+#[cfg(feature = "loader")]
+pub(crate) use with_one;
 
 /// A call on two images, with an output buffer or none.
 macro_rules! with_two {
@@ -114,7 +116,8 @@ pub fn len(map: &[u8]) -> Result<usize, Refusal> {
     Ok(with_one!(castribba_len_count, map) as usize)
 }
 
-/// Whether the operation is the next one of its actor.
+/// Whether neither the map clock nor the entry of the update's key misses updates of its actor;
+/// `Map::validate_op` has what this does not say.
 pub fn validate_op(map: &[u8], op: &[u8]) -> Result<(), Refusal> {
     let word = with_two!(castribba_validate_op, map, op);
     if number_of(word) == GAP {

@@ -1,0 +1,188 @@
+//! The tool `castribba`: maps looked at, edited, merged and compared.
+
+mod failure;
+mod files;
+mod words;
+
+use castribba::{loader, Entry, Map, Operation, Refusal};
+use failure::{trouble, Failure};
+use files::{map_in, named, operation_in, print, shown, write_all};
+use std::process::ExitCode;
+use words::Words;
+
+const DIFFERENT: u8 = 3;
+
+fn main() -> ExitCode {
+    let mut given = Vec::new();
+    for word in std::env::args_os().skip(1) {
+        match word.into_string() {
+            Ok(word) => given.push(word),
+            Err(word) => return stopped(&Failure::Trouble(format!("{word:?} is not UTF-8"))),
+        }
+    }
+    match run(given) {
+        Ok(status) => ExitCode::from(status),
+        Err(failure) => stopped(&failure),
+    }
+}
+
+fn stopped(failure: &Failure) -> ExitCode {
+    eprintln!("castribba: {failure}");
+    ExitCode::from(failure.status())
+}
+
+fn run(given: Vec<String>) -> Result<u8, Failure> {
+    match given.first().map(String::as_str) {
+        None => return trouble("no command; castribba --help lists them"),
+        Some("--help" | "-h" | "help") => return say(words::USAGE),
+        Some("--version") => return say(concat!("castribba ", env!("CARGO_PKG_VERSION"), "\n")),
+        Some(_) => {}
+    }
+    let words = Words::read(given)?;
+    match words.command.as_str() {
+        "show" => say(&format!("{}\n", shown(&words.operands[0])?)),
+        "bays" => bays(&words),
+        "get" => get(&words),
+        "set" => set(&words),
+        "remove" => remove(&words),
+        "apply" => apply(&words),
+        "merge" => merge(&words),
+        _ => diff(&words),
+    }
+}
+
+fn say(text: &str) -> Result<u8, Failure> {
+    print(text.as_bytes())?;
+    Ok(0)
+}
+
+/// A refusal of a call on images that were accepted.
+fn refused<T>(words: &Words, answer: Result<T, Refusal>) -> Result<T, Failure> {
+    answer.map_err(|refusal| Failure::Refused {
+        what: words.command.clone(),
+        refusal,
+        more: String::new(),
+    })
+}
+
+fn write_map(words: &Words, map: &Map) -> Result<u8, Failure> {
+    write_all(&[(words.output.as_deref().unwrap_or("-"), map.as_image())])?;
+    Ok(0)
+}
+
+/// Applies an operation that was made here, and writes the map and, where asked for, the operation.
+fn write_edit(words: &Words, mut map: Map, op: &Operation) -> Result<u8, Failure> {
+    refused(words, map.apply(op))?;
+    match &words.operation {
+        None => write_map(words, &map),
+        Some(file) => {
+            let output = words.output.as_deref().unwrap_or("-");
+            write_all(&[(file, op.as_image()), (output, map.as_image())])?;
+            Ok(0)
+        }
+    }
+}
+
+fn bays(words: &Words) -> Result<u8, Failure> {
+    let map = map_in(&words.operands[0])?;
+    let reports = refused(words, loader::bays(map.as_image()))?;
+    let lines = (1..).zip(&reports).map(|(bay, report)| match (report.value, report.remaining) {
+        (None, _) => format!("bay {bay}: nothing\n"),
+        (Some(value), 1) => format!("bay {bay}: {value}\n"),
+        (Some(value), several) if report.differ => {
+            format!("bay {bay}: {value}, the smallest of {several} that differ\n")
+        }
+        (Some(value), several) => format!("bay {bay}: {value}, as all {several} values say\n"),
+    });
+    say(&lines.collect::<String>())
+}
+
+fn get(words: &Words) -> Result<u8, Failure> {
+    let key = words.number(1, "KEY")?;
+    match map_in(&words.operands[0])?.entry(key) {
+        Some(entry) => say(&format!("{entry}\n")),
+        None => say(&format!("key {key}: no entry\n")),
+    }
+}
+
+fn set(words: &Words) -> Result<u8, Failure> {
+    let (actor, key) = (words.number(1, "ACTOR")?, words.number(2, "KEY")?);
+    let value = words.number(3, "VALUE")?;
+    let map = map_in(&words.operands[0])?;
+    let op = refused(words, map.update(actor, key, value))?;
+    write_edit(words, map, &op)
+}
+
+fn remove(words: &Words) -> Result<u8, Failure> {
+    let key = words.number(1, "KEY")?;
+    let map = map_in(&words.operands[0])?;
+    if !map.contains_key(key) {
+        return trouble(format!("{} has no entry for key {key}", named(&words.operands[0])));
+    }
+    let op = refused(words, map.rm_get(key))?;
+    write_edit(words, map, &op)
+}
+
+/// What an update would be applied over: updates of its actor that have not come.
+fn gap_before(map: &Map, op: &Operation) -> Result<(), Refusal> {
+    match op.dot() {
+        Some((actor, end)) if end - 1 > map.clock().get(actor) => {
+            Err(Refusal::Gap { start: map.clock().get(actor) + 1, end })
+        }
+        _ => Ok(()),
+    }
+}
+
+fn apply(words: &Words) -> Result<u8, Failure> {
+    let mut map = map_in(&words.operands[0])?;
+    let op = operation_in(&words.operands[1])?;
+    if !words.anyway {
+        refused(words, gap_before(&map, &op))?;
+    }
+    refused(words, map.apply(&op))?;
+    write_map(words, &map)
+}
+
+fn merge(words: &Words) -> Result<u8, Failure> {
+    let mut map = map_in(&words.operands[0])?;
+    let other = map_in(&words.operands[1])?;
+    if !words.anyway {
+        refused(words, map.validate_merge(&other))?;
+    }
+    refused(words, map.merge(&other))?;
+    write_map(words, &map)
+}
+
+/// Whether two entries of a key are the same, whatever the order of their values.
+fn same(one: &Entry, other: &Entry) -> bool {
+    let times = |entry: &Entry, value| entry.values.iter().filter(|held| *held == value).count();
+    one.clock == other.clock
+        && one.values.len() == other.values.len()
+        && one.values.iter().all(|value| times(one, value) == times(other, value))
+}
+
+fn diff(words: &Words) -> Result<u8, Failure> {
+    let [file, other_file] = [0, 1].map(|place| named(&words.operands[place]));
+    let map = map_in(&words.operands[0])?;
+    let other = map_in(&words.operands[1])?;
+    let mut text = String::new();
+    let mut keys: Vec<u32> = map.keys().chain(other.keys()).collect();
+    keys.sort_unstable();
+    keys.dedup();
+    for key in keys {
+        match (map.entry(key), other.entry(key)) {
+            (Some(_), None) => text += &format!("only in {file}: key {key}\n"),
+            (None, Some(_)) => text += &format!("only in {other_file}: key {key}\n"),
+            (Some(one), Some(two)) if !same(&one, &two) => text += &format!("differs: key {key}\n"),
+            _ => {}
+        }
+    }
+    if map.clock() != other.clock() {
+        text += &format!("seen: {} in {file}, {} in {other_file}\n", map.clock(), other.clock());
+    }
+    if !map.waiting().eq(other.waiting()) {
+        text += "the removals that wait differ\n";
+    }
+    say(&text)?;
+    Ok(if text.is_empty() { 0 } else { DIFFERENT })
+}

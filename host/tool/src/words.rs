@@ -1,0 +1,151 @@
+//! The command's words: which command, its operands and its options.
+
+use crate::failure::{trouble, Failure};
+use std::str::FromStr;
+
+pub const USAGE: &str = "\
+castribba: settings maps, looked at and edited
+
+  castribba show FILE                       a map, or an operation, in words
+  castribba bays MAP                        what each of the 24 bays boots
+  castribba get MAP KEY                     one entry, in words
+  castribba set MAP ACTOR KEY VALUE         the map after this actor has set the key
+  castribba remove MAP KEY                  the map without the key
+  castribba apply MAP OP                    the map after an operation
+  castribba merge MAP OTHER                 the two maps merged
+  castribba diff MAP OTHER                  keys only in one, and keys that differ
+
+A FILE, MAP, OTHER or OP is a file that holds an image and nothing else, or - for standard input. The
+empty map is an empty file. KEY, ACTOR and VALUE are decimal numbers.
+
+set, remove, apply and merge write a map:
+  -o FILE        to this file, which may be the one that was read; else to standard output
+  --op FILE      set and remove: the operation too, for the others to apply
+  --anyway       apply: over a gap in the actor's updates, which are then lost
+                 merge: though one dot stands under different keys, which loses both
+
+Exit status: 0 done; 1 refused, with the number and its text; 2 a fault in the command or a file;
+3 diff found a difference. Unless it is 0 or 3, nothing was written.
+";
+
+/// A command as it was given.
+pub struct Words {
+    pub command: String,
+    pub operands: Vec<String>,
+    pub output: Option<String>,
+    pub operation: Option<String>,
+    pub anyway: bool,
+}
+
+/// What a command takes: its operands, whether it writes a map, and the option of its own.
+struct Form {
+    command: &'static str,
+    operands: &'static [&'static str],
+    writes: bool,
+    option: &'static str,
+}
+
+const fn form(
+    command: &'static str,
+    operands: &'static [&'static str],
+    writes: bool,
+    option: &'static str,
+) -> Form {
+    Form { command, operands, writes, option }
+}
+
+const FORMS: [Form; 8] = [
+    form("show", &["FILE"], false, ""),
+    form("bays", &["MAP"], false, ""),
+    form("get", &["MAP", "KEY"], false, ""),
+    form("set", &["MAP", "ACTOR", "KEY", "VALUE"], true, "--op"),
+    form("remove", &["MAP", "KEY"], true, "--op"),
+    form("apply", &["MAP", "OP"], true, "--anyway"),
+    form("merge", &["MAP", "OTHER"], true, "--anyway"),
+    form("diff", &["MAP", "OTHER"], false, ""),
+];
+
+impl Words {
+    /// Reads the words behind the program's name.
+    pub fn read(given: Vec<String>) -> Result<Words, Failure> {
+        let mut given = given.into_iter();
+        let command = given.next().unwrap_or_default();
+        let Some(form) = FORMS.iter().find(|form| form.command == command) else {
+            return trouble(format!("no command '{command}'; castribba --help lists them"));
+        };
+        let mut words =
+            Words { command, operands: Vec::new(), output: None, operation: None, anyway: false };
+        while let Some(word) = given.next() {
+            let known = (word == "-o" && form.writes) || word == form.option;
+            match word.as_str() {
+                "-o" if known => once(&word, &mut words.output, given.next())?,
+                "--op" if known => once(&word, &mut words.operation, given.next())?,
+                "--anyway" if known => words.anyway = true,
+                _ if looks_like_option(&word) => {
+                    return trouble(format!("{} has no option {word}", words.command));
+                }
+                _ => words.operands.push(word),
+            }
+        }
+        words.judged(form)
+    }
+
+    fn judged(self, form: &Form) -> Result<Words, Failure> {
+        if self.operands.len() != form.operands.len() {
+            let wanted = form.operands.join(" ");
+            let found = self.operands.len();
+            return trouble(format!(
+                "{} wants {wanted}, and was given {found} words",
+                self.command
+            ));
+        }
+        if self.operands.iter().filter(|word| *word == "-").count() > 1 {
+            return trouble("standard input can be read once: only one file may be -");
+        }
+        if self.operation.as_deref() == Some("-") && self.output.as_deref().unwrap_or("-") == "-" {
+            return trouble("the map and the operation can not both go to standard output");
+        }
+        Ok(self)
+    }
+
+    /// An operand that is a number of some width.
+    pub fn number<N: FromStr + Limit>(&self, place: usize, name: &str) -> Result<N, Failure> {
+        let word = &self.operands[place];
+        let digits = word.bytes().all(|byte| byte.is_ascii_digit());
+        match word.parse() {
+            Ok(number) if digits => Ok(number),
+            _ => trouble(format!("{name} is a number from 0 to {}, and not '{word}'", N::MOST)),
+        }
+    }
+}
+
+/// A lone `-` is a file, and a number below zero is a number, though none that is taken.
+fn looks_like_option(word: &str) -> bool {
+    word.strip_prefix('-').is_some_and(|rest| !rest.is_empty() && rest.parse::<u64>().is_err())
+}
+
+fn once(word: &str, place: &mut Option<String>, file: Option<String>) -> Result<(), Failure> {
+    match file {
+        None => trouble(format!("{word} wants a file behind it")),
+        Some(_) if place.is_some() => trouble(format!("{word} was given twice")),
+        Some(_) => {
+            *place = file;
+            Ok(())
+        }
+    }
+}
+
+/// The largest number of a width.
+pub trait Limit {
+    const MOST: u64;
+}
+
+impl Limit for u16 {
+    const MOST: u64 = u16::MAX as u64;
+}
+impl Limit for u32 {
+    const MOST: u64 = u32::MAX as u64;
+}
+impl Limit for u64 {
+    const MOST: u64 = u64::MAX;
+}

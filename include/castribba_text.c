@@ -1,0 +1,39 @@
+/* castribba_text.c: the numbers in words, for programs that print them. It is no part of the archives:
+ * compile it beside your own files, as C or as C++. */
+#include "castribba_common.h"
+
+const char *castribba_number_text(uint32_t number)
+{
+    switch (number) {
+    case CASTRIBBA_DONE:
+        return "done";
+    case CASTRIBBA_MALFORMED:
+        return "an image is malformed";
+    case CASTRIBBA_OVER_LIMIT:
+        return "an image is over its longest length or a limit";
+    case CASTRIBBA_UNRELATED:
+        return "records of an image that belong together do not";
+    case CASTRIBBA_TOO_MANY_DOTS:
+        return "a clock would have more than 8 dots";
+    case CASTRIBBA_TOO_MANY_ENTRIES:
+        return "the map would have more than 16 entries";
+    case CASTRIBBA_TOO_MANY_VALUES:
+        return "an entry would have more than 4 values";
+    case CASTRIBBA_TOO_MANY_WAITING:
+        return "more than 8 removals would wait";
+    case CASTRIBBA_TOO_MANY_KEYS:
+        return "a waiting removal would have more than 16 keys";
+    case CASTRIBBA_COUNTER_SPENT:
+        return "the actor's counter is at its largest";
+    case CASTRIBBA_SHORT_BUFFER:
+        return "the output buffer is shorter than the answer";
+    case CASTRIBBA_GAP:
+        return "updates of this actor are missing before this one";
+    case CASTRIBBA_DOUBLE_SPENT:
+        return "the maps hold one dot under different keys";
+    case CASTRIBBA_NO_BAY:
+        return "there is no such bay";
+    default:
+        return "a number that this version does not know";
+    }
+}
