@@ -1,4 +1,5 @@
 pub mod Packs
+pub mod Walks
 pub mod Counters
 pub mod Cuts
 pub mod Joins

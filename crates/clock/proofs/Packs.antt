@@ -15,7 +15,7 @@ use Rattle.lists.proofs.Weaves.{weave-longer}
 use Rattle.clock.specs.declared.Dot.{Dot}
 use Rattle.clock.specs.declared.Clock.{Clock}
 use Rattle.clock.specs.declared.Joined.{Joined}
-use Rattle.clock.specs.Dots.{dotLimit, noDot, dotsOf, clockOf, fitted, beyond, cutDots, shared, commonDots, largerDot, joinDots}
+use Rattle.clock.specs.Dots.{dotLimit, noDot, dotsOf, clockOf, fitted, beyond, cutDots, largerDot, joinDots}
 
 -- the dots of the clock of a list are the list
 pub dots-of : {c : Clock} (l : List Dot) → c ≡ clockOf l → dotsOf c ≡ l
@@ -52,10 +52,6 @@ within-clock l e t = ap (λ k. k .clock) (e ∙ fits l (within-means l e t))
 pub cut-length : (c x : List Dot) → length (cutDots c x) ≤ length x
 unfolding cutDots
 cut-length c x = length-sift (beyond c) (λ d. d) x
-
-pub common-length : (a b : List Dot) → length (commonDots a b) ≤ length a
-unfolding commonDots
-common-length a b = length-sift (shared b) (λ d. d) a
 
 -- nothing joined is the clock itself
 pub join-nil : (a : List Dot) → joinDots a [] ≡ a

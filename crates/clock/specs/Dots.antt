@@ -81,6 +81,15 @@ shared l d = eqb (counterIn l (d .actor)) (d .counter)
 unfoldable pub commonDots : List Dot → List Dot → List Dot
 commonDots a b = those (shared b) a
 
+-- a counter beside one that was seen: the same, or larger
+abbrev pub staysAt : Bool → ℕ → ℕ → Bool
+staysAt true seen counter = eqb seen counter
+staysAt false seen counter = ltb seen counter
+
+-- which dots stay beside these: those that they share, or those beyond them
+abbrev pub kept : Bool → List Dot → Dot → Bool
+kept same l d = staysAt same (counterIn l (d .actor)) (d .counter)
+
 -- "Adding a dot takes effect only if its counter is larger."
 unfoldable pub addDot : List Dot → Dot → List Dot
 addDot l d = joinDots l (cond (beyond l d) (d ∷ []) [])

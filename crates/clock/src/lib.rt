@@ -1,10 +1,13 @@
 // Dots and clocks: a counter for each actor, as a sorted array of dots with a count, by value.
 ghost use mathlib.Core.Path.{_≡_};
+ghost use mathlib.Core.Bool.{true};
 ghost use mathlib.Core.List.{List, [], _∷_, _++_, map};
 ghost use Prim.Native.Nat.{_≤_, _<_};
 ghost use lib.ListN.{length, drop};
 ghost use Rattle.clock.specs.declared.Dot.{Dot};
-ghost use Rattle.clock.specs.Dots.{dotLimit, dotsOf, clockOf, fitted, counterIn, isEmpty, covers, orderOf, cutDots, commonDots, largerDot, joinDots, addDot};
+ghost use Rattle.lists.specs.Sift.{those};
+ghost use Rattle.clock.specs.Dots.{dotLimit, dotsOf, clockOf, fitted, counterIn, isEmpty, covers, outcome, orderOf, staysAt, kept, cutDots, commonDots, largerDot, joinDots, addDot};
+ghost use Rattle.clock.specs.Lawful.{Lawful, isLawful, sameActors};
 
 // The most dots that a clock can hold.
 pub const DOTS: usize = 8;
@@ -35,7 +38,31 @@ pub struct Joined {
     pub clock: Clock,
 }
 
+// What two coverings say together.
+fn outcome(over: bool, under: bool) -> Order
+    ensures { λ r. ⌜ r ≡ outcome over under ⌝ }
+{
+    if over {
+        if under { Order::Equal } else { Order::Greater }
+    } else if under {
+        Order::Less
+    } else {
+        Order::Concurrent
+    }
+}
+
 impl Dot {
+    // Whether a dot stays where its actor was seen at this counter: at the same one, if `same` is set, and else at a larger one.
+    fn stays(self, seen: u64, same: bool) -> bool
+        ensures { λ r. ⌜ r ≡ staysAt same seen (self .counter) ⌝ }
+    {
+        if same {
+            seen == self.counter
+        } else {
+            seen < self.counter
+        }
+    }
+
     // Of two dots of one actor, the one with the larger counter.
     fn larger(self, other: Dot) -> Dot
         ensures { λ r. ⌜ r ≡ largerDot self other ⌝ }
@@ -103,17 +130,77 @@ impl Clock {
         out
     }
 
-    // Without the dots that `by` has seen: the Rust's `reset_remove` and `clone_without`.
-    pub fn cut(self, by: Clock) -> Clock
-        ensures { λ r. ⌜ r ≡ clockOf (cutDots (dotsOf by) (dotsOf self)) ⌝ }
+    // Whether it is a clock in order: actors strictly ascending, counters from 1.
+    fn is_lawful(self) -> bool
+        ensures { λ r. ⌜ r ≡ isLawful (dotsOf self) ⌝ }
     {
         let n = self.size();
-        let mut out = Clock::new();
+        let mut low: u32 = 0;
         let mut i: usize = 0;
         while i < n {
             let d = self.dots[i];
             i += 1;
-            if by.get(d.actor) < d.counter {
+            let actor = d.actor as u32;
+            if !((low <= actor) & (0 < d.counter)) {
+                return false;
+            }
+            low = actor + 1;
+        }
+        true
+    }
+
+    // Without the dots that `by` has seen: the Rust's `reset_remove` and `clone_without`.
+    pub fn cut(self, by: Clock) -> Clock
+        ensures { λ r. ⌜ r ≡ clockOf (cutDots (dotsOf by) (dotsOf self)) ⌝ }
+    {
+        self.sift(by, false)
+    }
+
+    // The dots that both have, at equal counters: the Rust's `intersection`.
+    pub fn common(self, other: Clock) -> Clock
+        ensures { λ r. ⌜ r ≡ clockOf (commonDots (dotsOf self) (dotsOf other)) ⌝ }
+    {
+        self.sift(other, true)
+    }
+
+    // The dots that `by` has at the same counter, where `same` is set, and else those beyond it.
+    fn sift(self, by: Clock, same: bool) -> Clock
+        ensures { λ r. ⌜ r ≡ clockOf (those (kept same (dotsOf by)) (dotsOf self)) ⌝ }
+    {
+        if self.is_lawful() {
+            if by.is_lawful() {
+                return self.sift_beside(by, same);
+            }
+        }
+        self.sift_by_look(by, same)
+    }
+
+    // The same for clocks in order, by one walk over both.
+    fn sift_beside(self, by: Clock, same: bool) -> Clock
+        requires { ⌜ Lawful (dotsOf self) × Lawful (dotsOf by) ⌝ }
+        ensures { λ r. ⌜ r ≡ clockOf (those (kept same (dotsOf by)) (dotsOf self)) ⌝ }
+    {
+        let n = self.size();
+        let m = by.size();
+        let mut out = Clock::new();
+        let mut i: usize = 0;
+        let mut j: usize = 0;
+        while i < n {
+            let d = self.dots[i];
+            let mut seen: u64 = 0;
+            if j < m {
+                let e = by.dots[j];
+                if e.actor < d.actor {
+                    j += 1;
+                    continue;
+                }
+                if e.actor == d.actor {
+                    seen = e.counter;
+                    j += 1;
+                }
+            }
+            i += 1;
+            if d.stays(seen, same) {
                 let k = out.len;
                 out.dots[k] = d;
                 out.len = k + 1;
@@ -122,9 +209,9 @@ impl Clock {
         out
     }
 
-    // The dots that both have, at equal counters: the Rust's `intersection`.
-    pub fn common(self, other: Clock) -> Clock
-        ensures { λ r. ⌜ r ≡ clockOf (commonDots (dotsOf self) (dotsOf other)) ⌝ }
+    // The same for any two, each dot looked up.
+    fn sift_by_look(self, by: Clock, same: bool) -> Clock
+        ensures { λ r. ⌜ r ≡ clockOf (those (kept same (dotsOf by)) (dotsOf self)) ⌝ }
     {
         let n = self.size();
         let mut out = Clock::new();
@@ -132,7 +219,8 @@ impl Clock {
         while i < n {
             let d = self.dots[i];
             i += 1;
-            if other.get(d.actor) == d.counter {
+            let seen = by.get(d.actor);
+            if d.stays(seen, same) {
                 let k = out.len;
                 out.dots[k] = d;
                 out.len = k + 1;
@@ -145,6 +233,114 @@ impl Clock {
     pub fn covers(self, other: Clock) -> bool
         ensures { λ r. ⌜ r ≡ covers (dotsOf self) (dotsOf other) ⌝ }
     {
+        let o = self.compare(other);
+        match o {
+            Order::Equal => true,
+            Order::Greater => true,
+            Order::Less => false,
+            Order::Concurrent => false,
+        }
+    }
+
+    // The Rust's `partial_cmp`.
+    pub fn compare(self, other: Clock) -> Order
+        ensures { λ r. ⌜ r ≡ orderOf (dotsOf self) (dotsOf other) ⌝ }
+    {
+        if self.same_actors(other) {
+            return self.compare_level(other);
+        }
+        if self.is_lawful() {
+            if other.is_lawful() {
+                return self.compare_beside(other);
+            }
+        }
+        let over = self.covers_by_look(other);
+        let under = other.covers_by_look(self);
+        outcome(over, under)
+    }
+
+    // Whether both have the same actors, strictly ascending.
+    fn same_actors(self, other: Clock) -> bool
+        ensures { λ r. ⌜ r ≡ sameActors (dotsOf self) (dotsOf other) ⌝ }
+    {
+        let n = self.size();
+        if n != other.size() {
+            return false;
+        }
+        let mut low: u32 = 0;
+        let mut i: usize = 0;
+        while i < n {
+            let x = self.dots[i];
+            let y = other.dots[i];
+            i += 1;
+            let actor = x.actor as u32;
+            if !((low <= actor) & (x.actor == y.actor)) {
+                return false;
+            }
+            low = actor + 1;
+        }
+        true
+    }
+
+    // The comparison of clocks with the same actors: place by place.
+    fn compare_level(self, other: Clock) -> Order
+        requires { ⌜ sameActors (dotsOf self) (dotsOf other) ≡ true ⌝ }
+        ensures { λ r. ⌜ r ≡ orderOf (dotsOf self) (dotsOf other) ⌝ }
+    {
+        let n = self.size();
+        let mut over = true;
+        let mut under = true;
+        let mut i: usize = 0;
+        while i < n {
+            if !(over | under) {
+                return Order::Concurrent;
+            }
+            let x = self.dots[i];
+            let y = other.dots[i];
+            over = over & (y.counter <= x.counter);
+            under = under & (x.counter <= y.counter);
+            i += 1;
+        }
+        outcome(over, under)
+    }
+
+    // The same for clocks in order, by one walk over both: a dot that one of them has alone settles one side.
+    fn compare_beside(self, other: Clock) -> Order
+        requires { ⌜ Lawful (dotsOf self) × Lawful (dotsOf other) ⌝ }
+        ensures { λ r. ⌜ r ≡ orderOf (dotsOf self) (dotsOf other) ⌝ }
+    {
+        let n = self.size();
+        let m = other.size();
+        let mut over = true;
+        let mut under = true;
+        let mut i: usize = 0;
+        let mut j: usize = 0;
+        while i < n && j < m {
+            if !(over | under) {
+                return Order::Concurrent;
+            }
+            let x = self.dots[i];
+            let y = other.dots[j];
+            if x.actor < y.actor {
+                under = false;
+                i += 1;
+            } else if y.actor < x.actor {
+                over = false;
+                j += 1;
+            } else {
+                over = over & (y.counter <= x.counter);
+                under = under & (x.counter <= y.counter);
+                i += 1;
+                j += 1;
+            }
+        }
+        outcome(over & (m <= j), under & (n <= i))
+    }
+
+    // Whether it covers any other, each dot looked up.
+    fn covers_by_look(self, other: Clock) -> bool
+        ensures { λ r. ⌜ r ≡ covers (dotsOf self) (dotsOf other) ⌝ }
+    {
         let n = other.size();
         let mut i: usize = 0;
         while i < n {
@@ -155,21 +351,6 @@ impl Clock {
             i += 1;
         }
         true
-    }
-
-    // The Rust's `partial_cmp`.
-    pub fn compare(self, other: Clock) -> Order
-        ensures { λ r. ⌜ r ≡ orderOf (dotsOf self) (dotsOf other) ⌝ }
-    {
-        let over = self.covers(other);
-        let under = other.covers(self);
-        if over {
-            if under { Order::Equal } else { Order::Greater }
-        } else if under {
-            Order::Less
-        } else {
-            Order::Concurrent
-        }
     }
 
     // The larger counter of each actor: the Rust's `merge`.

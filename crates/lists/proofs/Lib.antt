@@ -23,3 +23,7 @@ pub mod Sides
 pub mod Tally
 pub mod Perms
 pub mod Often
+pub mod Rising
+pub mod Alike
+pub mod Beside
+pub mod Checking

@@ -5,3 +5,4 @@ pub mod Fold
 pub mod Weave
 pub mod Order
 pub mod Limit
+pub mod Rise
