@@ -1,18 +1,22 @@
-/* stack.c: measures how much stack each call of castribba.h uses, and prints a table in bytes.
+/* stack.c: measures how much stack each call uses, and prints a table in bytes: the calls of
+ * castribba.h, or, where LOADER is defined, those of loader.h.
  *
  * Each call runs on a stack of its own that was painted first; what lost its paint was used. The
  * buffers are static, and what an empty call uses is taken off: the rest is the call's own.
- * A call is run on every pair of the inputs below, from empty to the longest: the table has its
- * deepest run. Link with -z now, or the linker's own work on a first call is measured too.
+ * A call is run on every pair of the inputs below, from empty to the longest, and on images that are
+ * refused late with 1, 2 and 3: the table has its deepest run on images that are accepted, and on
+ * those that are not. Link with -z now, or the linker's own work on a first call is measured too.
  */
 #define _XOPEN_SOURCE 700
 #include <castribba.h>
+#include <loader.h>
 
 #include <stdio.h>
 #include <string.h>
 #include <ucontext.h>
 
 enum { PAINT = 0xA5, STACK = 1024 * 1024, RECORD = 16 };
+enum { FIRST_KEY = 1, NO_KEY = 200 }; /* bays are keys from 1 on */
 enum { MOST_DOTS = 8, MOST_ENTRIES = 16, MOST_VALUES = 4, MOST_WAITING = 8, MOST_KEYS = 16 };
 
 typedef struct image {
@@ -82,25 +86,41 @@ static void fill_clock(image *clock, uint64_t counter)
         add(clock, 1, 0, actor, 0, counter);
 }
 
-enum { MAPS = 7, OPERATIONS = 6, CLOCKS = 4 };
+/* maps: accepted ones first, then those that are refused */
+enum { ACCEPTED = 6, LATE_1 = ACCEPTED, LATE_2, LATE_3, TOO_LONG, MAPS, OPERATIONS = 6, CLOCKS = 4 };
 static image maps[MAPS], operations[OPERATIONS], clocks[CLOCKS]; /* the first of each is empty */
+
+/* the kind of the last record */
+static uint8_t *last_record(image *map)
+{
+    return map->bytes + map->len - RECORD;
+}
 
 static void fill(void)
 {
     add(&maps[1], 1, 0, 1, 0, 1);
     /* among these a merge keeps entries, drops them, and finds them on one side only */
-    fill_map(&maps[2], 9, 9, 100);
-    fill_map(&maps[3], 9, 3, 100);
-    fill_map(&maps[4], 3, 3, 108);
-    fill_map(&maps[5], 3, 2, 100);
-    maps[6] = maps[2];
-    maps[6].len += 1; /* too long */
+    fill_map(&maps[2], 9, 9, FIRST_KEY);
+    fill_map(&maps[3], 9, 3, FIRST_KEY);
+    fill_map(&maps[4], 3, 3, FIRST_KEY + MOST_ENTRIES / 2);
+    fill_map(&maps[5], 3, 2, FIRST_KEY);
+    maps[LATE_1] = maps[2];
+    last_record(&maps[LATE_1])[8] = 1; /* a waiting key has no number */
+    maps[LATE_2] = maps[2];
+    maps[LATE_2].len -= RECORD;
+    add(&maps[LATE_2], 6, 0, 0, FIRST_KEY + MOST_KEYS, 0); /* a key too many under one removal */
+    maps[LATE_3] = maps[2];
+    last_record(&maps[LATE_3])[1] = 200; /* a waiting key with no clock */
+    for (unsigned key = 0; key < MOST_KEYS - 1; key++)
+        last_record(&maps[LATE_3])[-(int)(RECORD * MOST_WAITING * (key + 1)) + 1] = 200;
+    maps[TOO_LONG] = maps[2];
+    maps[TOO_LONG].len += 1;
 
-    fill_removal(&operations[1], 9, 100);
-    fill_removal(&operations[2], 12, 100);
-    fill_update(&operations[3], 100, 10);
-    fill_update(&operations[4], 200, 10);
-    fill_update(&operations[5], 100, 17);
+    fill_removal(&operations[1], 9, FIRST_KEY);
+    fill_removal(&operations[2], 12, FIRST_KEY);
+    fill_update(&operations[3], FIRST_KEY, 10);
+    fill_update(&operations[4], NO_KEY, 10);
+    fill_update(&operations[5], FIRST_KEY, 17);
 
     fill_clock(&clocks[1], 1);
     fill_clock(&clocks[2], 10);
@@ -109,13 +129,24 @@ static void fill(void)
 
 static uint8_t out[CASTRIBBA_LONGEST_MAP];
 
-/* A refused input would measure no more than its refusal. */
+static uint64_t number_of(const image *map)
+{
+#ifdef LOADER
+    return castribba_bays(map->bytes, map->len, out, sizeof out) >> 32;
+#else
+    return castribba_len(map->bytes, map->len) >> 32;
+#endif
+}
+
+/* An input that is refused where it should not be, or early, would measure less than the call needs. */
 static int inputs_are_images(void)
 {
+    static const uint64_t numbers[MAPS] = {[LATE_1] = 1, [LATE_2] = 2, [LATE_3] = 3, [TOO_LONG] = 2};
     int all = 1;
+    for (int map = 0; map < MAPS; map++)
+        all = all && number_of(&maps[map]) == numbers[map];
+#ifndef LOADER
     uint64_t gap = (uint64_t)11 << 32;
-    for (int map = 0; map < MAPS - 1; map++)
-        all = all && castribba_len(maps[map].bytes, maps[map].len) == 0;
     for (int op = 1; op < OPERATIONS; op++) {
         uint64_t answer = castribba_validate_op(maps[0].bytes, 0, operations[op].bytes,
                                                 operations[op].len);
@@ -124,6 +155,7 @@ static int inputs_are_images(void)
     for (int clock = 0; clock < CLOCKS; clock++)
         all = all && castribba_reset_remove(maps[0].bytes, 0, clocks[clock].bytes,
                                             clocks[clock].len, out, sizeof out) == 0;
+#endif
     return all;
 }
 
@@ -150,13 +182,17 @@ static __attribute__((noinline)) uint64_t castribba_nothing(void)
 }
 
 CALL(nothing)
+#ifdef LOADER
+CALL(bay, FIRST, FIRST_KEY, OUT)
+CALL(bays, FIRST, OUT)
+#else
 CALL(apply, FIRST, SECOND, OUT)
 CALL(merge, FIRST, SECOND, OUT)
 CALL(reset_remove, FIRST, SECOND, OUT)
-CALL(update, FIRST, 1, 100, 7, OUT)
-CALL(rm_get, FIRST, 100, OUT)
-CALL(rm_read_ctx, FIRST, 100, OUT)
-CALL(get, FIRST, 100, OUT)
+CALL(update, FIRST, 1, FIRST_KEY, 7, OUT)
+CALL(rm_get, FIRST, FIRST_KEY, OUT)
+CALL(rm_read_ctx, FIRST, FIRST_KEY, OUT)
+CALL(get, FIRST, FIRST_KEY, OUT)
 CALL(len, FIRST)
 CALL(len_count, FIRST)
 CALL(validate_op, FIRST, SECOND)
@@ -168,6 +204,7 @@ CALL(validate_merge_counter, FIRST, SECOND)
 CALL(validate_merge_our_key, FIRST, SECOND)
 CALL(validate_merge_their_key, FIRST, SECOND)
 CALL(clock_advance, &lent, 3, 5)
+#endif
 
 /* Running on the painted stack. */
 
@@ -189,9 +226,19 @@ static size_t used_by(void (*run)(void))
     return sizeof stack - untouched;
 }
 
-static size_t deepest(void (*run)(void), const image *seconds, int count)
+static size_t larger(size_t one, size_t other)
 {
-    size_t most = 0;
+    return one > other ? one : other;
+}
+
+/* on images that are accepted, and on pairs of which one is refused */
+typedef struct depths {
+    size_t accepted, refused;
+} depths;
+
+static depths deepest(void (*run)(void), const image *seconds, int count)
+{
+    depths most = {0, 0};
     for (int map = 0; map < MAPS; map++)
         for (int other = 0; other < count; other++) {
             first = &maps[map];
@@ -200,7 +247,10 @@ static size_t deepest(void (*run)(void), const image *seconds, int count)
             for (int dot = 0; dot < MOST_DOTS; dot++)
                 lent.dots[dot] = (castribba_dot){.actor = (uint16_t)(2 * dot), .counter = 1};
             size_t used = used_by(run);
-            most = used > most ? used : most;
+            if (map < ACCEPTED && (seconds != maps || other < ACCEPTED))
+                most.accepted = larger(most.accepted, used);
+            else
+                most.refused = larger(most.refused, used);
         }
     return most;
 }
@@ -213,6 +263,10 @@ int main(void)
         const image *seconds;
         int count;
     } calls[] = {
+#ifdef LOADER
+        {"castribba_bay", run_bay, clocks, 1},
+        {"castribba_bays", run_bays, clocks, 1},
+#else
         {"castribba_apply", run_apply, operations, OPERATIONS},
         {"castribba_merge", run_merge, maps, MAPS},
         {"castribba_reset_remove", run_reset_remove, clocks, CLOCKS},
@@ -231,6 +285,7 @@ int main(void)
         {"castribba_validate_merge_our_key", run_validate_merge_our_key, maps, MAPS},
         {"castribba_validate_merge_their_key", run_validate_merge_their_key, maps, MAPS},
         {"castribba_clock_advance", run_clock_advance, clocks, 1},
+#endif
     };
     fill();
     if (!inputs_are_images()) {
@@ -238,14 +293,14 @@ int main(void)
         return 1;
     }
     size_t empty = used_by(run_nothing);
-    printf("%-36s %10s\n", "call", "bytes");
+    printf("%-36s %10s %10s\n", "call", "accepted", "refused");
     for (size_t place = 0; place < sizeof calls / sizeof calls[0]; place++) {
-        size_t used = deepest(calls[place].run, calls[place].seconds, calls[place].count);
-        if (used == sizeof stack) {
+        depths used = deepest(calls[place].run, calls[place].seconds, calls[place].count);
+        if (larger(used.accepted, used.refused) == sizeof stack) {
             printf("stack: FAILED at %s: it uses more than is painted\n", calls[place].name);
             return 1;
         }
-        printf("%-36s %10zu\n", calls[place].name, used - empty);
+        printf("%-36s %10zu %10zu\n", calls[place].name, used.accepted - empty, used.refused - empty);
     }
     return 0;
 }

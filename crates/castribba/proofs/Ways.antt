@@ -1,20 +1,25 @@
 -- The ways out of the calls, and what the images that were read allow.
 -- Assumes nothing.
-use mathlib.Core.Path.{_≡_, refl}
+use mathlib.Core.Path.{_≡_, refl, ap, _∙_}
 use mathlib.Core.Bool.{Bool, true, false, cond}
-use mathlib.Core.List.{List}
+use mathlib.Core.List.{List, [], _∷_}
 use Prim.Native.Nat.{ℕ, _-_, _*_, _^_, _≤_, _<_}
 use native.Mathlib.Omega.{arith}
 use lib.Dec.{eqb, leb}
 use Rattle.scan.proofs.Eachs.{decide}
-use Rattle.clock.specs.Dots.{dotLimit, counterIn, addDot}
+use Rattle.clock.specs.declared.Clock.{Clock}
+use Rattle.clock.specs.declared.Dot.{Dot}
+use Rattle.clock.specs.Dots.{dotLimit, dotsOf, counterIn, addDot}
+use Rattle.parts.specs.Model.{keysAs, noUpdate}
 use Rattle.map.specs.Model.{seenBy}
 use Rattle.map.specs.declared.Map.{Map}
 use Rattle.map.specs.declared.Op.{Op}
 use Rattle.map.specs.declared.Judged.{Judged}
 use Rattle.map.specs.declared.Made.{Made}
 use Rattle.map.specs.Judging.{overDots, overEntries, overValues, overWaiting, overKeys, overNumber, judged, exceeding}
-use Rattle.map.specs.Asking.{nextDot, makeUpdate}
+use Rattle.map.specs.declared.AddCtx.{AddCtx}
+use Rattle.map.specs.Contexts.{dotAfter, addContext}
+use Rattle.map.specs.Asking.{updateUnder, makeUpdate, removalOp}
 use Rattle.map.specs.Valid.{Valid, ValidOp, Within, OpWithin}
 use Rattle.opimage.specs.declared.ReadOp.{ReadOp}
 use Rattle.opimage.specs.OpImage.{readOp, opImage}
@@ -54,6 +59,10 @@ read-op-within s e = rw e (op-within s)
 pub op-valid : {op : Op} → OpWithin op → ValidOp op
 op-valid w = record { removal = w .removal .valid; update = λ e. w .update e .valid }
 
+-- a removal of one key under a clock
+abbrev pub removalUnder : Clock → ℕ → Op
+removalUnder clock key = record { up = false; removal = record { clock = clock; keys = keysAs (key ∷ []) }; update = noUpdate }
+
 -- a judged map may be answered
 over-small : (m : Map) → overNumber m ≤ 8
 unfolding overNumber
@@ -76,12 +85,25 @@ judged-allowed m v =
 pub judged-out : {m : Map} {j : Judged} → Valid m → j ≡ judged m → Valid (j .map) × (j .number < 2 ^ 32)
 judged-out {m} v e = rw e (judged-allowed m v)
 
--- so may an update that was made
-made-small : (m : Map) (actor key value : ℕ) → makeUpdate m actor key value .number < 2 ^ 32
+-- an update under the map clock is that of the map; so may it be answered
+pub update-is : (m : Map) (actor key value : ℕ) {clock : Clock} {a : AddCtx} {j : Made} → clock ≡ m .clock → a ≡ addContext (dotsOf clock) actor → j ≡ updateUnder a key value → j ≡ makeUpdate m actor key value
 unfolding makeUpdate
-made-small m actor key value =
-    decide (leb (2 ^ 64 - 1) (counterIn (seenBy m) actor)) (λ t. rw t (omega arith))
-    (λ f. decide (exceeding dotLimit (addDot (seenBy m) (nextDot m actor))) (λ t. rw (f, t) (omega arith)) (λ n. rw (f, n) (omega arith)))
+update-is m actor key value p q e = e ∙ ap (λ x. updateUnder x key value) (q ∙ ap (λ c. addContext (dotsOf c) actor) p)
+
+context-small : (c : List Dot) (actor : ℕ) → addContext c actor .number < 2 ^ 32
+unfolding addContext
+context-small c actor =
+    decide (leb (2 ^ 64 - 1) (counterIn c actor)) (λ t. rw t (omega arith))
+    (λ f. decide (exceeding dotLimit (addDot c (dotAfter c actor))) (λ t. rw (f, t) (omega arith)) (λ n. rw (f, n) (omega arith)))
+
+under-small : (c : AddCtx) (key value : ℕ) → c .number < 2 ^ 32 → updateUnder c key value .number < 2 ^ 32
+unfolding updateUnder
+under-small c key value h = decide (eqb (c .number) 0) (λ t. rw t (omega arith)) (λ f. rw f h)
 
 pub made-out : (m : Map) (actor key value : ℕ) {j : Made} → j ≡ makeUpdate m actor key value → j .number < 2 ^ 32
-made-out m actor key value e = rw e (made-small m actor key value)
+unfolding makeUpdate
+made-out m actor key value e = rw e (under-small (addContext (seenBy m) actor) key value (context-small (seenBy m) actor))
+
+-- a removal under the map clock is one under its dots
+pub removal-is : {m : Map} {clock : Clock} (key : ℕ) → Within m → clock ≡ m .clock → {o : Op} → o ≡ removalUnder clock key → o ≡ removalOp (seenBy m) key
+removal-is key w p e = e ∙ ap (λ c. removalUnder c key) (p ∙ ap (λ (m : Map). m .clock) (w .valid .laid))

@@ -9,7 +9,9 @@ ghost use Rattle.castribba.specs.Calls.{applyAnswer, mergeAnswer, resetA
 mod validating;
 
 use clock::Clock;
+use map::Op;
 use map::Order;
+use map::ReadCtx;
 use map::Spent;
 
 // What `validate_op` says of two images: where one is refused, its number alone.
@@ -82,11 +84,16 @@ pub extern "C" fn castribba_update(
 ) -> u64
     ensures { λ r. ⌜ Answered (updateAnswer (now (map .entry)) actor key value) (now (out .entry)) (now (out .exit)) r ⌝ }
 {
-    let m = mapreader::read_map(map);
-    if m.number != 0 {
-        return answers::word(m.number);
+    let l = layout::lay_out(map);
+    if l.number != 0 {
+        return answers::word(l.number);
     }
-    let made = m.map.update(actor, key, value);
+    let clock = l.clock;
+    let ctx = ReadCtx {
+        add_clock: clock,
+        rm_clock: clock,
+    };
+    let made = ctx.derive_add_ctx(actor).update(key, value);
     let op = made.op;
     answers::give_op(made.number, op, out)
 }
@@ -95,52 +102,53 @@ pub extern "C" fn castribba_update(
 pub extern "C" fn castribba_rm_get(map: &[u8], key: u32, out: &mut [u8]) -> u64
     ensures { λ r. ⌜ Answered (rmGetAnswer (now (map .entry)) key) (now (out .entry)) (now (out .exit)) r ⌝ }
 {
-    let m = mapreader::read_map(map);
-    if m.number != 0 {
-        return answers::word(m.number);
+    let l = layout::lay_out(map);
+    if l.number != 0 {
+        return answers::word(l.number);
     }
-    answers::give_op(0, m.map.rm_get(key), out)
+    let held = layout::keyed::clock_at(map, l.layout, key);
+    answers::give_op(0, Op::rm(held, key), out)
 }
 
 #[no_mangle]
 pub extern "C" fn castribba_rm_read_ctx(map: &[u8], key: u32, out: &mut [u8]) -> u64
     ensures { λ r. ⌜ Answered (rmReadCtxAnswer (now (map .entry)) key) (now (out .entry)) (now (out .exit)) r ⌝ }
 {
-    let m = mapreader::read_map(map);
-    if m.number != 0 {
-        return answers::word(m.number);
+    let l = layout::lay_out(map);
+    if l.number != 0 {
+        return answers::word(l.number);
     }
-    answers::give_op(0, m.map.rm_read_ctx(key), out)
+    answers::give_op(0, Op::rm(l.clock, key), out)
 }
 
 #[no_mangle]
 pub extern "C" fn castribba_get(map: &[u8], key: u32, out: &mut [u8]) -> u64
     ensures { λ r. ⌜ Answered (getAnswer (now (map .entry)) key) (now (out .entry)) (now (out .exit)) r ⌝ }
 {
-    let m = mapreader::read_map(map);
-    if m.number != 0 {
-        return answers::word(m.number);
+    let l = layout::lay_out(map);
+    if l.number != 0 {
+        return answers::word(l.number);
     }
-    answers::give_map(0, m.map.get(key), out)
+    direct::reading::give_key(map, l.layout, key, out)
 }
 
 #[no_mangle]
 pub extern "C" fn castribba_len(map: &[u8]) -> u64
     ensures { λ r. ⌜ r ≡ wordOf (lenAnswer (now (map .entry))) [] ⌝ }
 {
-    let m = mapreader::read_map(map);
-    answers::word(m.number)
+    let l = layout::lay_out(map);
+    answers::word(l.number)
 }
 
 #[no_mangle]
 pub extern "C" fn castribba_len_count(map: &[u8]) -> u64
     ensures { λ r. ⌜ r ≡ carriedOf 0 (lenAnswer (now (map .entry))) (countOf (now (map .entry))) ⌝ }
 {
-    let m = mapreader::read_map(map);
-    if m.number != 0 {
+    let l = layout::lay_out(map);
+    if l.number != 0 {
         return 0;
     }
-    m.map.len() as u64
+    l.entries as u64
 }
 
 #[no_mangle]

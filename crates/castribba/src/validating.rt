@@ -82,10 +82,10 @@ pub fn spent_theirs(s: Spent) -> u64
 pub fn op(map: &[u8], op: &[u8]) -> OpVerdict
     ensures { λ r. ⌜ r ≡ opVerdict (now (map .entry)) (now (op .entry)) ⌝ }
 {
-    let m = mapreader::read_map(map);
-    if m.number != 0 {
+    let l = layout::lay_out(map);
+    if l.number != 0 {
         return OpVerdict {
-            number: m.number,
+            number: l.number,
             order: Order::Fits,
         };
     }
@@ -96,7 +96,7 @@ pub fn op(map: &[u8], op: &[u8]) -> OpVerdict
             order: Order::Fits,
         };
     }
-    let order = m.map.validate_op(o.op);
+    let order = direct::validating::order_of(map, l, o.op);
     OpVerdict {
         number: order_number(order),
         order,
@@ -106,21 +106,21 @@ pub fn op(map: &[u8], op: &[u8]) -> OpVerdict
 pub fn merge(map: &[u8], other: &[u8]) -> MergeVerdict
     ensures { λ r. ⌜ r ≡ mergeVerdict (now (map .entry)) (now (other .entry)) ⌝ }
 {
-    let m = mapreader::read_map(map);
-    if m.number != 0 {
+    let l = layout::lay_out(map);
+    if l.number != 0 {
         return MergeVerdict {
-            number: m.number,
+            number: l.number,
             spent: Spent::Once,
         };
     }
-    let o = mapreader::read_map(other);
+    let o = layout::lay_out(other);
     if o.number != 0 {
         return MergeVerdict {
             number: o.number,
             spent: Spent::Once,
         };
     }
-    let spent = m.map.validate_merge(o.map);
+    let spent = direct::validating::spent_between(map, l.layout, other, o.layout);
     MergeVerdict {
         number: spent_number(spent),
         spent,

@@ -5,11 +5,13 @@ ghost use lib.ListN.{length};
 ghost use Rattle.lists.specs.First.{some};
 ghost use Rattle.register.specs.Values.{valuesOf};
 ghost use Rattle.records.specs.Records.{Wrote};
+ghost use Rattle.maprecords.specs.Related.{readMap};
 ghost use Rattle.answers.specs.Answer.{Answered};
+ghost use Rattle.layout.specs.Whole.{Lies};
 ghost use Rattle.loader.specs.Choice.{smallest, another, reportOf};
 ghost use Rattle.loader.specs.Reports.{reportAt, flagOf, reportBytes, reportsAfter};
 ghost use Rattle.loader.specs.Calls.{bayCount, isBay, bayAnswer, baysAnswer};
-use map::Map;
+use layout::Layout;
 use register::Register;
 
 // The keys that are bays: from 1 to this.
@@ -81,13 +83,12 @@ pub fn choose(register: Register) -> Report
     }
 }
 
-// The report of a bay.
-pub fn report_at(map: Map, bay: u32) -> Report
-    ensures { λ r. ⌜ r ≡ reportAt map bay ⌝ }
+// The report of a bay of an image.
+fn report_at(map: &[u8], l: Layout, bay: u32) -> Report
+    requires { ⌜ Lies (now map) (readMap (now map) .map) l ⌝ }
+    ensures { λ r. ⌜ r ≡ reportAt (readMap (now (map .entry)) .map) bay ⌝ }
 {
-    let entries = map.entries;
-    let e = entries.at(bay);
-    choose(e.register)
+    choose(layout::keyed::register_at(map, l, bay))
 }
 
 fn flag(b: bool) -> u8
@@ -109,15 +110,15 @@ fn write_report(out: &mut [u8], at: usize, r: Report) -> usize
 }
 
 // Writes the reports of all bays.
-fn write_reports(map: Map, out: &mut [u8]) -> usize
-    requires { ⌜ 264 ≤ length (now out) ⌝ }
-    ensures { λ next. ⌜ Wrote 0 (reportsAfter map 0 bayCount) (now (out .entry)) (now (out .exit)) next ⌝ }
+fn write_reports(map: &[u8], l: Layout, out: &mut [u8]) -> usize
+    requires { ⌜ Lies (now map) (readMap (now map) .map) l × (264 ≤ length (now out)) ⌝ }
+    ensures { λ next. ⌜ Wrote 0 (reportsAfter (readMap (now (map .entry)) .map) 0 bayCount) (now (out .entry)) (now (out .exit)) next ⌝ }
 {
     let mut next: usize = 0;
     let mut bay: u32 = 0;
     while bay < BAYS {
         bay += 1;
-        next = write_report(out, next, report_at(map, bay));
+        next = write_report(out, next, report_at(map, l, bay));
     }
     next
 }
@@ -132,9 +133,9 @@ fn is_bay(key: u32) -> bool
 pub extern "C" fn castribba_bay(map: &[u8], bay: u32, out: &mut [u8]) -> u64
     ensures { λ r. ⌜ Answered (bayAnswer (now (map .entry)) bay) (now (out .entry)) (now (out .exit)) r ⌝ }
 {
-    let m = mapreader::read_map(map);
-    if m.number != 0 {
-        return answers::word(m.number);
+    let l = layout::lay_out(map);
+    if l.number != 0 {
+        return answers::word(l.number);
     }
     if !is_bay(bay) {
         return answers::word(14);
@@ -142,7 +143,7 @@ pub extern "C" fn castribba_bay(map: &[u8], bay: u32, out: &mut [u8]) -> u64
     if out.len() < REPORT {
         return answers::word(10);
     }
-    let r = report_at(m.map, bay);
+    let r = report_at(map, l.layout, bay);
     write_report(out, 0, r) as u64
 }
 
@@ -150,12 +151,12 @@ pub extern "C" fn castribba_bay(map: &[u8], bay: u32, out: &mut [u8]) -> u64
 pub extern "C" fn castribba_bays(map: &[u8], out: &mut [u8]) -> u64
     ensures { λ r. ⌜ Answered (baysAnswer (now (map .entry))) (now (out .entry)) (now (out .exit)) r ⌝ }
 {
-    let m = mapreader::read_map(map);
-    if m.number != 0 {
-        return answers::word(m.number);
+    let l = layout::lay_out(map);
+    if l.number != 0 {
+        return answers::word(l.number);
     }
     if out.len() < REPORTS {
         return answers::word(10);
     }
-    write_reports(m.map, out) as u64
+    write_reports(map, l.layout, out) as u64
 }

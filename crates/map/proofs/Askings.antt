@@ -32,11 +32,11 @@ pub clock-at : (m : Map) (k : ℕ) → dotsIn (entryAt k (entriesIn m)) ≡ cloc
 unfolding entryAt clockAt
 clock-at m k = first-give (λ e. eqb (e .key) k) dotsIn (entryAs k [] []) (entriesIn m) ∙ ap (λ z. firstIn (λ e. eqb (e .key) k) dotsIn z (entriesIn m)) (dots-in k [] [])
 
-or-this : (p q : Spent) → isTwice p ≡ true → orElse p q ≡ p
+pub or-this : (p q : Spent) → isTwice p ≡ true → orElse p q ≡ p
 or-this Once q t = apart (sym t)
 or-this (Twice d k h) q t = refl
 
-or-next : (p q : Spent) → isTwice p ≡ false → orElse p q ≡ q
+pub or-next : (p q : Spent) → isTwice p ≡ false → orElse p q ≡ q
 or-next Once q t = refl
 or-next (Twice d k h) q t = apart t
 

@@ -25,7 +25,8 @@ use Rattle.map.specs.Updating.{update}
 use Rattle.map.specs.Merging.{merge}
 use Rattle.map.specs.Resetting.{reset}
 use Rattle.map.specs.Judging.{overDots, overEntries, overValues, overWaiting, overKeys, overNumber, judged}
-use Rattle.map.specs.Asking.{clockAt, following, validateUpdate, nextDot, makeUpdate, noOp}
+use Rattle.map.specs.Contexts.{addContext}
+use Rattle.map.specs.Asking.{clockAt, following, validateUpdate, updateUnder, makeUpdate, noOp}
 
 -- actor : counter
 abbrev dot : ℕ → ℕ → Dot
@@ -68,5 +69,5 @@ pub record Settled : Type 0 where
   pub w12 : putValues (value (one 1 1) 7 ∷ []) (value (one 1 1) 8) ≡ value (one 1 1) 8 ∷ []
 
 pub settled : Settled
-unfolding pad sift firstIn fold weave isEmpty counterIn covers orderOf cutDots joinDots commonDots addDot yields outdone remaining putValues cutValues oursLeft mergeValues cutEntry listed removeFrom removeEntries waits clockBefore unionKeys uniteAll remove afresh putEntry entryAt putEntries update cutAlone alone keepDots mergeBoth together flatten mergeEntries merge resetWaiting reset overDots overEntries overValues overWaiting overKeys overNumber judged clockAt following validateUpdate nextDot makeUpdate
+unfolding pad sift firstIn fold weave isEmpty counterIn covers orderOf cutDots joinDots commonDots addDot yields outdone remaining putValues cutValues oursLeft mergeValues cutEntry listed removeFrom removeEntries waits clockBefore unionKeys uniteAll remove afresh putEntry entryAt putEntries update cutAlone alone keepDots mergeBoth together flatten mergeEntries merge resetWaiting reset overDots overEntries overValues overWaiting overKeys overNumber judged clockAt following validateUpdate addContext updateUnder makeUpdate
 settled = record { w1 = refl; w2 = refl; w3 = refl; w4 = refl; w5 = refl; w6 = refl; w7 = refl; w8 = refl; w9 = refl; w9-without = refl; w10 = refl; w11 = refl; w12 = refl }

@@ -2,25 +2,26 @@
 -- Assumes nothing.
 use mathlib.Core.Bool.{Bool, true, false, cond}
 use mathlib.Core.List.{List, [], _∷_}
-use Prim.Native.Nat.{ℕ, _+_, _-_, _^_}
-use lib.Dec.{ltb, leb, eqb}
+use Prim.Native.Nat.{ℕ, _+_}
+use lib.Dec.{ltb, eqb}
 use lib.ListN.{length}
 use Rattle.lists.specs.Sift.{those}
 use Rattle.lists.specs.First.{firstIn}
 use Rattle.clock.specs.declared.Dot.{Dot}
-use Rattle.clock.specs.Dots.{dotLimit, clockOf, counterIn, addDot, shared}
+use Rattle.clock.specs.Dots.{counterIn, shared}
 use Rattle.parts.specs.declared.Entry.{Entry}
 use Rattle.map.specs.declared.Map.{Map}
 use Rattle.map.specs.declared.Op.{Op}
 use Rattle.parts.specs.declared.Update.{Update}
 use Rattle.map.specs.declared.Made.{Made}
+use Rattle.map.specs.declared.AddCtx.{AddCtx}
 use Rattle.map.specs.declared.Order.{Order}
 use Rattle.map.specs.declared.Order.the-variants.{Fits, Missing}
 use Rattle.map.specs.declared.Spent.{Spent}
 use Rattle.map.specs.declared.Spent.the-variants.{Once, Twice}
 use Rattle.parts.specs.Model.{dotsIn, entriesAs, removalAs, noRemoval, noUpdate, waitingAs}
 use Rattle.map.specs.Model.{seenBy, entriesIn}
-use Rattle.map.specs.Judging.{exceeding}
+use Rattle.map.specs.Contexts.{addContext}
 
 -- the clock of a key's entry, empty where there is none
 unfoldable pub clockAt : Map → ℕ → List Dot
@@ -60,11 +61,12 @@ unfoldable pub firstSpent : {A : Type 0} → (A → Spent) → List A → Spent
 firstSpent f [] = Once
 firstSpent f (x ∷ l) = orElse (f x) (firstSpent f l)
 
--- "the first dot of our entry that their entry under a different key holds at the same counter"
-unfoldable pub spentBy : Entry → Entry → Spent
-spentBy ours theirs =
-    cond (eqb (ours .key) (theirs .key)) Once
-    (firstIn (shared (dotsIn theirs)) (λ d. Twice d (ours .key) (theirs .key)) Once (dotsIn ours))
+-- "the first dot of our entry that their entry under a different key holds at the same counter": of our key and dots, and theirs
+unfoldable pub spentUnder : ℕ → List Dot → ℕ → List Dot → Spent
+spentUnder key ours other theirs = cond (eqb key other) Once (firstIn (shared theirs) (λ d. Twice d key other) Once ours)
+
+abbrev pub spentBy : Entry → Entry → Spent
+spentBy ours theirs = spentUnder (ours .key) (dotsIn ours) (theirs .key) (dotsIn theirs)
 
 -- "`validate_merge`: by our key, their key, then actor, all ascending"
 unfoldable pub validateMerge : Map → Map → Spent
@@ -79,25 +81,20 @@ abbrev pub spentNumber : Spent → ℕ
 spentNumber Once = 0
 spentNumber (Twice d k h) = 12
 
--- "Making an update by `update`: dot = map counter + 1, put clock = map clock with that dot."
-unfoldable pub nextDot : Map → ℕ → Dot
-nextDot m actor = record { actor = actor; counter = counterIn (seenBy m) actor + 1 }
-
-abbrev pub updateOp : Map → ℕ → ℕ → ℕ → Op
-updateOp m actor k value = record {
-  up = true;
-  removal = noRemoval;
-  update = record { dot = nextDot m actor; key = k; put = record { clock = clockOf (addDot (seenBy m) (nextDot m actor)); value = value } };
-}
-
 abbrev pub noOp : Op
 noOp = record { up = false; removal = noRemoval; update = noUpdate }
 
--- 9 at the last counter, then 4 for a put clock of more than 8 dots
+-- an update under a context, or the number of a context that was not had
+abbrev pub updateOp : AddCtx → ℕ → ℕ → Op
+updateOp c k value = record { up = true; removal = noRemoval; update = record { dot = c .dot; key = k; put = record { clock = c .clock; value = value } } }
+
+unfoldable pub updateUnder : AddCtx → ℕ → ℕ → Made
+updateUnder c k value = cond (eqb (c .number) 0) (record { number = 0; op = updateOp c k value }) (record { number = c .number; op = noOp })
+
+-- "Making an update by `update`: dot = map counter + 1, put clock = map clock with that dot": 9 at the last counter,
+-- then 4 for a put clock of more than 8 dots
 unfoldable pub makeUpdate : Map → ℕ → ℕ → ℕ → Made
-makeUpdate m actor k value =
-    cond (leb (2 ^ 64 - 1) (counterIn (seenBy m) actor)) (record { number = 9; op = noOp })
-    (cond (exceeding dotLimit (addDot (seenBy m) (nextDot m actor))) (record { number = 4; op = noOp }) (record { number = 0; op = updateOp m actor k value }))
+makeUpdate m actor k value = updateUnder (addContext (seenBy m) actor) k value
 
 -- "Making a removal: that key under its entry clock (`get`; empty clock if absent), or under the map clock (`read_ctx`)."
 abbrev pub removalOp : List Dot → ℕ → Op

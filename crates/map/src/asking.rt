@@ -3,12 +3,14 @@ ghost use mathlib.Core.Path.{_≡_};
 ghost use mathlib.Core.Bool.{true, false};
 ghost use mathlib.Core.List.{[], _∷_};
 ghost use Prim.Native.Nat.{_≤_, _<_, _+_};
-ghost use Rattle.map.specs.declared.Order.the-variants.{Missing};
+ghost use Rattle.map.specs.declared.Order.the-variants.{Fits, Missing};
 ghost use lib.Dec.{eqb, ltb};
+ghost use Rattle.clock.specs.Dots.{dotsOf};
 ghost use Rattle.parts.specs.Model.{entryLimit, entriesOf, noUpdate, keysAs};
-ghost use Rattle.map.specs.Asking.{validateUpdate, validateOp, spentBy, firstSpent, validateMerge, isTwice, makeUpdate, noOp, removalOp, clockAt, readKey, count};
+ghost use Rattle.map.specs.Asking.{following, validateUpdate, validateOp, spentUnder, spentBy, firstSpent, validateMerge, isTwice, updateUnder, makeUpdate, noOp, removalOp, clockAt, readKey, count};
 ghost use Rattle.map.specs.Model.{seenBy};
 ghost use Rattle.map.specs.Valid.{Within};
+use crate::AddCtx;
 use crate::Made;
 use crate::Map;
 use crate::Op;
@@ -43,8 +45,23 @@ fn missing(counter: u64, above: u64) -> Order
     Order::Missing(above + 1, counter)
 }
 
+// A dot held against the map clock's counter, then the entry clock's: the first that it is more than one above.
+pub fn follow(seen: Clock, held: Clock, d: Dot) -> Order
+    ensures { λ r. ⌜ r ≡ following (dotsOf seen) d (following (dotsOf held) d Fits) ⌝ }
+{
+    let s = seen.get(d.actor);
+    if too_high(d.counter, s) {
+        return missing(d.counter, s);
+    }
+    let h = held.get(d.actor);
+    if too_high(d.counter, h) {
+        return missing(d.counter, h);
+    }
+    Order::Fits
+}
+
 // Whether a dot was found.
-fn twice(s: Spent) -> bool
+pub fn twice(s: Spent) -> bool
     ensures { λ r. ⌜ r ≡ isTwice s ⌝ }
 {
     match s {
@@ -53,24 +70,30 @@ fn twice(s: Spent) -> bool
     }
 }
 
-// The first dot of our entry that their entry under a different key holds at the same counter.
-fn spent_by(ours: Entry, theirs: Entry) -> Spent
-    ensures { λ r. ⌜ r ≡ spentBy ours theirs ⌝ }
+// The first dot of ours, under our key, that theirs under a different key has at the same counter.
+pub fn spent_under(key: u32, ours: Clock, other: u32, theirs: Clock) -> Spent
+    ensures { λ r. ⌜ r ≡ spentUnder key (dotsOf ours) other (dotsOf theirs) ⌝ }
 {
-    if ours.key == theirs.key {
+    if key == other {
         return Spent::Once;
     }
-    let clock = ours.clock;
-    let n = clock.size();
+    let n = ours.size();
     let mut i: usize = 0;
     while i < n {
-        let d = clock.dots[i];
-        if theirs.clock.get(d.actor) == d.counter {
-            return Spent::Twice(d, ours.key, theirs.key);
+        let d = ours.dots[i];
+        if theirs.get(d.actor) == d.counter {
+            return Spent::Twice(d, key, other);
         }
         i += 1;
     }
     Spent::Once
+}
+
+// The same of two entries.
+fn spent_by(ours: Entry, theirs: Entry) -> Spent
+    ensures { λ r. ⌜ r ≡ spentBy ours theirs ⌝ }
+{
+    spent_under(ours.key, ours.clock, theirs.key, theirs.clock)
 }
 
 // The first of their entries, in the order of keys, that shares a dot with our entry.
@@ -103,17 +126,8 @@ impl Map {
     fn validate_update(self, u: Update) -> Order
         ensures { λ r. ⌜ r ≡ validateUpdate self u ⌝ }
     {
-        let d = u.dot;
-        let seen = self.clock.get(d.actor);
-        if too_high(d.counter, seen) {
-            return missing(d.counter, seen);
-        }
         let e = self.entries.at(u.key);
-        let held = e.clock.get(d.actor);
-        if too_high(d.counter, held) {
-            return missing(d.counter, held);
-        }
-        Order::Fits
+        follow(self.clock, e.clock, u.dot)
     }
 
     pub fn validate_merge(self, other: Map) -> Spent
@@ -161,34 +175,12 @@ impl Map {
         self.len() == 0
     }
 
-    // An update of a key by an actor: its next dot, and a put under the map clock with that dot.
+    // An update of a key by an actor, under the context that the map clock gives.
     pub fn update(self, actor: u16, key: u32, value: u64) -> Made
         ensures { λ r. ⌜ r ≡ makeUpdate self actor key value ⌝ }
     {
-        let c = self.clock.get(actor);
-        if 0xffff_ffff_ffff_ffff <= c {
-            return Made::refused(9);
-        }
-        let dot = Dot {
-            actor,
-            counter: c + 1,
-        };
-        let grown = self.clock.add(dot);
-        if grown.over {
-            return Made::refused(4);
-        }
-        let clock = grown.clock;
-        let put = Value { clock, value };
-        let update = Update { dot, key, put };
-        let removal = Removal::new();
-        Made {
-            number: 0,
-            op: Op {
-                up: true,
-                removal,
-                update,
-            },
-        }
+        let ctx = self.read_ctx().derive_add_ctx(actor);
+        ctx.update(key, value)
     }
 
     // A removal of a key under its entry clock, the empty clock where there is no entry.
@@ -209,9 +201,34 @@ impl Map {
     }
 }
 
+impl AddCtx {
+    // An update of a key under this context: the Rust's `update`.
+    pub fn update(self, key: u32, value: u64) -> Made
+        ensures { λ r. ⌜ r ≡ updateUnder self key value ⌝ }
+    {
+        let number = self.number;
+        if number != 0 {
+            return Made::refused(number);
+        }
+        let clock = self.clock;
+        let dot = self.dot;
+        let put = Value { clock, value };
+        let update = Update { dot, key, put };
+        let removal = Removal::new();
+        Made {
+            number: 0,
+            op: Op {
+                up: true,
+                removal,
+                update,
+            },
+        }
+    }
+}
+
 impl Op {
     // A removal of one key under a clock: the Rust's `rm`.
-    fn rm(clock: Clock, key: u32) -> Op
+    pub fn rm(clock: Clock, key: u32) -> Op
         ensures { λ r. ⌜ r ≡ record { up = false; removal = record { clock = clock; keys = keysAs (key ∷ []) }; update = noUpdate } ⌝ }
     {
         let keys = Keys::new().push(key);

@@ -1,6 +1,6 @@
 // The map: a clock, entries by key, and removals that wait. The Rust's map.rs and ctx.rs, on arrays with a count, by value.
 mod applying;
-mod asking;
+pub mod asking;
 mod contexts;
 mod merging;
 

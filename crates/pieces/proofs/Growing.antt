@@ -15,7 +15,7 @@ use Rattle.mapreader.specs.declared.MapReader.{MapReader}
 use Rattle.mapreader.specs.SoFar.{MapSoFar}
 use Rattle.pieces.specs.declared.Pieces.{Pieces}
 use Rattle.pieces.specs.Cut.{lengthTo, Came}
-use Rattle.pieces.proofs.Joined.{records-join, records-none}
+use Rattle.records.proofs.Joined.{records-join, records-none}
 
 -- a part of a slice, from a place to its end
 abbrev pub part : ℕ → List ℕ → List ℕ

@@ -6,3 +6,4 @@ pub mod Rule
 pub mod Vectors
 pub mod Feeding
 pub mod Writing
+pub mod Joined

@@ -94,7 +94,7 @@ read-written l f =
     rw n (read-from l 0 (bytesOf l) [] [] (sym (append-nil (bytesOf l))) refl f)
 
 -- the bytes of what was read are those that were read
-write-from : (s : List ℕ) (n at : ℕ) → Bytes s → at + n * 16 ≤ length s → bytesOf (recordsFrom s at n) ≡ take (n * 16) (drop at s)
+pub write-from : (s : List ℕ) (n at : ℕ) → Bytes s → at + n * 16 ≤ length s → bytesOf (recordsFrom s at n) ≡ take (n * 16) (drop at s)
 unfolding recordsFrom bytesOf
 write-from s zero at b h = refl
 write-from s (suc n) at b h =

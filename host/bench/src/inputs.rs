@@ -5,11 +5,32 @@ use oracle::image::{clock_image, map_image, operation_image, LONGEST_MAP};
 use oracle::model::{Clock, Operation};
 
 pub enum Work {
-    Apply { op: Vec<u8> },
-    Merge { other: Vec<u8> },
-    ResetRemove { clock: Vec<u8> },
+    Apply {
+        op: Vec<u8>,
+    },
+    Merge {
+        other: Vec<u8>,
+    },
+    ResetRemove {
+        clock: Vec<u8>,
+    },
     Len,
+    /// What is asked of an image and changes no map: timed of the byte calls alone.
+    Ask(Question),
 }
+
+pub enum Question {
+    Update,
+    RmGet,
+    RmReadCtx,
+    Get,
+    ValidateOp { op: Vec<u8> },
+    ValidateMerge { other: Vec<u8> },
+}
+
+/// An entry of every full map, and an actor of its clock.
+pub const KEY: u32 = 8;
+pub const ACTOR: u16 = 3;
 
 pub struct Task {
     pub name: &'static str,
@@ -26,9 +47,10 @@ pub fn tasks() -> Vec<Task> {
     let newer_half = map_image(&full_map(|key| key % 2 == 1));
 
     let mut put_clock = map.clock.clone();
-    put_clock.insert(3, 1001);
-    let update = Operation::Update { actor: 3, counter: 1001, key: 8, put_clock, put_value: 5 };
-    let removal = Operation::Removal { clock: map.clock.clone(), keys: [8].into() };
+    put_clock.insert(ACTOR, 1001);
+    let update =
+        Operation::Update { actor: ACTOR, counter: 1001, key: KEY, put_clock, put_value: 5 };
+    let removal = Operation::Removal { clock: map.clock.clone(), keys: [KEY].into() };
     let reset = full_clock(|actor| if actor % 2 == 1 { 90 } else { 1 });
 
     let none = clock_image(&Clock::new());
@@ -45,6 +67,15 @@ pub fn tasks() -> Vec<Task> {
         of_image(
             "read and write back: reset_remove by the empty clock",
             Work::ResetRemove { clock: none },
+        ),
+        task("update", Work::Ask(Question::Update)),
+        task("rm_get", Work::Ask(Question::RmGet)),
+        task("rm_read_ctx", Work::Ask(Question::RmReadCtx)),
+        task("get", Work::Ask(Question::Get)),
+        task("validate_op", Work::Ask(Question::ValidateOp { op: operation_image(&update) })),
+        task(
+            "validate_merge with an equal map",
+            Work::Ask(Question::ValidateMerge { other: image.clone() }),
         ),
     ]
 }

@@ -1,4 +1,4 @@
-//! Times apply, merge, reset_remove and len of full maps: bench [ROUNDS] prints a table of medians,
+//! Times the calls on full maps: bench [ROUNDS] prints a table of medians,
 //! with their spread, and how many times as long the first subject takes.
 
 mod inputs;
@@ -47,22 +47,23 @@ fn columns(values: Vec<f64>) -> String {
 fn main() {
     let rounds =
         std::env::args().nth(1).and_then(|text| text.parse().ok()).unwrap_or(DEFAULT_ROUNDS);
-    let subjects = subjects::all();
-    let first = subjects[0].name();
+    let every = subjects::all();
+    let first = every[0].name();
     println!("Median (least to most) of {rounds} rounds; the longest map, {LONGEST_MAP} bytes.\n");
     println!("| task | subject | microseconds | nanoseconds a record | {first}: so many times |");
     println!("|---|---|---|---|---|");
     for task in inputs::tasks() {
+        let subjects: Vec<_> = every.iter().filter(|subject| subject.takes(&task)).collect();
         for subject in &subjects {
             subject.check(&task);
         }
         let batches: Vec<usize> =
-            subjects.iter().map(|subject| batch_for(&**subject, &task)).collect();
+            subjects.iter().map(|subject| batch_for(&***subject, &task)).collect();
         let mut samples = vec![Vec::new(); subjects.len()];
         // one after the other in each round, so that a busy moment hits all of them
         for _ in 0..rounds {
             for (place, subject) in subjects.iter().enumerate() {
-                samples[place].push(sample(&**subject, &task, batches[place]));
+                samples[place].push(sample(&***subject, &task, batches[place]));
             }
         }
         for (subject, times) in subjects.iter().zip(&samples) {

@@ -1,7 +1,7 @@
 //! What is timed: byte calls, the plain program on decoded arrays, the published crate.
 
-use crate::inputs::{Task, Work};
-use calls::{length_of, Calls, LONGEST_MAP};
+use crate::inputs::{Question, Task, Work, ACTOR, KEY};
+use calls::{length_of, number_of, Calls, LONGEST_MAP};
 use crdts::{CmRDT, CvRDT, ResetRemove, VClock};
 use oracle::expected;
 use oracle::image::{map_image, read_clock, read_map, read_operation};
@@ -20,6 +20,10 @@ pub trait Subject {
     fn reads_image(&self) -> bool {
         false
     }
+    /// Whether it has the task's call.
+    fn takes(&self, task: &Task) -> bool {
+        !matches!(task.work, Work::Ask(_))
+    }
     /// Stops the program if the subject's answer is wrong.
     fn check(&self, task: &Task);
 }
@@ -34,14 +38,24 @@ pub fn all() -> Vec<Box<dyn Subject>> {
     ]
 }
 
-/// The image that must come out; empty for `len`.
-fn expected_image(task: &Task) -> Vec<u8> {
-    let answer = match &task.work {
+fn expected_answer(task: &Task) -> expected::Answer {
+    match &task.work {
         Work::Apply { op } => expected::apply(&task.map, op),
         Work::Merge { other } => expected::merge(&task.map, other),
         Work::ResetRemove { clock } => expected::reset_remove(&task.map, clock).unwrap(),
         Work::Len => expected::len(&task.map),
-    };
+        Work::Ask(Question::Update) => expected::update(&task.map, ACTOR, KEY, 7),
+        Work::Ask(Question::RmGet) => expected::rm_get(&task.map, KEY),
+        Work::Ask(Question::RmReadCtx) => expected::rm_read_ctx(&task.map, KEY),
+        Work::Ask(Question::Get) => expected::get(&task.map, KEY),
+        Work::Ask(Question::ValidateOp { op }) => expected::validate_op(&task.map, op),
+        Work::Ask(Question::ValidateMerge { other }) => expected::validate_merge(&task.map, other),
+    }
+}
+
+/// The image that must come out; empty for `len`.
+fn expected_image(task: &Task) -> Vec<u8> {
+    let answer = expected_answer(task);
     assert_eq!(answer.number, 0, "{} is refused", task.name);
     answer.bytes
 }
@@ -62,6 +76,12 @@ impl<C: Calls> ByByte<C> {
             Work::Merge { other } => self.0.merge(&task.map, other, out),
             Work::ResetRemove { clock } => self.0.reset_remove(&task.map, clock, out),
             Work::Len => self.0.len(&task.map),
+            Work::Ask(Question::Update) => self.0.update(&task.map, ACTOR, KEY, 7, out),
+            Work::Ask(Question::RmGet) => self.0.rm_get(&task.map, KEY, out),
+            Work::Ask(Question::RmReadCtx) => self.0.rm_read_ctx(&task.map, KEY, out),
+            Work::Ask(Question::Get) => self.0.get(&task.map, KEY, out),
+            Work::Ask(Question::ValidateOp { op }) => self.0.validate_op(&task.map, op),
+            Work::Ask(Question::ValidateMerge { other }) => self.0.validate_merge(&task.map, other),
         }
     }
 }
@@ -81,16 +101,19 @@ impl<C: Calls> Subject for ByByte<C> {
     fn reads_image(&self) -> bool {
         true
     }
+    fn takes(&self, _: &Task) -> bool {
+        true
+    }
     fn prepare<'a>(&'a self, task: &'a Task, batch: usize) -> Box<dyn Prepared + 'a> {
         Box::new(ByteRuns { subject: self, task, out: vec![0; LONGEST_MAP], batch })
     }
     fn check(&self, task: &Task) {
         let mut out = vec![0; LONGEST_MAP];
         let word = self.once(task, &mut out);
+        let answer = expected_answer(task);
+        assert_eq!((number_of(word), &out[..length_of(word)]), (answer.number, &answer.bytes[..]));
         if let Work::Len = task.work {
-            assert_eq!((word, self.0.len_count(&task.map)), (0, 16));
-        } else {
-            assert_eq!(out[..length_of(word)], expected_image(task));
+            assert_eq!(self.0.len_count(&task.map), 16);
         }
     }
 }
@@ -133,6 +156,7 @@ impl OnArrays {
                 ArrayWork::ResetRemove(plain::read_clock(clock).unwrap())
             }
             Work::Len => ArrayWork::Len,
+            Work::Ask(_) => unreachable!("only byte calls are asked"),
         };
         ArrayRuns { maps: vec![plain::read_map(&task.map).unwrap(); batch], work }
     }
@@ -213,6 +237,7 @@ impl Published {
                 PublishedWork::ResetRemove(published::clock_in(&read_clock(clock).unwrap()))
             }
             Work::Len => PublishedWork::Len,
+            Work::Ask(_) => unreachable!("only byte calls are asked"),
         };
         PublishedRuns { maps: vec![map; batch], work }
     }

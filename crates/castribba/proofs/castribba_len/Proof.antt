@@ -1,7 +1,6 @@
 -- `castribba_len` meets its contract. Assumes nothing.
 use mathlib.Core.Path.{refl, ap, _∙_}
 use Prim.Native.Nat.{_*_, _^_}
-use Rattle.maprecords.specs.declared.ReadMap.{ReadMap}
 use Rattle.answers.proofs.Answers.{bare}
 use Rattle.castribba.proofs.Carrying.{number-alone}
 use borrow.Author.Needs.{needs}
@@ -9,7 +8,7 @@ use Rattle.castribba.proofs.castribba_len.Statement.{statement}
 use Rattle.castribba.proofs.castribba_len.Tie as tie
 
 returns : tie.Need-returns
-returns c = c .word .ensures ∙ ap (λ (r : ReadMap). r .number * 2 ^ 32) (c .before .read-map .ensures) ∙ bare _ _ (number-alone _) refl
+returns c = c .word .ensures ∙ ap (λ n. n * 2 ^ 32) (c .before .lay-out .ensures .0) ∙ bare _ _ (number-alone _) refl
 
 pub castribba-len-spec : {M : Type 1} → statement M
 castribba-len-spec =

@@ -1,6 +1,5 @@
 -- `castribba_len_count` meets its contract. Assumes nothing.
-use mathlib.Core.Path.{refl, ap, sym, _∙_}
-use Rattle.maprecords.specs.declared.ReadMap.{ReadMap}
+use mathlib.Core.Path.{refl, sym, _∙_}
 use Rattle.map.specs.Asking.{count}
 use Rattle.answers.proofs.Answers.{both-pass, one-fails}
 use Rattle.castribba.proofs.Carrying.{carried-not, carried-here}
@@ -9,14 +8,13 @@ use Rattle.castribba.proofs.castribba_len_count.Statement.{statement}
 use Rattle.castribba.proofs.castribba_len_count.Tie as tie
 
 returns : tie.Need-returns
-returns c =
-    let m = ap (λ (r : ReadMap). r .number) (c .before .before .read-map .ensures) in
-    carried-not 0 _ _ (one-fails _ 0 (λ e. c .if1 .taken (m ∙ e)))
+returns c = carried-not 0 _ _ (one-fails _ 0 (λ e. c .if1 .taken (c .before .before .lay-out .ensures .0 ∙ e)))
 
 returns-2 : tie.Need-returns-2
+unfolding count
 returns-2 c =
-    let m = c .before .before .before .read-map .ensures in
-    c .len .ensures .0 ∙ ap (λ (r : ReadMap). count (r .map)) m ∙ carried-here 0 _ _ (both-pass _ 0 (sym (ap (λ (r : ReadMap). r .number) m) ∙ c .before .if1 .left) refl) refl
+    let m = c .before .before .lay-out .ensures in
+    m .1 (c .if1 .left) .entries ∙ carried-here 0 _ _ (both-pass _ 0 (sym (m .0) ∙ c .if1 .left) refl) refl
 
 pub castribba-len-count-spec : {M : Type 1} → statement M
 castribba-len-count-spec =
@@ -24,5 +22,4 @@ castribba-len-count-spec =
     (tie.spec
     (λ c κs. search needs)
     returns
-    (λ c κs. search needs)
     returns-2)

@@ -1,26 +1,24 @@
 -- `castribba_rm_get` meets its contract: each way out is a law of `Ways`. Assumes nothing.
 use mathlib.Core.Path.{ap, sym, _∙_}
-use Rattle.maprecords.specs.declared.ReadMap.{ReadMap}
+use Rattle.clock.specs.declared.Clock.{Clock}
 use Rattle.map.specs.declared.Op.{Op}
-use Rattle.map.specs.Asking.{removalOp, clockAt}
-use Rattle.castribba.proofs.Ways.{first-out, op-out, read-within}
+use Rattle.castribba.proofs.Ways.{first-out, op-out, removalUnder}
 use borrow.Author.Needs.{needs}
 use Rattle.castribba.proofs.castribba_rm_get.Statement.{statement}
 use Rattle.castribba.proofs.castribba_rm_get.Tie as tie
 
 returns : tie.Need-returns
-returns c = first-out _ _ (ap (λ (r : ReadMap). r .number) (c .before .before .before .read-map .ensures)) (c .before .if1 .taken) (c .word .ensures)
+returns c = first-out _ _ (c .before .before .before .lay-out .ensures .0) (c .before .if1 .taken) (c .word .ensures)
 
-rm-get-requires : tie.Need-rm-get-requires
-rm-get-requires c κs = read-within _ (c .before .before .read-map .ensures)
+clock-at-requires : tie.Need-clock-at-requires
+clock-at-requires c κs = c .before .before .lay-out .ensures .1 (c .if1 .left) .lies
 
 returns-2 : tie.Need-returns-2
 returns-2 c =
-    let s = c .before .before .before .before .before .before .before in
-    let a = s .before .before .before .args in
-    let m = s .read-map .ensures in
-    let g = c .before .before .before .before .rm-get .ensures ∙ ap (λ (r : ReadMap). removalOp (clockAt (r .map) (a .key)) (a .key)) m in
-    op-out _ (sym (ap (λ (r : ReadMap). r .number) m) ∙ c .before .before .before .before .before .if1 .left) (ap (λ (x : Op). record { number = 0; op = x }) g) (c .before .before .give-op .ensures)
+    let l = c .before .before .before .before .before .before .before .before .lay-out .ensures in
+    let key = c .before .before .before .before .before .before .before .before .before .before .before .args .key in
+    let g = c .before .before .before .before .rm .ensures ∙ ap (λ (x : Clock). removalUnder x key) (c .before .before .before .before .before .clock-at .ensures) in
+    op-out _ (sym (l .0) ∙ c .before .before .before .before .before .before .if1 .left) (ap (λ (x : Op). record { number = 0; op = x }) g) (c .before .before .give-op .ensures)
 
 pub castribba-rm-get-spec : {M : Type 1} → statement M
 castribba-rm-get-spec =
@@ -29,7 +27,8 @@ castribba-rm-get-spec =
     (λ c κs. search needs)
     (λ c κs. search needs)
     returns
-    rm-get-requires
+    clock-at-requires
+    (λ c κs. search needs)
     (λ c κs. search needs)
     (λ c. search needs)
     returns-2)

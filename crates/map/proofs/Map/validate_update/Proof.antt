@@ -1,52 +1,16 @@
--- `Map::validate_update` meets its contract: the map clock first, then the entry's. Assumes nothing.
-use mathlib.Core.Path.{sym, _∙_}
-use Prim.Native.Nat.{_+_}
-use borrow.Author.Tests.{ltb-true}
-use Rattle.map.specs.Asking.{following, validateUpdate}
+-- `Map::validate_update` meets its contract. Assumes nothing.
+use mathlib.Core.Path.{_∙_}
+use Rattle.map.specs.Asking.{validateUpdate}
 use Rattle.map.proofs.Askings.{clock-at}
 use borrow.Author.Needs.{needs}
-use native.Mathlib.Omega.{arith}
 use Rattle.map.proofs.Map.validate_update.Statement.{statement}
 use Rattle.map.proofs.Map.validate_update.Tie as tie
 
-missing-requires : tie.Need-missing-requires
-missing-requires c κs =
-    let h = c .before in
-    let g = h .before in
-    omega (arith, ltb-true (g .get .result + 1) (g .before .before .args .u .dot .counter) (sym (h .too-high .ensures) ∙ c .if1 .taken))
-
-missing-requires-2 : tie.Need-missing-requires-2
-missing-requires-2 c κs =
-    let h = c .before in
-    let g = h .before in
-    omega (arith, ltb-true (g .get2 .result + 1) (g .before .before .before .before .before .before .args .u .dot .counter) (sym (h .too-high2 .ensures) ∙ c .if2 .taken))
-
 returns : tie.Need-returns
-unfolding validateUpdate following
+unfolding validateUpdate
 returns c =
-    let i = c .before in
-    let h = i .before in
-    c .missing .ensures ∙ rw (← h .before .get .ensures, sym (h .too-high .ensures) ∙ i .if1 .taken)
-
-returns-2 : tie.Need-returns-2
-unfolding validateUpdate following
-returns-2 c =
-    let j = c .before in
-    let h = j .before in
-    let g = h .before in
-    let i = g .before .before in
-    let z = i .before .before .before .before in
-    c .missing2 .ensures
-    ∙ rw (← i .before .before .get .ensures, sym (i .before .too-high .ensures) ∙ i .if1 .left, ← clock-at (z .args .self) (z .args .u .key), ← g .before .at .ensures, ← g .get2 .ensures, sym (h .too-high2 .ensures) ∙ j .if2 .taken)
-
-returns-3 : tie.Need-returns-3
-unfolding validateUpdate following
-returns-3 c =
-    let h = c .before in
-    let g = h .before in
-    let i = g .before .before in
-    let z = i .before .before .before .before in
-    rw (← i .before .before .get .ensures, sym (i .before .too-high .ensures) ∙ i .if1 .left, ← clock-at (z .args .self) (z .args .u .key), ← g .before .at .ensures, ← g .get2 .ensures, sym (h .too-high2 .ensures) ∙ c .if2 .left)
+    let z = c .before .before .args in
+    c .follow .ensures ∙ rw (c .before .at .ensures, clock-at (z .self) (z .u .key))
 
 pub validate-update-spec : {M : Type 1} → statement M
 validate-update-spec =
@@ -54,11 +18,4 @@ validate-update-spec =
     (tie.spec
     (λ c κs. search needs)
     (λ c κs. search needs)
-    missing-requires
-    returns
-    (λ c κs. search needs)
-    (λ c κs. search needs)
-    (λ c κs. search needs)
-    missing-requires-2
-    returns-2
-    returns-3)
+    returns)

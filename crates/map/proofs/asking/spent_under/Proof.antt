@@ -1,34 +1,33 @@
--- `spent_by` meets its contract: the loop looks for a dot that both hold. Assumes nothing.
+-- `spent_under` meets its contract: the loop looks for a dot that both hold. Assumes nothing.
 use Prim.Native.Nat.{_≤_, _-_}
 use borrow.Author.Tests.{eq-eqb, ne-eqb}
 use Rattle.lists.proofs.Passing.{Passing, passing-start, passing-here, passing-on, passing-end}
-use Rattle.clock.specs.Dots.{noDot, shared}
-use Rattle.parts.specs.Model.{dotsIn}
+use Rattle.clock.specs.Dots.{noDot, dotsOf, shared}
 use Rattle.map.specs.declared.Spent.the-variants.{Once, Twice}
-use Rattle.map.specs.Asking.{spentBy}
+use Rattle.map.specs.Asking.{spentUnder}
 use borrow.Author.Needs.{needs}
 use native.Mathlib.Omega.{arith}
-use Rattle.map.proofs.asking.spent_by.Statement.{statement}
-use Rattle.map.proofs.asking.spent_by.Tie as tie
+use Rattle.map.proofs.asking.spent_under.Statement.{statement}
+use Rattle.map.proofs.asking.spent_under.Tie as tie
 
 abbrev Inv-loop : tie.InvT-loop
-Inv-loop ours theirs clock n i₀ i = (i ≤ n) × Passing (shared (dotsIn theirs)) (λ d. Twice d (ours .key) (theirs .key)) Once (clock .dots) (clock .len) i
+Inv-loop key other theirs ours n i₀ i = (i ≤ n) × Passing (shared (dotsOf theirs)) (λ d. Twice d key other) Once (ours .dots) (ours .len) i
 
 abbrev μ-loop : tie.MeasureT-loop
-μ-loop ours theirs clock n i₀ i = n - i
+μ-loop key other theirs ours n i₀ i = n - i
 
 loop-holds : tie.Need-loop-holds Inv-loop μ-loop
 loop-holds c = (search needs, passing-start)
 
 returns : tie.Need-returns Inv-loop μ-loop
-unfolding spentBy
+unfolding spentUnder
 returns c = rw (eq-eqb _ _ (c .if1 .taken))
 
 returns-2 : tie.Need-returns-2 Inv-loop μ-loop
-unfolding spentBy
+unfolding spentUnder
 returns-2 c =
     let s = c .before .before .before .before .before in
-    rw (ne-eqb _ _ (s .before .before .before .if1 .left)) (passing-here noDot (s .loop .inv .1) (omega arith) (eq-eqb _ _ (rw (c .before .before .get .ensures) at (c .if2 .taken))))
+    rw (ne-eqb _ _ (s .before .before .if1 .left)) (passing-here noDot (s .loop .inv .1) (omega arith) (eq-eqb _ _ (rw (c .before .before .get .ensures) at (c .if2 .taken))))
 
 loop-again : tie.Need-loop-again Inv-loop μ-loop
 loop-again c =
@@ -36,13 +35,13 @@ loop-again c =
     (search needs, passing-on noDot (s .loop .inv .1) (omega arith) (ne-eqb _ _ (rw (c .before .before .get .ensures) at (c .if2 .left))))
 
 returns-3 : tie.Need-returns-3 Inv-loop μ-loop
-unfolding spentBy
+unfolding spentUnder
 returns-3 c =
     let s = c .before in
-    rw (ne-eqb _ _ (s .before .before .before .if1 .left)) (passing-end (s .loop .inv .1) (omega arith))
+    rw (ne-eqb _ _ (s .before .before .if1 .left)) (passing-end (s .loop .inv .1) (omega arith))
 
-pub spent-by-spec : {M : Type 1} → statement M
-spent-by-spec =
+pub spent-under-spec : {M : Type 1} → statement M
+spent-under-spec =
     tie.close
     (tie.spec
     Inv-loop

@@ -1,14 +1,14 @@
--- The records of bytes that are joined.
+-- The records of bytes that are joined, and of a part of some bytes.
 -- Assumes nothing.
 use mathlib.Core.Path.{_≡_, refl, ap, ap₂, sym, _∙_}
 use mathlib.Core.List.{List, [], _∷_, _++_, append-nil, append-assoc}
 use Prim.Native.Nat.{ℕ, zero, suc, _+_, _*_, _/_, _%_, _^_, _≤_, _<_}
 use native.Mathlib.Omega.{arith}
-use lib.ListN.{length, getD, take, drop, length-append, length-drop, List·getD-append}
-use lib.Seq.{getD-append-add}
+use lib.ListN.{length, getD, take, drop, length-append, length-drop, List·getD-append, take-append-drop}
+use lib.Seq.{getD-append-add, length-take-le}
 use Rattle.records.specs.Bytes.{numAt}
 use Rattle.records.specs.Records.{recordFrom, recordsFrom, recordsOf}
 use Rattle.records.specs.declared.Record.{Record}
 
 double : (k : ℕ) → 2 ^ suc k ≡ 2 ^ k + 2 ^ k
 double k = omega arith
@@ -52,7 +52,7 @@ records-second (suc n) at s t =
     let e : length s + at + 16 ≡ length s + (at + 16) = omega arith in
     ap₂ (λ r l. r ∷ l) (record-second at s t) (ap (λ a. recordsFrom (s ++ t) a n) e ∙ records-second n (at + 16) s t)
 
-records-split : (n m at : ℕ) (s : List ℕ) → recordsFrom s at (n + m) ≡ recordsFrom s at n ++ recordsFrom s (at + n * 16) m
+pub records-split : (n m at : ℕ) (s : List ℕ) → recordsFrom s at (n + m) ≡ recordsFrom s at n ++ recordsFrom s (at + n * 16) m
 unfolding recordsFrom
 records-split zero m at s = let a : zero + m ≡ m = omega arith in let b : at + zero * 16 ≡ at = omega arith in rw (a, b) refl
 records-split (suc n) m at s =
@@ -72,3 +72,22 @@ records-join s t w =
 pub records-none : (s : List ℕ) → length s < 16 → recordsOf s ≡ []
 unfolding recordsFrom
 records-none s h = let e : length s / 16 ≡ 0 = omega arith in ap (recordsFrom s 0) e
+
+pub length-records : (s : List ℕ) (at n : ℕ) → length (recordsFrom s at n) ≡ n
+unfolding recordsFrom
+length-records s at zero = refl
+length-records s at (suc n) = ap suc (length-records s (at + 16) n)
+
+-- the records of a part are those that stand there in the whole
+pub records-slice : (s : List ℕ) (at k n : ℕ) → k ≡ n * 16 → at + k ≤ length s → recordsOf (take k (drop at s)) ≡ recordsFrom s at n
+records-slice s at k n e h =
+    let p = take at s in
+    let t = take k (drop at s) in
+    let q = drop k (drop at s) in
+    let room : k ≤ length (drop at s) = rw (length-drop at s) (omega arith) in
+    let long : length t ≡ k = length-take-le k (drop at s) room in
+    let z : length t / 16 ≡ n = omega arith in
+    let a : length p + 0 ≡ at = omega (arith, length-take-le at s (omega arith)) in
+    let whole : p ++ (t ++ q) ≡ s = ap (λ x. p ++ x) (take-append-drop k (drop at s)) ∙ take-append-drop at s in
+    ap (recordsFrom t 0) z ∙ sym (records-first n 0 t q (omega arith)) ∙ sym (records-second n 0 p (t ++ q))
+    ∙ ap₂ (λ x y. recordsFrom x y n) whole a
