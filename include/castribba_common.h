@@ -1,10 +1,11 @@
 /* castribba_common.h: what castribba.h and loader.h share. Include one of those, or both.
  *
  * What holds for every call:
- * - It is total: it takes buffers of every length and content, and ends. It keeps no state, needs no
- *   set-up, and is reentrant: threads may call it at once, each with an output of its own.
- * - Buffers may lie at any address, aligned or not. An output must not overlap an input. A pointer may
- *   be null where its length is 0.
+ * - It is total: it takes buffers of every length and content, and ends. It keeps no state (what comes in
+ *   pieces is kept in memory that the caller lends), needs no set-up, and is reentrant: threads may call
+ *   it at once, each with an output, or a lent struct, of its own.
+ * - Buffers may lie at any address, aligned or not. An output, or a lent struct, must not overlap anything
+ *   else that the call is given. A pointer may be null where its length is 0.
  * - Images and reports are little-endian, whatever machine writes them. docs/FORMAT.md lays them out.
  * - The archives are for x86-64 under the System V convention: at a call the stack is aligned to 16
  *   bytes; SSE registers and the 128 bytes below the stack pointer (the red zone) are used. They need
@@ -28,13 +29,14 @@
 
 /* A call that answers a word packs a number and the length written into it:
  *     word = number * 2^32 + length
- * Number 0 is success; every other number comes with length 0 and changes no byte of any buffer.
+ * Number 0 is success; every other number comes with length 0 and changes no byte of any buffer, but for
+ * the mark by which castribba_pieces_end says in the reader that it has ended.
  * On success exactly `length` bytes at the start of `out` are written, and none behind them. */
 #define CASTRIBBA_NUMBER(word) ((uint32_t)((word) >> 32))
 #define CASTRIBBA_LENGTH(word) ((uint32_t)(word))
 
-/* The numbers. 13 and 15 to 18 are kept for calls to come: a program should expect numbers that it
- * does not know. */
+/* The numbers. 15 to 18 are kept for calls to come: a program should expect numbers that it does not
+ * know. */
 enum castribba_number {
     CASTRIBBA_DONE = 0,             /* done */
     CASTRIBBA_MALFORMED = 1,        /* an image has a bad length, kind, unused field, order or counter */
@@ -49,6 +51,7 @@ enum castribba_number {
     CASTRIBBA_SHORT_BUFFER = 10,    /* the output buffer is shorter than the answer */
     CASTRIBBA_GAP = 11,             /* validate_op: counters of the actor are missing before this update */
     CASTRIBBA_DOUBLE_SPENT = 12,    /* validate_merge: the maps hold one dot under different keys */
+    CASTRIBBA_ENDED = 13,           /* the calls on pieces: the reader has ended, or was not begun */
     CASTRIBBA_NO_BAY = 14           /* the loader's calls: there is no such bay */
 };
 

@@ -31,6 +31,8 @@ const char *castribba_number_text(uint32_t number)
         return "updates of this actor are missing before this one";
     case CASTRIBBA_DOUBLE_SPENT:
         return "the maps hold one dot under different keys";
+    case CASTRIBBA_ENDED:
+        return "the reader of pieces has ended, or was not begun";
     case CASTRIBBA_NO_BAY:
         return "there is no such bay";
     default:

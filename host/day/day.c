@@ -14,6 +14,7 @@
 
 enum { CONTROLLER = 1, DRIVE_A = 2, DRIVE_B = 3 }; /* actors */
 enum { BAY_5 = 5, BAY_6 = 6 };                     /* keys */
+enum { MAILBOX = 64 };                             /* bytes that it moves at once */
 
 typedef struct map {
     uint8_t bytes[CASTRIBBA_LONGEST_MAP];
@@ -147,6 +148,24 @@ static void merge(map *into, const map *other)
 {
     replace(into, castribba_merge(into->bytes, into->len, other->bytes, other->len, fresh.bytes,
                                   sizeof fresh.bytes), &fresh);
+}
+
+/* A map through the mailbox: the receiver has no room for an image on its way, and reads it piece by
+ * piece. */
+static void send_map(const char *sender, const map *from, map *to)
+{
+    static castribba_pieces reader;
+    int pieces = 0;
+    castribba_pieces_begin(&reader);
+    for (size_t place = 0; place < from->len; place += MAILBOX, pieces++) {
+        size_t len = from->len - place < MAILBOX ? from->len - place : MAILBOX;
+        check(castribba_pieces_take(&reader, from->bytes + place, len) == 0, "a piece was not taken");
+    }
+    replace(to, castribba_pieces_end(&reader, fresh.bytes, sizeof fresh.bytes), &fresh);
+    check(same(from, to), "another map arrived than was sent");
+    check(castribba_pieces_take(&reader, from->bytes, MAILBOX) == (uint64_t)CASTRIBBA_ENDED << 32,
+          "a piece was taken after the end");
+    printf("  %-10s sends %zu bytes, in %d pieces of at most %d\n", sender, to->len, pieces, MAILBOX);
 }
 
 static void reset(map *m, const uint8_t *clock, size_t clock_length)
@@ -298,20 +317,24 @@ static void removal_comes_first(void)
 static void plugged_back_in(void)
 {
     static operation by_controller, by_b;
-    static map one_way, other_way;
+    static map one_way, other_way, from_b, from_controller;
     begin("10. Drive B is out. The controller picks 45 for bay 5, drive B 62 for bay 6.");
     pick(&controller, CONTROLLER, BAY_5, 45, &by_controller);
     deliver(&drive_a, &by_controller);
     pick(&drive_b, DRIVE_B, BAY_6, 62, &by_b);
     show_all();
 
-    begin("11. Drive B is plugged back in: whole maps are merged, both ways with one result.");
-    check(castribba_validate_merge(controller.bytes, controller.len, drive_b.bytes,
-                                   drive_b.len) == 0, "the merge was to be valid");
+    begin("11. Drive B is plugged back in: its map and the controller's cross by mailbox, in pieces.");
+    send_map("drive B", &drive_b, &from_b);
+    send_map("controller", &controller, &from_controller);
+
+    begin("12. The whole maps are merged, both ways with one result.");
+    check(castribba_validate_merge(controller.bytes, controller.len, from_b.bytes, from_b.len) == 0,
+          "the merge was to be valid");
     one_way = controller;
-    merge(&one_way, &drive_b);
+    merge(&one_way, &from_b);
     other_way = drive_b;
-    merge(&other_way, &controller);
+    merge(&other_way, &from_controller);
     check(same(&one_way, &other_way), "the two ways differ");
     controller = drive_b = one_way;
     deliver(&drive_a, &by_b);
@@ -326,7 +349,7 @@ static void plugged_back_in(void)
 static void loader_reads(void)
 {
     static map bay;
-    begin("12. The boot loader reads: bay 5 alone, and how many bays are set.");
+    begin("13. The boot loader reads: bay 5 alone, and how many bays are set.");
     uint64_t word = castribba_get(drive_a.bytes, drive_a.len, BAY_5, bay.bytes, sizeof bay.bytes);
     check(CASTRIBBA_NUMBER(word) == 0, "the loader was refused");
     bay.len = CASTRIBBA_LENGTH(word);
@@ -357,14 +380,14 @@ static void show_order(const map *m, const operation *op, int next)
 static void gap_is_caught(void)
 {
     static operation lost, arrived;
-    begin("13. The controller picks 46 for bay 5, then 64 for bay 6; the mailbox loses the first.");
+    begin("14. The controller picks 46 for bay 5, then 64 for bay 6; the mailbox loses the first.");
     pick(&controller, CONTROLLER, BAY_5, 46, &lost);
     pick(&controller, CONTROLLER, BAY_6, 64, &arrived);
     show_order(&drive_a, &arrived, 0);
     show_gap(&drive_a, &arrived);
     show("drive A", &drive_a);
 
-    begin("14. It is sent again. validate_op asks bay 6 too, where the controller was never seen.");
+    begin("15. It is sent again. validate_op asks bay 6 too, where the controller was never seen.");
     deliver(&drive_a, &lost);
     show_order(&drive_a, &arrived, 1);
     show_gap(&drive_a, &arrived);
@@ -379,7 +402,7 @@ static void handed_on(void)
 {
     static operation newer;
     static map seen;
-    begin("15. The sled is handed on: what the console has seen is reset, what is newer stays.");
+    begin("16. The sled is handed on: what the console has seen is reset, what is newer stays.");
     seen = controller;
     pick(&drive_b, DRIVE_B, BAY_6, 63, &newer);
     reset(&controller, seen.bytes, clock_len(&seen));
@@ -394,7 +417,7 @@ static void handed_on(void)
 static void refusal(void)
 {
     enum { PAINT = 0xEE };
-    begin("16. The loader offers a buffer that is one byte too short: it is refused, unwritten.");
+    begin("17. The loader offers a buffer that is one byte too short: it is refused, unwritten.");
     memset(fresh.bytes, PAINT, sizeof fresh.bytes);
     uint64_t word = castribba_get(drive_b.bytes, drive_b.len, BAY_6, fresh.bytes, drive_b.len - 1);
     check(word == (uint64_t)CASTRIBBA_SHORT_BUFFER << 32, "the short buffer was not refused");

@@ -164,6 +164,9 @@ static int inputs_are_images(void)
 static const image *first, *second;
 static uint64_t word;
 static castribba_clock lent;
+#ifndef LOADER
+static castribba_pieces reader;
+#endif
 
 #define FIRST first->bytes, first->len
 #define SECOND second->bytes, second->len
@@ -204,7 +207,26 @@ CALL(validate_merge_counter, FIRST, SECOND)
 CALL(validate_merge_our_key, FIRST, SECOND)
 CALL(validate_merge_their_key, FIRST, SECOND)
 CALL(clock_advance, &lent, 3, 5)
+CALL(pieces_begin, &reader)
+CALL(pieces_take, &reader, FIRST)
+CALL(pieces_end, &reader, OUT)
 #endif
+
+/* What is lent to the calls, as it stands before each: a clock that grows, a reader that is open, or has
+ * taken the whole image where the end is what is run. */
+static void lend(void (*run)(void), int map)
+{
+    lent.len = (size_t)map;
+    for (int dot = 0; dot < MOST_DOTS; dot++)
+        lent.dots[dot] = (castribba_dot){.actor = (uint16_t)(2 * dot), .counter = 1};
+#ifndef LOADER
+    castribba_pieces_begin(&reader);
+    if (run == run_pieces_end)
+        castribba_pieces_take(&reader, FIRST);
+#else
+    (void)run;
+#endif
+}
 
 /* Running on the painted stack. */
 
@@ -243,9 +265,7 @@ static depths deepest(void (*run)(void), const image *seconds, int count)
         for (int other = 0; other < count; other++) {
             first = &maps[map];
             second = &seconds[other];
-            lent.len = (size_t)map;
-            for (int dot = 0; dot < MOST_DOTS; dot++)
-                lent.dots[dot] = (castribba_dot){.actor = (uint16_t)(2 * dot), .counter = 1};
+            lend(run, map);
             size_t used = used_by(run);
             if (map < ACCEPTED && (seconds != maps || other < ACCEPTED))
                 most.accepted = larger(most.accepted, used);
@@ -285,6 +305,9 @@ int main(void)
         {"castribba_validate_merge_our_key", run_validate_merge_our_key, maps, MAPS},
         {"castribba_validate_merge_their_key", run_validate_merge_their_key, maps, MAPS},
         {"castribba_clock_advance", run_clock_advance, clocks, 1},
+        {"castribba_pieces_begin", run_pieces_begin, clocks, 1},
+        {"castribba_pieces_take", run_pieces_take, clocks, 1},
+        {"castribba_pieces_end", run_pieces_end, clocks, 1},
 #endif
     };
     fill();

@@ -32,7 +32,7 @@ module _ (e : List Entry) where
   value-dots : length (flatFrom (entryRecords 4) 0 e) ≡ totalOf (λ x. totalOf (λ (v : Value). length (dotsOf (v .clock))) (valuesIn x)) e
   value-dots = length-flat _ (entryRecords 4) (λ i x. length-flat _ (valueRecords 4 (x .key)) (λ j v. length-map (dotsOf (v .clock)) _) 0 (valuesIn x)) 0 e
 
-  in-entries : length (flatFrom (entryRecords 2) 0 e) + (length (flatFrom (entryRecords 3) 0 e) + length (flatFrom (entryRecords 4) 0 e)) ≡ totalOf entrySize e
+  pub in-entries : length (flatFrom (entryRecords 2) 0 e) + (length (flatFrom (entryRecords 3) 0 e) + length (flatFrom (entryRecords 4) 0 e)) ≡ totalOf entrySize e
   in-entries =
       let p = total-sum (λ (x : Entry). totalOf (λ v. 1) (valuesIn x)) (λ x. totalOf (λ (v : Value). length (dotsOf (v .clock))) (valuesIn x)) e in
       let q = total-same _ (λ (x : Entry). totalOf valueSize (valuesIn x)) (λ x. total-sum (λ v. 1) (λ (v : Value). length (dotsOf (v .clock))) (valuesIn x)) e in

@@ -23,7 +23,7 @@ pub fn word(number: u8) -> u64
     number as u64 * 0x1_0000_0000
 }
 
-fn count_values(register: Register) -> usize
+pub fn count_values(register: Register) -> usize
     ensures { λ r. ⌜ (r ≡ totalOf valueSize (valuesOf register)) × (r ≤ 36) ⌝ }
 {
     let n = register.size();

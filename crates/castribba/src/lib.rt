@@ -4,11 +4,14 @@ ghost use mathlib.Core.List.{[]};
 ghost use Rattle.map.specs.Asking.{orderStart, orderEnd};
 ghost use Rattle.answers.specs.Answer.{Answered, wordOf, carriedOf};
 ghost use Rattle.advance.specs.Advancing.{advancedOf};
+ghost use Rattle.mailbox.specs.Machine.{begun, takeWord, takeIn};
+ghost use Rattle.delivery.specs.Delivery.{Ended};
 ghost use Rattle.castribba.specs.Calls.{applyAnswer, mergeAnswer, resetAnswer, updateAnswer, rmGetAnswer, rmReadCtxAnswer, getAnswer, lenAnswer, countOf, orderOf, orderAnswer, spentOf, spentAnswer, spentActor, spentCounter, spentOurs, spentTheirs};
 
 mod validating;
 
 use clock::Clock;
+use mailbox::READER;
 use map::Op;
 use map::Order;
 use map::ReadCtx;
@@ -231,4 +234,28 @@ pub extern "C" fn castribba_clock_advance(clock: &mut Clock, actor: u16, counter
     let a = advance::advance(was, actor, counter);
     *clock = a.clock;
     a.word
+}
+
+// A map's image that comes in pieces: the lent reader is open, and has taken nothing.
+#[no_mangle]
+pub extern "C" fn castribba_pieces_begin(reader: &mut [u8; READER]) -> u64
+    ensures { λ r. ⌜ (r ≡ 0) × (now (reader .exit) ≡ begun (now (reader .entry))) ⌝ }
+{
+    mailbox::begin(reader)
+}
+
+// One piece more.
+#[no_mangle]
+pub extern "C" fn castribba_pieces_take(reader: &mut [u8; READER], piece: &[u8]) -> u64
+    ensures { λ r. ⌜ (r ≡ takeWord (now (reader .entry))) × (now (reader .exit) ≡ takeIn (now (reader .entry)) (now (piece .entry))) ⌝ }
+{
+    mailbox::take(reader, piece)
+}
+
+// The image has ended: what it is answered with as a whole, and the map's image.
+#[no_mangle]
+pub extern "C" fn castribba_pieces_end(reader: &mut [u8; READER], out: &mut [u8]) -> u64
+    ensures { λ r. ⌜ Ended (now (reader .entry)) (now (out .entry)) (now (reader .exit)) (now (out .exit)) r ⌝ }
+{
+    delivery::end(reader, out)
 }

@@ -24,7 +24,7 @@ use register::Value;
 pub const MAP_LONGEST: usize = 14464;
 
 // Above every number of a waiting key.
-const NO_KEY: u64 = 0x100_0000_0000;
+pub const NO_KEY: u64 = 0x100_0000_0000;
 
 fn write_value(out: &mut [u8], at: usize, kind: u8, key: u32, index: u8, v: Value) -> usize
     requires { ⌜ at + length (valueRecords kind key index v) * 16 ≤ length (now out) ⌝ }
@@ -60,7 +60,7 @@ fn write_values(out: &mut [u8], at: usize, kind: u8, key: u32, register: Registe
     next
 }
 
-fn write_entry(out: &mut [u8], at: usize, kind: u8, e: Entry) -> usize
+pub fn write_entry(out: &mut [u8], at: usize, kind: u8, e: Entry) -> usize
     requires { ⌜ at + length (entryRecords kind 0 e) * 16 ≤ length (now out) ⌝ }
     ensures { λ next. ⌜ Wrote at (bytesOf (entryRecords kind 0 e)) (now (out .entry)) (now (out .exit)) next ⌝ }
 {
@@ -105,13 +105,14 @@ fn write_waiting(out: &mut [u8], at: usize, waiting: Waiting) -> usize
 }
 
 // A waiting key and its index as one number.
-fn number(index: u8, k: u32) -> u64
+pub fn key_number(index: u8, k: u32) -> u64
     ensures { λ r. ⌜ (r ≡ keyNumber index k) × (r < 2 ^ 40) ⌝ }
 {
     k as u64 * 256 + index as u64
 }
 
-fn lesser(low: u64, m: u64, x: u64) -> u64
+// The lesser of a number from `low` on and the least so far.
+pub fn lesser(low: u64, m: u64, x: u64) -> u64
     ensures { λ r. ⌜ r ≡ lesser low m x ⌝ }
 {
     if (low <= x) & (x < m) { x } else { m }
@@ -128,7 +129,7 @@ fn least_in(removal: Removal, index: u8, low: u64, m: u64) -> u64
     while i < n {
         let k = keys.items[i];
         i += 1;
-        best = lesser(low, best, number(index, k));
+        best = lesser(low, best, key_number(index, k));
     }
     best
 }

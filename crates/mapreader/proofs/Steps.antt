@@ -43,7 +43,7 @@ use Rattle.maprecords.proofs.Counts.{by-records, kinds-ascend, keys-counted, en
 use Rattle.maprecords.proofs.Finding.{same-length, in-entries, entry-at, key-known, entries-changed, fits-at, fits-none}
 
 -- a new entry behind the last
-entries-new : (l : List Record) (r : Record) → scanNumber 1 6 (l ++ (r ∷ [])) ≡ 0 → r .kind ≡ 2 → some (λ x. eqb x (r .key)) (entryKeys l) ≡ false
+pub entries-new : (l : List Record) (r : Record) → scanNumber 1 6 (l ++ (r ∷ [])) ≡ 0 → r .kind ≡ 2 → some (λ x. eqb x (r .key)) (entryKeys l) ≡ false
     → entriesFor l ++ (entryAs (r .key) (dotOf r ∷ []) [] ∷ []) ≡ entriesFor (l ++ (r ∷ []))
 unfolding placesFrom
 entries-new l r z k f =

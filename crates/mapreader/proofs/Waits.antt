@@ -192,7 +192,7 @@ module _ (l : List Record) (r : Record) where
     removal-at : getD (waitingFor l) (r .index) noRemoval ≡ removalIn l (r .index)
     removal-at = get-map (removalIn l) (below (waitingCount l)) (r .index) noRemoval in-below ∙ ap (removalIn l) its-place
 
-members-below : (n x : ℕ) → x ∈ below n → x < n
+pub members-below : (n x : ℕ) → x ∈ below n → x < n
 unfolding below
 members-below zero x i = absurd (List·Memᴰ·not-nil i)
 members-below (suc n) x i = ⊎-elim (λ j. let h = members-below n x j in omega arith) (λ j. let q : x ≡ n = List·Memᴰ·eq-of-singleton j in omega arith) (List·Memᴰ·append-cases (below n) i)

@@ -35,7 +35,7 @@ fn dotted(register: Register) -> bool
     true
 }
 
-fn entry_whole(clock: Clock, e: Entry) -> bool
+pub fn entry_whole(clock: Clock, e: Entry) -> bool
     ensures { λ b. ⌜ b ≡ entryWhole (dotsOf clock) e ⌝ }
 {
     let own = e.clock;

@@ -23,14 +23,14 @@ fn wide(x: u8) -> u16
     x as u16
 }
 
-fn read16(s: &[u8], at: usize) -> u16
+pub fn read16(s: &[u8], at: usize) -> u16
     requires { ⌜ at + 2 ≤ length (now s) ⌝ }
     ensures { λ r. ⌜ r ≡ numAt 1 at (now (s .entry)) ⌝ }
 {
     wide(s[at]) + 256 * wide(s[at + 1])
 }
 
-fn read32(s: &[u8], at: usize) -> u32
+pub fn read32(s: &[u8], at: usize) -> u32
     requires { ⌜ at + 4 ≤ length (now s) ⌝ }
     ensures { λ r. ⌜ r ≡ numAt 2 at (now (s .entry)) ⌝ }
 {
@@ -39,7 +39,7 @@ fn read32(s: &[u8], at: usize) -> u32
     (low as u32) + 65536 * (high as u32)
 }
 
-fn read64(s: &[u8], at: usize) -> u64
+pub fn read64(s: &[u8], at: usize) -> u64
     requires { ⌜ at + 8 ≤ length (now s) ⌝ }
     ensures { λ r. ⌜ r ≡ numAt 3 at (now (s .entry)) ⌝ }
 {
@@ -73,7 +73,7 @@ pub fn put8(out: &mut [u8], at: usize, x: u8)
     out[at] = x;
 }
 
-fn put16(out: &mut [u8], at: usize, x: u16)
+pub fn put16(out: &mut [u8], at: usize, x: u16)
     requires { ⌜ at + 2 ≤ length (now out) ⌝ }
     ensures { λ _. ⌜ now (out .exit) ≡ placed at (numBytes 1 x) (now (out .entry)) ⌝ }
 {
@@ -81,7 +81,7 @@ fn put16(out: &mut [u8], at: usize, x: u16)
     put8(out, at + 1, (x / 256) as u8);
 }
 
-fn put32(out: &mut [u8], at: usize, x: u32)
+pub fn put32(out: &mut [u8], at: usize, x: u32)
     requires { ⌜ at + 4 ≤ length (now out) ⌝ }
     ensures { λ _. ⌜ now (out .exit) ≡ placed at (numBytes 2 x) (now (out .entry)) ⌝ }
 {

@@ -1,7 +1,7 @@
 -- A scan keeps what it holds, through a record that follows the last.
 -- Assumes nothing.
 use mathlib.Core.Path.{_≡_, refl, ap, sym, _∙_}
-use mathlib.Core.Bool.{Bool, true, false, not, cond, _&&_}
+use mathlib.Core.Bool.{Bool, true, false, cond, _&&_}
 use mathlib.Core.Logic.{_⊎_, inl, inr, ⊎-elim}
 use mathlib.Core.List.{List, [], _∷_, _++_, List·Memᴰ·head, List·Memᴰ·not-nil, List·Memᴰ·append-cases, List·Memᴰ·eq-of-singleton, Memᴰ·append-right}
 use Prim.Native.Nat.{ℕ, zero, suc, _+_, _≤_, _<_}
@@ -17,19 +17,25 @@ use Rattle.records.specs.declared.Record.{Record}
 use Rattle.records.specs.Kinds.{before, recordOk, fieldsOk, counterOk, fieldOk, maskOf}
 use Rattle.scan.specs.Each.{every, eachAfter, countAfter}
 use Rattle.scan.specs.Formed.{follows, wellFormed}
-use Rattle.scan.specs.Limits.{outer, middle, inner, outerLimits, middleLimits, innerLimits, limitAt, sameKind, sameOuter, sameMiddle, tally, within, room, tallyOn, withinLimits}
-use Rattle.scan.specs.Scanned.{scanNumber, Ends, Tallied, Scanned, CountsUnder, Under, byKey, byIndex, judged, countedOn}
+use Rattle.scan.specs.Limits.{outer, middle, inner, outerLimits, middleLimits, innerLimits, limitAt, sameKind, sameOuter, sameMiddle, tally, within, room, tallyOn, tallyTo, withinLimits}
+use Rattle.scan.specs.Scanned.{scanNumber, Ends, Tallied, Scanned, CountsUnder, Under, byKey, byIndex, judged, countedOn, behindLast, scanOn}
 use Rattle.scan.specs.declared.Scan.{Scan}
 use Rattle.scan.proofs.Eachs.{both-left, both-right, both, decide, every-at, some-of, some-none}
 use Rattle.scan.proofs.Befores.{Before, before-fields}
 use Rattle.scan.proofs.Tallies.{tally-step, tally-new, tally-other, tally-some, tally-none}
-use Rattle.scan.proofs.Scans.{formed-snoc, within-snoc, outer-on, middle-on, inner-on, last-outer, last-middle, some-by-last}
+use Rattle.scan.proofs.Scans.{formed-snoc, within-snoc, outer-on, middle-on, inner-on, last-outer, last-middle, some-by-last, follows-last}
 
 -- each count of the record's own groups
 record Counts (l : List Record) (r : Record) (s : Scan) : Type 0 where
   pub by-outer : s .outer ≡ tally (sameKind r) outer (l ++ (r ∷ []))
   pub by-middle : s .middle ≡ tally (sameOuter r) middle (l ++ (r ∷ []))
   pub by-inner : s .inner ≡ tally (sameMiddle r) inner (l ++ (r ∷ []))
+
+-- a count that is small does not stand still
+to-on : (n : ℕ) (group same : Bool) → n ≤ 255 → tallyTo n group same ≡ tallyOn n group same
+to-on n false same h = refl
+to-on n true false h = rw (lt-ltb n 256 (omega arith))
+to-on n true true h = refl
 
 -- a list that is empty has no members
 nothing : {l : List Record} → l ≡ [] → {B : Type 0} (s : Record) → s ∈ l → B
@@ -84,9 +90,9 @@ module _ (low high : ℕ) (l : List Record) (r : Record) (w : wellFormed low hig
       let upto = up-to pre q (e .1 .1) in
       let behind = all-before q last in
       record {
-        by-outer = rw (e .0, last-outer q r plain) (outer-on l q r last upto behind (s .outer) (sameOuter r q) (t .by-outer) (found q last upto behind));
-        by-middle = rw (e .0, last-middle q r plain, last-outer q r plain) (middle-on l q r last upto behind (s .middle) plain (t .by-middle));
-        by-inner = rw (e .0, last-middle q r plain) (inner-on l q r last upto behind (s .inner) plain all-before (t .by-inner));
+        by-outer = rw (e .0, last-outer q r plain, to-on (s .outer) _ _ (t .small .0)) (outer-on l q r last upto behind (s .outer) (sameOuter r q) (t .by-outer) (found q last upto behind));
+        by-middle = rw (e .0, last-middle q r plain, last-outer q r plain, to-on (s .middle) _ _ (t .small .1 .0)) (middle-on l q r last upto behind (s .middle) plain (t .by-middle));
+        by-inner = rw (e .0, last-middle q r plain, to-on (s .inner) _ _ (t .small .1 .1)) (inner-on l q r last upto behind (s .inner) plain all-before (t .by-inner));
       }
     where
       found : (q : Record) → q ∈ l → ((s : Record) → s ∈ l → (s ≡ q) ⊎ Before s q) → Before q r → some (sameOuter r) l ≡ sameOuter r q
@@ -129,16 +135,16 @@ module _ (low high : ℕ) (l : List Record) (r : Record) (w : wellFormed low hig
             (λ y. y ∙ sym (lt-ltb 0 n (rw u (tally-some (sameOuter r) middle l y))))
             (λ z. z ∙ sym (le-ltb 0 n (rw (u, tally-none (sameOuter r) middle l (λ x i. decide (sameOuter r x) (λ y. apart (sym (some-of (sameOuter r) l x i y) ∙ z)) (λ a. a))) (omega arith))))
 
-        first : (s .any ≡ false) × (l ≡ []) → tallyOn (s .outer) (s .any && eqb (s .last .kind) (r .kind)) (ltb 0 n) ≡ tally (sameKind r) outer (l ++ (r ∷ []))
+        first : (s .any ≡ false) × (l ≡ []) → tallyTo (s .outer) (s .any && eqb (s .last .kind) (r .kind)) (ltb 0 n) ≡ tally (sameKind r) outer (l ++ (r ∷ []))
         first e = rw (e .0) (tally-step (sameKind r) outer l r (s .outer) false false (itself r) (λ _ x i. nothing (e .1) x i) (λ b. apart (sym b)))
 
-        further : (s .any ≡ true) × ((pre : List Record) × (l ≡ pre ++ (s .last ∷ []))) → tallyOn (s .outer) (s .any && eqb (s .last .kind) (r .kind)) (ltb 0 n) ≡ tally (sameKind r) outer (l ++ (r ∷ []))
+        further : (s .any ≡ true) × ((pre : List Record) × (l ≡ pre ++ (s .last ∷ []))) → tallyTo (s .outer) (s .any && eqb (s .last .kind) (r .kind)) (ltb 0 n) ≡ tally (sameKind r) outer (l ++ (r ∷ []))
         further e =
             let q = s .last in
             let pre = e .1 .0 in
             let last = in-last pre q (e .1 .1) in
             let upto = up-to pre q (e .1 .1) in
-            rw (e .0) (outer-on l q r last upto (all-before q last) (s .outer) (ltb 0 n) (t .by-outer) held)
+            rw (e .0, to-on (s .outer) (sameKind r q) (ltb 0 n) (t .small .0)) (outer-on l q r last upto (all-before q last) (s .outer) (ltb 0 n) (t .by-outer) held)
 
 -- a table all of whose rows are small
 small-rows : (limits : List ℕ) → every (λ x. leb x 255) limits ≡ true → (kind : ℕ) → limitAt limits kind ≤ 255
@@ -228,7 +234,7 @@ module _ (low high : ℕ) (l : List Record) (r : Record) where
   still-over w f i = rw (formed-snoc low high l r, w, f, within-snoc l r, i)
 
   -- after a record that follows
-  pub scanned-on : (s : Scan) (n : ℕ) → Scanned low high l s → (s .number ≡ 0 → CountsUnder low high l r n) → (s .number ≡ 1 → ⊥) → follows low high l r ≡ true → Scanned low high (l ++ (r ∷ [])) (countedOn s r n)
+  scanned-on : (s : Scan) (n : ℕ) → Scanned low high l s → (s .number ≡ 0 → CountsUnder low high l r n) → (s .number ≡ 1 → ⊥) → follows low high l r ≡ true → Scanned low high (l ++ (r ∷ [])) (countedOn s r n)
   scanned-on s c sc u n f =
       said low high l
       (λ w i z. let e = sc .number ∙ z in
@@ -245,7 +251,7 @@ module _ (low high : ℕ) (l : List Record) (r : Record) where
       (λ w z. absurd (n (sc .number ∙ z)))
 
   -- once bad, bad to the end
-  pub scanned-bad : (s : Scan) → (wellFormed low high l && follows low high l r) ≡ false → s .number ≡ 1 → Scanned low high (l ++ (r ∷ [])) s
+  scanned-bad : (s : Scan) → (wellFormed low high l && follows low high l r) ≡ false → s .number ≡ 1 → Scanned low high (l ++ (r ∷ [])) s
   unfolding scanNumber
   scanned-bad s f e = record {
     number = e ∙ rw (formed-snoc low high l r, f);
@@ -254,12 +260,25 @@ module _ (low high : ℕ) (l : List Record) (r : Record) where
   }
 
 -- a scan whose number is not 1 has met well-formed records, and one whose number is 1 has not
-pub well-formed : (low high : ℕ) (l : List Record) (s : Scan) → Scanned low high l s → (s .number ≡ 1 → ⊥) → wellFormed low high l ≡ true
+well-formed : (low high : ℕ) (l : List Record) (s : Scan) → Scanned low high l s → (s .number ≡ 1 → ⊥) → wellFormed low high l ≡ true
 well-formed low high l s sc n = said low high l (λ w i z. w) (λ w i z. w) (λ w z. absurd (n (sc .number ∙ z)))
 
-pub ill-formed : (low high : ℕ) (l : List Record) (s : Scan) → Scanned low high l s → s .number ≡ 1 → wellFormed low high l ≡ false
+ill-formed : (low high : ℕ) (l : List Record) (s : Scan) → Scanned low high l s → s .number ≡ 1 → wellFormed low high l ≡ false
 ill-formed low high l s sc n =
     said low high l (λ w i z. let e = sc .number ∙ z in absurd (omega arith)) (λ w i z. let e = sc .number ∙ z in absurd (omega arith)) (λ w z. w)
+
+-- after one record more
+pub scanned-more : (low high : ℕ) (l : List Record) (r : Record) (n : ℕ) (s : Scan) → Scanned low high l s → (s .number ≡ 0 → CountsUnder low high l r n) → Scanned low high (l ++ (r ∷ [])) (scanOn low high s r n)
+unfolding scanOn
+scanned-more low high l r n s sc u =
+    decide (eqb (s .number) 1)
+    (λ t. let e = eqb-true (s .number) 1 t in rw t (scanned-bad low high l r s (rw (ill-formed low high l s sc e)) e))
+    (λ t. let e = eqb-false (s .number) 1 t in
+    let w = well-formed low high l s sc e in
+    let same = follows-last low high l (s .any) (s .last) r w (sc .ends w) in
+    decide (behindLast low high s r)
+    (λ b. rw (t, b) (scanned-on low high l r s n sc u e (sym same ∙ b)))
+    (λ b. rw (t, b) (scanned-bad low high l r _ (rw w (sym same ∙ b)) refl)))
 
 -- nothing scanned yet
 pub scanned-none : (low high : ℕ) (q : Record) → Scanned low high [] (record { number = 0; any = false; last = q; outer = 0; middle = 0; inner = 0 })

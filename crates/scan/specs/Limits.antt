@@ -3,7 +3,7 @@
 use Prim.Native.Nat.{ℕ, _+_}
 use mathlib.Core.Bool.{Bool, true, false, not, cond, _&&_}
 use mathlib.Core.List.{List, [], _∷_, _++_}
-use lib.Dec.{eqb, leb}
+use lib.Dec.{eqb, ltb, leb}
 use lib.ListN.{getD}
 use Rattle.lists.specs.First.{some}
 use Rattle.clock.specs.Dots.{dotLimit}
@@ -71,3 +71,9 @@ abbrev pub tallyOn : ℕ → Bool → Bool → ℕ
 tallyOn n false same = 1
 tallyOn n true false = n + 1
 tallyOn n true true = n
+
+-- the same as a scan counts: at 256, which is over every limit, it stands still
+abbrev pub tallyTo : ℕ → Bool → Bool → ℕ
+tallyTo n false same = 1
+tallyTo n true false = cond (ltb n 256) (n + 1) n
+tallyTo n true true = n

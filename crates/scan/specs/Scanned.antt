@@ -3,14 +3,14 @@
 use mathlib.Core.Path.{_≡_}
 use mathlib.Core.Logic.{_⊎_}
 use Prim.Native.Nat.{ℕ, _+_, _≤_}
-use mathlib.Core.Bool.{Bool, true, false, not, cond, _&&_}
+use mathlib.Core.Bool.{Bool, true, false, not, cond, _&&_, _||_}
 use mathlib.Core.List.{List, [], _∷_, _++_}
 use lib.Dec.{eqb, ltb}
 use lib.ListN.{getD}
 use Rattle.records.specs.declared.Record.{Record}
-use Rattle.records.specs.Kinds.{recordOk}
+use Rattle.records.specs.Kinds.{recordOk, before}
 use Rattle.scan.specs.Formed.{wellFormed}
-use Rattle.scan.specs.Limits.{outer, middle, inner, sameKind, sameOuter, sameMiddle, tally, within, tallyOn, withinLimits}
+use Rattle.scan.specs.Limits.{outer, middle, inner, sameKind, sameOuter, sameMiddle, tally, within, tallyTo, withinLimits}
 use Rattle.scan.specs.declared.Scan.{Scan}
 
 -- 1 where the records are not well formed, else 2 where they are over a limit
@@ -50,9 +50,9 @@ byKey s r =
       number = s .number;
       any = s .any;
       last = s .last;
-      outer = tallyOn (s .outer) kind key;
-      middle = tallyOn (s .middle) key index;
-      inner = tallyOn (s .inner) index false;
+      outer = tallyTo (s .outer) kind key;
+      middle = tallyTo (s .middle) key index;
+      inner = tallyTo (s .inner) index false;
     }
 
 -- the same for a waiting key, whose index has n
@@ -62,7 +62,7 @@ byIndex s r n =
       number = s .number;
       any = s .any;
       last = s .last;
-      outer = tallyOn (s .outer) (s .any && eqb (s .last .kind) (r .kind)) (ltb 0 n);
+      outer = tallyTo (s .outer) (s .any && eqb (s .last .kind) (r .kind)) (ltb 0 n);
       middle = n + 1;
       inner = 1;
     }
@@ -83,3 +83,14 @@ countedOn s r n =
     cond (eqb (s .number) 0)
     (judged (cond (eqb (r .kind) 6) (byIndex s r n) (byKey s r)) r)
     (record { number = s .number; any = true; last = r; outer = s .outer; middle = s .middle; inner = s .inner })
+
+-- good by itself, and behind the last
+abbrev pub behindLast : ℕ → ℕ → Scan → Record → Bool
+behindLast low high s r = recordOk low high r && (not (s .any) || before (s .last) r)
+
+-- a scan with one record more, for every scan; where the record is a waiting key, n stand under its index
+unfoldable pub scanOn : ℕ → ℕ → Scan → Record → ℕ → Scan
+scanOn low high s r n =
+    cond (eqb (s .number) 1) s
+    (cond (behindLast low high s r) (countedOn s r n)
+    (record { number = 1; any = s .any; last = s .last; outer = s .outer; middle = s .middle; inner = s .inner }))

@@ -1,13 +1,12 @@
 // What the records of an image show one after the other, before any is given a meaning: bad order (1), an excess (2).
 ghost use mathlib.Core.Path.{_≡_};
 ghost use mathlib.Core.List.{List, [], _∷_, _++_};
-ghost use mathlib.Core.Bool.{true, cond};
+ghost use mathlib.Core.Bool.{cond};
 ghost use lib.Dec.{eqb};
-ghost use Prim.Native.Nat.{ℕ, _≤_};
+ghost use Prim.Native.Nat.{ℕ};
 ghost use Rattle.records.specs.declared.Record.{Record};
-ghost use Rattle.scan.specs.Limits.{limitAt, tallyOn, withinLimits};
-ghost use Rattle.scan.specs.Formed.{wellFormed, follows};
-ghost use Rattle.scan.specs.Scanned.{Scanned, Tallied, CountsUnder, Ends, byKey, byIndex, judged, countedOn};
+ghost use Rattle.scan.specs.Limits.{limitAt, tallyTo, withinLimits};
+ghost use Rattle.scan.specs.Scanned.{Scanned, CountsUnder, byKey, byIndex, judged, countedOn, behindLast, scanOn};
 use records::Record;
 
 // By kind, from kind 0, which is none: the most distinct things of each level.
@@ -26,9 +25,9 @@ pub struct Scan {
     pub inner: usize,
 }
 
-// A count after one more record: of another group, of the same group and thing, or of the same group and another thing.
+// A count after one more record: of another group, of the same group and thing, or of the same group and another thing. It stops at 256.
 fn tally(n: usize, group: bool, same: bool) -> usize
-    ensures { λ r. ⌜ (n ≤ 255 → r ≡ tallyOn n group same) ⌝ }
+    ensures { λ r. ⌜ r ≡ tallyTo n group same ⌝ }
 {
     if !group {
         return 1;
@@ -79,7 +78,7 @@ impl Scan {
 
     // Whether a record is good by itself and stands behind the last.
     fn follows(self, low: u8, high: u8, r: Record) -> bool
-        ensures { λ b. ⌜ ((l : List Record) → wellFormed low high l ≡ true → Ends l (self .any) (self .last) → b ≡ follows low high l r) ⌝ }
+        ensures { λ b. ⌜ b ≡ behindLast low high self r ⌝ }
     {
         let ok = records::record_ok(low, high, r);
         ok & (!self.any | records::before(self.last, r))
@@ -87,7 +86,7 @@ impl Scan {
 
     // The counts with a record that is no waiting key.
     fn by_key(self, r: Record) -> Scan
-        ensures { λ s. ⌜ ((self .outer ≤ 255) × ((self .middle ≤ 255) × (self .inner ≤ 255)) → s ≡ byKey self r) ⌝ }
+        ensures { λ s. ⌜ s ≡ byKey self r ⌝ }
     {
         let last = self.last;
         let kind = self.any & (last.kind == r.kind);
@@ -102,7 +101,7 @@ impl Scan {
 
     // The counts with a waiting key, whose index has n.
     fn by_index(self, r: Record, n: u8) -> Scan
-        ensures { λ s. ⌜ (self .outer ≤ 255 → s ≡ byIndex self r n) ⌝ }
+        ensures { λ s. ⌜ s ≡ byIndex self r n ⌝ }
     {
         let last = self.last;
         let kind = self.any & (last.kind == r.kind);
@@ -115,7 +114,7 @@ impl Scan {
 
     // The counts with a record.
     fn tallied(self, r: Record, n: u8) -> Scan
-        ensures { λ s. ⌜ ((l : List Record) → Tallied l self → s ≡ cond (eqb (r .kind) 6) (byIndex self r n) (byKey self r)) ⌝ }
+        ensures { λ s. ⌜ s ≡ cond (eqb (r .kind) 6) (byIndex self r n) (byKey self r) ⌝ }
     {
         if r.kind == 6 {
             self.by_index(r, n)
@@ -140,7 +139,7 @@ impl Scan {
 
     // The scan with a record that follows the last.
     fn counted(self, r: Record, n: u8) -> Scan
-        ensures { λ s. ⌜ ((l : List Record) → (self .number ≡ 0 → Tallied l self) → s ≡ countedOn self r n) ⌝ }
+        ensures { λ s. ⌜ s ≡ countedOn self r n ⌝ }
     {
         if self.number == 0 {
             return self.tallied(r, n).judged(r);
@@ -152,8 +151,8 @@ impl Scan {
     }
 
     // One record more; where it is a waiting key, n stand under its index so far: they are not side by side, and whoever reads them counts them.
-    pub fn take(self, low: u8, high: u8, r: Record, n: u8) -> Scan
-        ensures { λ s. ⌜ ((l : List Record) → Scanned low high l self → (self .number ≡ 0 → CountsUnder low high l r n) → Scanned low high (l ++ (r ∷ [])) s) ⌝ }
+    pub fn next(self, low: u8, high: u8, r: Record, n: u8) -> Scan
+        ensures { λ s. ⌜ s ≡ scanOn low high self r n ⌝ }
     {
         if self.number == 1 {
             return self;
@@ -164,5 +163,11 @@ impl Scan {
         let mut bad = self;
         bad.number = 1;
         bad
+    }
+    // The same, said of every list of records that the scan may have taken before.
+    pub fn take(self, low: u8, high: u8, r: Record, n: u8) -> Scan
+        ensures { λ s. ⌜ ((l : List Record) → Scanned low high l self → (self .number ≡ 0 → CountsUnder low high l r n) → Scanned low high (l ++ (r ∷ [])) s) ⌝ }
+    {
+        self.next(low, high, r, n)
     }
 }

@@ -24,8 +24,16 @@ pub enum Question {
     RmGet,
     RmReadCtx,
     Get,
-    ValidateOp { op: Vec<u8> },
-    ValidateMerge { other: Vec<u8> },
+    ValidateOp {
+        op: Vec<u8>,
+    },
+    ValidateMerge {
+        other: Vec<u8>,
+    },
+    /// The map's image comes in pieces, and is written at the end.
+    Pieces {
+        length: usize,
+    },
 }
 
 /// An entry of every full map, and an actor of its clock.
@@ -67,6 +75,14 @@ pub fn tasks() -> Vec<Task> {
         of_image(
             "read and write back: reset_remove by the empty clock",
             Work::ResetRemove { clock: none },
+        ),
+        of_image(
+            "read in pieces of 64 bytes and write back: pieces",
+            Work::Ask(Question::Pieces { length: 64 }),
+        ),
+        of_image(
+            "read in one piece and write back: pieces",
+            Work::Ask(Question::Pieces { length: LONGEST_MAP }),
         ),
         task("update", Work::Ask(Question::Update)),
         task("rm_get", Work::Ask(Question::RmGet)),

@@ -50,6 +50,7 @@ fn expected_answer(task: &Task) -> expected::Answer {
         Work::Ask(Question::Get) => expected::get(&task.map, KEY),
         Work::Ask(Question::ValidateOp { op }) => expected::validate_op(&task.map, op),
         Work::Ask(Question::ValidateMerge { other }) => expected::validate_merge(&task.map, other),
+        Work::Ask(Question::Pieces { .. }) => expected::delivered(&task.map),
     }
 }
 
@@ -66,11 +67,12 @@ struct ByteRuns<'a, C: Calls> {
     subject: &'a ByByte<C>,
     task: &'a Task,
     out: Vec<u8>,
+    reader: Vec<u8>,
     batch: usize,
 }
 
 impl<C: Calls> ByByte<C> {
-    fn once(&self, task: &Task, out: &mut [u8]) -> u64 {
+    fn once(&self, task: &Task, out: &mut [u8], reader: &mut [u8]) -> u64 {
         match &task.work {
             Work::Apply { op } => self.0.apply(&task.map, op, out),
             Work::Merge { other } => self.0.merge(&task.map, other, out),
@@ -82,6 +84,13 @@ impl<C: Calls> ByByte<C> {
             Work::Ask(Question::Get) => self.0.get(&task.map, KEY, out),
             Work::Ask(Question::ValidateOp { op }) => self.0.validate_op(&task.map, op),
             Work::Ask(Question::ValidateMerge { other }) => self.0.validate_merge(&task.map, other),
+            Work::Ask(Question::Pieces { length }) => {
+                self.0.pieces_begin(reader);
+                for piece in task.map.chunks(*length) {
+                    self.0.pieces_take(reader, piece);
+                }
+                self.0.pieces_end(reader, out)
+            }
         }
     }
 }
@@ -89,7 +98,7 @@ impl<C: Calls> ByByte<C> {
 impl<C: Calls> Prepared for ByteRuns<'_, C> {
     fn run(&mut self) {
         for _ in 0..self.batch {
-            black_box(self.subject.once(black_box(self.task), &mut self.out));
+            black_box(self.subject.once(black_box(self.task), &mut self.out, &mut self.reader));
         }
     }
 }
@@ -105,11 +114,12 @@ impl<C: Calls> Subject for ByByte<C> {
         true
     }
     fn prepare<'a>(&'a self, task: &'a Task, batch: usize) -> Box<dyn Prepared + 'a> {
-        Box::new(ByteRuns { subject: self, task, out: vec![0; LONGEST_MAP], batch })
+        let reader = vec![0; self.0.pieces_len()];
+        Box::new(ByteRuns { subject: self, task, out: vec![0; LONGEST_MAP], reader, batch })
     }
     fn check(&self, task: &Task) {
         let mut out = vec![0; LONGEST_MAP];
-        let word = self.once(task, &mut out);
+        let word = self.once(task, &mut out, &mut vec![0; self.0.pieces_len()]);
         let answer = expected_answer(task);
         assert_eq!((number_of(word), &out[..length_of(word)]), (answer.number, &answer.bytes[..]));
         if let Work::Len = task.work {

@@ -2,6 +2,7 @@
 
 use crate::{Calls, LentClock};
 use castribba::declared;
+use castribba::slices::LentPieces;
 
 pub struct Archive;
 
@@ -90,4 +91,25 @@ impl Calls for Archive {
         // SAFETY: a LentClock has the layout of castribba_clock.
         unsafe { declared::castribba_clock_advance(clock.cast(), actor, counter) }
     }
+    fn pieces_len(&self) -> usize {
+        castribba::PIECES
+    }
+    fn pieces_begin(&self, reader: &mut [u8]) -> u64 {
+        // SAFETY: `lent` has seen to the length.
+        unsafe { declared::castribba_pieces_begin(lent(reader)) }
+    }
+    fn pieces_take(&self, reader: &mut [u8], piece: &[u8]) -> u64 {
+        // SAFETY: `lent` has seen to the length, and the pointer goes with the slice's.
+        unsafe { declared::castribba_pieces_take(lent(reader), piece.as_ptr(), piece.len()) }
+    }
+    fn pieces_end(&self, reader: &mut [u8], out: &mut [u8]) -> u64 {
+        // SAFETY: as above.
+        unsafe { declared::castribba_pieces_end(lent(reader), out.as_mut_ptr(), out.len()) }
+    }
+}
+
+/// The bytes as castribba_pieces, which may lie anywhere.
+fn lent(reader: &mut [u8]) -> *mut LentPieces {
+    assert_eq!(reader.len(), castribba::PIECES);
+    reader.as_mut_ptr().cast()
 }

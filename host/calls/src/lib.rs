@@ -49,6 +49,12 @@ pub trait Calls {
     fn validate_merge_our_key(&self, map: &[u8], other: &[u8]) -> u64;
     fn validate_merge_their_key(&self, map: &[u8], other: &[u8]) -> u64;
     fn clock_advance(&self, clock: &mut LentClock, actor: u16, counter: u64) -> u64;
+
+    /// The bytes of a reader of pieces, which the three calls below are lent. The first is its mark.
+    fn pieces_len(&self) -> usize;
+    fn pieces_begin(&self, reader: &mut [u8]) -> u64;
+    fn pieces_take(&self, reader: &mut [u8], piece: &[u8]) -> u64;
+    fn pieces_end(&self, reader: &mut [u8], out: &mut [u8]) -> u64;
 }
 
 /// Document 01's number in a word.

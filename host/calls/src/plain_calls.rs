@@ -67,4 +67,20 @@ impl Calls for Plain {
         clock.len = own.len;
         word
     }
+    fn pieces_len(&self) -> usize {
+        plain::PIECES
+    }
+    fn pieces_begin(&self, reader: &mut [u8]) -> u64 {
+        plain::castribba_pieces_begin(lent(reader))
+    }
+    fn pieces_take(&self, reader: &mut [u8], piece: &[u8]) -> u64 {
+        plain::castribba_pieces_take(lent(reader), piece)
+    }
+    fn pieces_end(&self, reader: &mut [u8], out: &mut [u8]) -> u64 {
+        plain::castribba_pieces_end(lent(reader), out)
+    }
+}
+
+fn lent(reader: &mut [u8]) -> &mut [u8; plain::PIECES] {
+    reader.try_into().expect("a reader of pieces_len() bytes")
 }

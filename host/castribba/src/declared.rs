@@ -1,7 +1,7 @@
 //! castribba.h and loader.h, declared for Rust: what a pointer points to, and for how long, is the
 //! caller's to see to. [`slices`](crate::slices) and `loader` have the same calls, safe.
 
-use crate::slices::LentClock;
+use crate::slices::{LentClock, LentPieces};
 
 #[rustfmt::skip]
 extern "C" {
@@ -23,6 +23,9 @@ extern "C" {
     pub fn castribba_validate_merge_our_key(map: *const u8, map_len: usize, other: *const u8, other_len: usize) -> u64;
     pub fn castribba_validate_merge_their_key(map: *const u8, map_len: usize, other: *const u8, other_len: usize) -> u64;
     pub fn castribba_clock_advance(clock: *mut LentClock, actor: u16, counter: u64) -> u64;
+    pub fn castribba_pieces_begin(reader: *mut LentPieces) -> u64;
+    pub fn castribba_pieces_take(reader: *mut LentPieces, piece: *const u8, piece_len: usize) -> u64;
+    pub fn castribba_pieces_end(reader: *mut LentPieces, out: *mut u8, out_len: usize) -> u64;
 }
 
 #[cfg(feature = "loader")]

@@ -87,6 +87,13 @@ impl Map {
         Ok(Map(image.to_vec()))
     }
 
+    /// The map that a call writes.
+    pub(crate) fn written(
+        call: impl FnOnce(&mut [u8]) -> Result<usize, Refusal>,
+    ) -> Result<Map, Refusal> {
+        written(LONGEST_MAP, call).map(Map)
+    }
+
     /// Applies an operation. One that was seen before changes nothing.
     ///
     /// One actor's updates must come in its order: a later one is applied over the gap, and the earlier

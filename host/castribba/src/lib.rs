@@ -30,8 +30,8 @@
 //! ```
 //!
 //! [`Map`], [`Operation`] and [`Clock`] own their image, the bytes that travel between parties, and
-//! it was judged when they were made. [`slices`] has the same calls on byte slices, for callers who
-//! have no heap. A refused call answers a [`Refusal`] and changes nothing. docs/FORMAT.md lays out an
+//! it was judged when they were made. [`Pieces`] reads a map whose image comes in pieces. [`slices`] has the
+//! same calls on byte slices, for callers who have no heap. A refused call answers a [`Refusal`] and changes nothing. docs/FORMAT.md lays out an
 //! image's records; [`Record`] is one of them.
 //!
 //! # Three rules, or settings are lost
@@ -102,7 +102,7 @@
 //!
 //! `CASTRIBBA_LIB_DIR` names the folder of `libcastribba.a` when the crate is built. The crate is
 //! `no_std`: [`Map`], [`Operation`] and [`Clock`] need `alloc` (the feature `alloc`, on by default),
-//! [`slices`] and `loader` need `core` alone. The feature `loader` links `libloader.a` too, from the same
+//! [`Pieces`], [`slices`] and `loader` need `core` alone. The feature `loader` links `libloader.a` too, from the same
 //! folder or from `CASTRIBBA_LOADER_DIR`. A program has both archives in it without a clash.
 
 #![no_std]
@@ -117,6 +117,7 @@ mod image;
 pub mod loader;
 #[cfg(feature = "alloc")]
 mod parts;
+mod pieces;
 mod record;
 mod refusal;
 pub mod slices;
@@ -125,6 +126,7 @@ pub mod slices;
 pub use image::{Clock, Map, Operation};
 #[cfg(feature = "alloc")]
 pub use parts::{Entry, Removal, Standing, Value};
+pub use pieces::Pieces;
 pub use record::{kind, Record};
 pub use refusal::Refusal;
 
@@ -134,3 +136,5 @@ pub const LONGEST_MAP: usize = 14_464;
 pub const LONGEST_OPERATION: usize = 400;
 /// The longest image of a clock, in bytes.
 pub const LONGEST_CLOCK: usize = 128;
+/// The bytes of a reader of pieces.
+pub const PIECES: usize = 8_625;

@@ -2,7 +2,7 @@
 
 use core::fmt;
 
-/// Why a call was refused. Nothing was changed, and nothing was written.
+/// Why a call was refused. Nothing was changed, and nothing was written; a reader of pieces may have ended.
 ///
 /// More may come with later versions.
 #[derive(Clone, Copy, Debug, PartialEq, Eq, Hash)]
@@ -33,6 +33,8 @@ pub enum Refusal {
     Gap { start: u64, end: u64 },
     /// 12: the two maps hold one dot under different keys.
     DoubleSpent { actor: u16, counter: u64, our_key: u32, their_key: u32 },
+    /// 13: the reader of pieces has ended, or was not begun.
+    Ended,
     /// 14: the loader has no such bay.
     NoBay,
     /// A number that this version does not know: the archive is of a later one.
@@ -59,6 +61,7 @@ impl Refusal {
             Refusal::ShortBuffer => 10,
             Refusal::Gap { .. } => 11,
             Refusal::DoubleSpent { .. } => 12,
+            Refusal::Ended => 13,
             Refusal::NoBay => 14,
             Refusal::Unknown(number) => *number,
         }
@@ -77,6 +80,7 @@ impl Refusal {
             8 => Refusal::TooManyKeys,
             9 => Refusal::CounterSpent,
             10 => Refusal::ShortBuffer,
+            13 => Refusal::Ended,
             14 => Refusal::NoBay,
             _ => Refusal::Unknown(number),
         }
@@ -103,6 +107,7 @@ impl fmt::Display for Refusal {
                 f,
                 "update {counter} of actor {actor} is under key {our_key} here, {their_key} there"
             ),
+            Refusal::Ended => write!(f, "the reader of pieces has ended, or was not begun"),
             Refusal::NoBay => write!(f, "there is no such bay"),
             Refusal::Unknown(_) => write!(f, "a number that this version does not know"),
         }

@@ -14,7 +14,7 @@
 //! ```
 
 use crate::declared;
-use crate::Refusal;
+use crate::{Refusal, PIECES};
 
 /// A dot of a [`LentClock`]: `castribba_dot`.
 #[derive(Clone, Copy, Debug, Default, PartialEq, Eq)]
@@ -30,6 +30,16 @@ pub struct LentDot {
 pub struct LentClock {
     pub dots: [LentDot; 8],
     pub len: usize,
+}
+
+/// The reader of a map's image that comes in pieces: `castribba_pieces`, whose bytes are the archive's own.
+///
+/// It may hold any content, and [`pieces_begin`] makes a reader of it: [`Pieces`](crate::Pieces) does that
+/// by itself.
+#[derive(Clone, Copy, Debug, PartialEq, Eq)]
+#[repr(C)]
+pub struct LentPieces {
+    pub bytes: [u8; PIECES],
 }
 
 const GAP: u32 = 11;
@@ -158,4 +168,40 @@ pub fn clock_advance(clock: &mut LentClock, actor: u16, counter: u64) -> Result<
     // SAFETY: a LentClock has the layout of castribba_clock.
     let word = unsafe { declared::castribba_clock_advance(clock, actor, counter) };
     judged(word).map(|_| ())
+}
+
+/// Begins a reader of pieces, whatever its memory held.
+pub fn pieces_begin(reader: &mut LentPieces) -> Result<(), Refusal> {
+    // SAFETY: a LentPieces has the layout of castribba_pieces.
+    let word = unsafe { declared::castribba_pieces_begin(reader) };
+    judged(word).map(|_| ())
+}
+
+/// Takes the next piece, of any length; refused with 13 where the reader is not open.
+pub fn pieces_take(reader: &mut LentPieces, piece: &[u8]) -> Result<(), Refusal> {
+    // SAFETY: as above; the pointer goes with the slice's length, and `reader` overlaps no other.
+    let word = unsafe { declared::castribba_pieces_take(reader, piece.as_ptr(), piece.len()) };
+    judged(word).map(|_| ())
+}
+
+/// Ends: the map's image is written, as long as the answer says. 10 leaves the reader open, and as it was.
+///
+/// ```
+/// use castribba::slices::{pieces_begin, pieces_end, pieces_take, LentPieces};
+/// use castribba::{Refusal, PIECES};
+///
+/// let mut reader = LentPieces { bytes: [0; PIECES] };
+/// assert_eq!(pieces_take(&mut reader, &[]), Err(Refusal::Ended));
+/// pieces_begin(&mut reader)?;
+/// pieces_take(&mut reader, &[1, 0, 1, 0, 0, 0, 0])?;
+/// pieces_take(&mut reader, &[0, 1, 0, 0, 0, 0, 0, 0, 0])?;
+/// let mut out = [0; 16];
+/// assert_eq!(pieces_end(&mut reader, &mut out[..15]), Err(Refusal::ShortBuffer));
+/// assert_eq!(pieces_end(&mut reader, &mut out), Ok(16));
+/// assert_eq!(pieces_end(&mut reader, &mut out), Err(Refusal::Ended));
+/// # Ok::<(), Refusal>(())
+/// ```
+pub fn pieces_end(reader: &mut LentPieces, out: &mut [u8]) -> Result<usize, Refusal> {
+    // SAFETY: as above.
+    judged(unsafe { declared::castribba_pieces_end(reader, out.as_mut_ptr(), out.len()) })
 }

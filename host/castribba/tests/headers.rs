@@ -1,17 +1,19 @@
 //! What the C headers and this crate both say: the same.
 
-use castribba::{kind, Refusal, LONGEST_CLOCK, LONGEST_MAP, LONGEST_OPERATION};
+use castribba::slices::LentPieces;
+use castribba::{kind, Refusal, LONGEST_CLOCK, LONGEST_MAP, LONGEST_OPERATION, PIECES};
 
 const COMMON: &str = include_str!("../../../include/castribba_common.h");
+const CALLS: &str = include_str!("../../../include/castribba.h");
 const TEXTS: &str = include_str!("../../../include/castribba_text.c");
 
 /// The number that a header gives to a name, by `#define` or in an enum.
 fn said(name: &str) -> u64 {
-    let line = COMMON.lines().map(str::trim).find(|line| {
+    let line = COMMON.lines().chain(CALLS.lines()).map(str::trim).find(|line| {
         let words: Vec<_> = line.split_whitespace().collect();
         words.starts_with(&["#define", name]) || words.starts_with(&[name, "="])
     });
-    let line = line.unwrap_or_else(|| panic!("castribba_common.h has no {name}"));
+    let line = line.unwrap_or_else(|| panic!("the headers have no {name}"));
     let mut words = line.split(|c: char| c.is_whitespace() || c == ',');
     words.find_map(|word| word.parse().ok()).expect("a number behind the name")
 }
@@ -22,6 +24,7 @@ fn the_longest_images_and_the_kinds() {
         ("CASTRIBBA_LONGEST_MAP", LONGEST_MAP),
         ("CASTRIBBA_LONGEST_OPERATION", LONGEST_OPERATION),
         ("CASTRIBBA_LONGEST_CLOCK", LONGEST_CLOCK),
+        ("CASTRIBBA_PIECES", PIECES),
     ];
     for (name, length) in lengths {
         assert_eq!(said(name), length as u64, "{name}");
@@ -46,6 +49,11 @@ fn the_longest_images_and_the_kinds() {
 }
 
 #[test]
+fn a_reader_has_the_layout_of_the_header() {
+    assert_eq!((size_of::<LentPieces>(), align_of::<LentPieces>()), (PIECES, 1));
+}
+
+#[test]
 fn the_version() {
     let parts = ["MAJOR", "MINOR", "PATCH"].map(|part| said(&format!("CASTRIBBA_VERSION_{part}")));
     assert_eq!(parts.map(|part| part.to_string()).join("."), env!("CARGO_PKG_VERSION"));
@@ -64,6 +72,7 @@ fn the_numbers_and_their_texts() {
         ("CASTRIBBA_TOO_MANY_KEYS", Refusal::TooManyKeys),
         ("CASTRIBBA_COUNTER_SPENT", Refusal::CounterSpent),
         ("CASTRIBBA_SHORT_BUFFER", Refusal::ShortBuffer),
+        ("CASTRIBBA_ENDED", Refusal::Ended),
         ("CASTRIBBA_NO_BAY", Refusal::NoBay),
     ];
     for (name, refusal) in refusals {

@@ -118,6 +118,7 @@ fn numbers_and_words() {
         Refusal::ShortBuffer,
         Refusal::Gap { start: 1, end: 2 },
         Refusal::DoubleSpent { actor: 1, counter: 1, our_key: 5, their_key: 6 },
+        Refusal::Ended,
     ];
     for (number, refusal) in (1..).zip(all) {
         assert_eq!(refusal.number(), number);

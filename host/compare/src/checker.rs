@@ -2,6 +2,7 @@
 
 use crate::asks::Asks;
 use crate::panics::caught;
+use crate::pieces::Feeder;
 use crate::question::{dump, Call, Question};
 use crate::random::Random;
 use calls::{length_of, number_of, Calls, LentClock, LentDot, LONGEST_MAP};
@@ -9,9 +10,9 @@ use oracle::expected::{self, Answer};
 use std::collections::BTreeMap;
 
 /// Bytes on each side of a buffer that no call may touch.
-const GUARD: usize = 48;
+pub(crate) const GUARD: usize = 48;
 /// Differences printed in full, made small; the others are only counted.
-const PRINTED: u64 = 5;
+pub(crate) const PRINTED: u64 = 5;
 /// Cases between two lines of progress.
 const PROGRESS: u64 = 100_000;
 
@@ -19,12 +20,13 @@ pub struct Checker<'a> {
     calls: &'a dyn Calls,
     random: Random,
     met: BTreeMap<(Call, u32), u64>,
+    feeder: Feeder<'a>,
     pub cases: u64,
     pub differences: u64,
 }
 
 /// What the bytes around an answer look like before a call.
-fn pattern(place: usize) -> u8 {
+pub(crate) fn pattern(place: usize) -> u8 {
     (place as u8).wrapping_mul(37) ^ 0xA5
 }
 
@@ -40,6 +42,7 @@ impl<'a> Checker<'a> {
             // other numbers than the inputs are made from
             random: Random::new(!seed),
             met: BTreeMap::new(),
+            feeder: Feeder::new(calls, seed),
             cases: 0,
             differences: 0,
         }
@@ -163,6 +166,29 @@ impl<'a> Checker<'a> {
         println!("DIFFERENCE in {smallest}\n  {fault}\n");
     }
 
+    /// The question's map images, in pieces.
+    fn feed(&mut self, question: &Question) {
+        let maps = if question.call.takes_two_maps() { 2 } else { 1 };
+        for (place, image) in question.images.iter().take(maps).enumerate() {
+            self.feeder.feed(place, image, &mut self.met);
+        }
+    }
+
+    /// The longest images, in pieces.
+    pub fn feed_longest(&mut self) {
+        self.feeder.feed_longest(&mut self.met);
+    }
+
+    /// From here on a larger share of the images is fed in pieces.
+    pub fn feed_more(&mut self) {
+        self.feeder.feed_more();
+    }
+
+    /// How many images came in pieces, and how many of them made a difference.
+    pub fn fed(&self) -> (u64, u64) {
+        (self.feeder.images, self.feeder.differences)
+    }
+
     /// How often each number was met per call.
     pub fn print_table(&self) {
         let cell = |call: Call, number: u32| match self.met.get(&(call, number)) {
@@ -171,11 +197,11 @@ impl<'a> Checker<'a> {
             None => "-".to_string(),
         };
         print!("{:<15}", "call");
-        (0..=12).for_each(|number| print!("{number:>9}"));
+        (0..=Call::MOST).for_each(|number| print!("{number:>9}"));
         println!();
         for call in Call::ALL {
             print!("{:<15}", call.name());
-            (0..=12).for_each(|number| print!("{:>9}", cell(call, number)));
+            (0..=Call::MOST).for_each(|number| print!("{:>9}", cell(call, number)));
             println!();
         }
     }
@@ -183,7 +209,7 @@ impl<'a> Checker<'a> {
     /// Whether each call met every number that it can answer, and no other.
     pub fn met_every_number(&self) -> bool {
         Call::ALL.iter().all(|call| {
-            (0..=12).all(|number| {
+            (0..=Call::MOST).all(|number| {
                 self.met.contains_key(&(*call, number)) == call.possible().contains(&number)
             })
         })
@@ -200,6 +226,7 @@ impl Asks for Checker<'_> {
                 return None;
             }
         };
+        self.feed(&question);
         let rooms = if question.writes() { self.rooms(&full) } else { vec![0] };
         for room in rooms {
             let expected = full.in_room(room);

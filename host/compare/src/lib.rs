@@ -6,6 +6,7 @@ mod damage;
 pub mod generate;
 mod history;
 pub mod panics;
+mod pieces;
 pub mod question;
 pub mod random;
 pub mod registers;

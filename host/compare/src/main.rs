@@ -31,17 +31,21 @@ fn main() -> ExitCode {
 
     let mut random = Random::new(seed);
     let mut checker = Checker::new(&*calls, seed);
+    checker.feed_longest();
     rounds::every_short_input(&mut checker);
     let short = checker.cases;
     println!("every short input: {short} cases, {} differences", checker.differences);
 
+    checker.feed_more();
     while checker.cases < short + cases {
         rounds::any_round(&mut random, &mut checker);
     }
     let in_registers = registers::compare_equality(&mut random, 20_000);
 
     checker.print_table();
-    let differences = checker.differences + in_registers + u64::from(failed);
+    let (fed, in_pieces) = checker.fed();
+    println!("{fed} images in pieces, {in_pieces} differences");
+    let differences = checker.differences + in_pieces + in_registers + u64::from(failed);
     println!("{} cases, {differences} differences", checker.cases);
     if !checker.met_every_number() {
         println!("a number that a call can answer was never met, or one that it cannot was");

@@ -18,10 +18,12 @@ pub enum Call {
     ValidateOp,
     ValidateMerge,
     ClockAdvance,
+    PiecesTake,
+    PiecesEnd,
 }
 
 impl Call {
-    pub const ALL: [Call; 11] = [
+    pub const ALL: [Call; 13] = [
         Call::Apply,
         Call::Merge,
         Call::ResetRemove,
@@ -33,7 +35,12 @@ impl Call {
         Call::ValidateOp,
         Call::ValidateMerge,
         Call::ClockAdvance,
+        Call::PiecesTake,
+        Call::PiecesEnd,
     ];
+
+    /// The largest number that any of them can answer.
+    pub const MOST: u32 = 13;
 
     pub fn name(self) -> &'static str {
         match self {
@@ -48,7 +55,14 @@ impl Call {
             Call::ValidateOp => "validate_op",
             Call::ValidateMerge => "validate_merge",
             Call::ClockAdvance => "clock_advance",
+            Call::PiecesTake => "pieces_take",
+            Call::PiecesEnd => "pieces_end",
         }
+    }
+
+    /// Whether the second image is a map's too.
+    pub fn takes_two_maps(self) -> bool {
+        matches!(self, Call::Merge | Call::ValidateMerge)
     }
 
     /// The numbers that the call can answer: a run must meet each of them.
@@ -63,6 +77,8 @@ impl Call {
             Call::ValidateOp => &[0, 1, 2, 3, 11],
             Call::ValidateMerge => &[0, 1, 2, 3, 12],
             Call::ClockAdvance => &[0, 1, 2, 4],
+            Call::PiecesTake => &[0, 13],
+            Call::PiecesEnd => &[0, 1, 2, 3, 10, 13],
         }
     }
 }
@@ -103,6 +119,7 @@ impl Question {
             Call::ValidateOp => expected::validate_op(first, second),
             Call::ValidateMerge => expected::validate_merge(first, second),
             Call::ClockAdvance => unreachable!("a lent clock is no image"),
+            Call::PiecesTake | Call::PiecesEnd => unreachable!("a reader is no image"),
         })
     }
 
@@ -134,6 +151,7 @@ impl Question {
                 (calls.validate_merge(first, second), carried)
             }
             Call::ClockAdvance => unreachable!("a lent clock is no image"),
+            Call::PiecesTake | Call::PiecesEnd => unreachable!("a reader is no image"),
         }
     }
 

@@ -63,8 +63,7 @@ pub fn compare_equality(random: &mut Random, pairs: u64) -> u64 {
         theirs.rotate_left(turn);
         let rule =
             ours.iter().chain(&theirs).all(|pair| times(&ours, pair) == times(&theirs, pair));
-        let repeats =
-            |values: &[(Clock, u64)]| values.iter().any(|pair| times(values, pair) > 1);
+        let repeats = |values: &[(Clock, u64)]| values.iter().any(|pair| times(values, pair) > 1);
         repeated += u64::from(repeats(&ours) || repeats(&theirs));
         let (one, another) = (register_in(&ours), register_in(&theirs));
         let published = caught(|| one == another);

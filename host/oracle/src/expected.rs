@@ -13,7 +13,7 @@ pub struct Answer {
     pub carried: Vec<u64>,
 }
 
-fn refused(number: u32) -> Answer {
+pub fn refused(number: u32) -> Answer {
     Answer { number, ..Answer::default() }
 }
 
@@ -121,6 +121,11 @@ pub fn validate_merge(map: &[u8], other: &[u8]) -> Answer {
         },
     };
     Answer { number, bytes: vec![], carried }
+}
+
+/// The end of an image that came in pieces: what they are, joined.
+pub fn delivered(image: &[u8]) -> Answer {
+    after_reading(|| Ok(written_map(&read_map(image)?)))
 }
 
 /// The number, and the dots after the call, on all eight places that are lent: dots behind `len`

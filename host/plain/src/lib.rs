@@ -6,12 +6,14 @@ mod clock;
 mod image;
 mod map;
 pub mod number;
+mod pieces;
 mod register;
 
 pub use calls::*;
 pub use clock::{Clock, Dot};
 pub use image::{read_clock, read_map, read_op, write_map, write_op};
 pub use map::{DoubleSpent, Entry, Gap, Map, Operation, Removal, Waiting};
+pub use pieces::*;
 pub use register::{Register, Value};
 
 pub const MOST_DOTS: usize = 8;

@@ -28,7 +28,7 @@ loop-again c =
     let s = c .before .before .before .before in
     let a = s .before .before .before .args in
     let e = map-on (a .removal .keys .items) (a .removal .keys .len) (s .loop .i) 0 (omega arith) (keyNumber (a .index)) in
-    let n = c .before .number .ensures in
+    let n = c .before .key-number .ensures in
     (omega arith, least-on (s .loop .inv .1) e (lt-ltb _ (2 ^ 40) (rw (n .0) at (n .1))) (c .lesser .ensures ∙ ap (lesser (a .low) (s .loop .best)) (n .0)))
 
 returns : tie.Need-returns Inv-loop μ-loop

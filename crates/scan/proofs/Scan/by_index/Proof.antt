@@ -4,7 +4,7 @@ use Rattle.scan.proofs.Scan.by_index.Statement.{statement}
 use Rattle.scan.proofs.Scan.by_index.Tie as tie
 
 returns : tie.Need-returns
-returns c s = rw (c .tally .ensures s)
+returns c = rw (c .tally .ensures)
 
 pub by-index-spec : {M : Type 1} → statement M
 by-index-spec =

@@ -4,7 +4,7 @@ use Rattle.scan.proofs.Scan.by_key.Statement.{statement}
 use Rattle.scan.proofs.Scan.by_key.Tie as tie
 
 returns : tie.Need-returns
-returns c s = rw (c .before .before .tally .ensures (s .0), c .before .tally2 .ensures (s .1 .0), c .tally3 .ensures (s .1 .1))
+returns c = rw (c .before .before .tally .ensures, c .before .tally2 .ensures, c .tally3 .ensures)
 
 pub by-key-spec : {M : Type 1} → statement M
 by-key-spec =

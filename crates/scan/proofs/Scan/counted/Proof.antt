@@ -5,10 +5,10 @@ use Rattle.scan.proofs.Scan.counted.Statement.{statement}
 use Rattle.scan.proofs.Scan.counted.Tie as tie
 
 returns : tie.Need-returns
-returns c l t = let z = c .before .before .if1 .taken in rw (eq-eqb _ _ z, ← c .before .tallied .ensures l (t z)) (c .judged .ensures)
+returns c = rw (eq-eqb _ _ (c .before .before .if1 .taken), ← c .before .tallied .ensures) (c .judged .ensures)
 
 returns-2 : tie.Need-returns-2
-returns-2 c l t = rw (ne-eqb _ _ (c .if1 .left))
+returns-2 c = rw (ne-eqb _ _ (c .if1 .left))
 
 pub counted-spec : {M : Type 1} → statement M
 counted-spec =

@@ -1,12 +1,10 @@
 -- `Scan::follows` meets its contract. Assumes nothing.
-use Rattle.scan.proofs.Scans.{follows-last}
 use borrow.Author.Needs.{needs}
 use Rattle.scan.proofs.Scan.follows.Statement.{statement}
 use Rattle.scan.proofs.Scan.follows.Tie as tie
 
 returns : tie.Need-returns
-returns c l w e =
-    rw (c .before .before .record-ok .ensures, c .before2 .ensures) (follows-last _ _ l _ _ _ w e)
+returns c = rw (c .before .before .record-ok .ensures, c .before2 .ensures)
 
 pub follows-spec : {M : Type 1} → statement M
 follows-spec =

@@ -5,10 +5,10 @@ use Rattle.scan.proofs.Scan.tallied.Statement.{statement}
 use Rattle.scan.proofs.Scan.tallied.Tie as tie
 
 returns : tie.Need-returns
-returns c l t = rw (eq-eqb _ _ (c .before .if1 .taken)) (c .by-index .ensures (t .small .0))
+returns c = rw (eq-eqb _ _ (c .before .if1 .taken)) (c .by-index .ensures)
 
 returns-2 : tie.Need-returns-2
-returns-2 c l t = rw (ne-eqb _ _ (c .before .if1 .left)) (c .by-key .ensures (t .small))
+returns-2 c = rw (ne-eqb _ _ (c .before .if1 .left)) (c .by-key .ensures)
 
 pub tallied-spec : {M : Type 1} → statement M
 tallied-spec =

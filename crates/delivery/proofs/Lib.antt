@@ -1,0 +1,8 @@
+pub mod Belows
+pub mod Views
+pub mod Ascends
+pub mod Counting
+pub mod Lengths
+pub mod Ends
+pub mod Judged
+pub mod Whole

@@ -1,0 +1,51 @@
+-- What stands in a reader's memory, as a loop over its places meets it.
+-- Assumes nothing.
+use mathlib.Core.Path.{_≡_, ap}
+use mathlib.Core.List.{List, [], _∷_, map}
+use Prim.Native.Nat.{ℕ, _+_, _≤_, _<_}
+use lib.ListN.{length, drop}
+use Rattle.lists.proofs.Pads.{take-pad}
+use Rattle.clock.specs.Dots.{dotLimit, noDot}
+use Rattle.parts.specs.Model.{keyLimit, underOf}
+use Rattle.mapimage.specs.MapImage.{keyNumber, keyNumbers}
+use Rattle.mailbox.specs.Memory.{keysPlace, keyPlace, removalPlace, countAt, dotsAt, entryAt, entryCount, entriesAt, listedAt, removalAt, waitingCountAt, waitingAt}
+use Rattle.records.specs.Bytes.{numAt}
+use Rattle.mailbox.proofs.Views.{length-of}
+use Rattle.delivery.proofs.Belows.{left-on, left-end}
+
+module _ (w : List ℕ) where
+  pub length-dots : (at : ℕ) → length (dotsAt w at) ≡ countAt dotLimit at w
+  unfolding dotsAt
+  length-dots at = length-of _ (countAt dotLimit at w)
+
+  pub entries-left : (j : ℕ) → j < entryCount w → drop j (entriesAt w) ≡ entryAt w j ∷ drop (j + 1) (entriesAt w)
+  unfolding entriesAt
+  entries-left j h = left-on (entryAt w) (entryCount w) j h
+
+  pub entries-end : (j : ℕ) → entryCount w ≤ j → drop j (entriesAt w) ≡ []
+  unfolding entriesAt
+  entries-end j h = left-end (entryAt w) (entryCount w) j h
+
+  pub waiting-left : (k : ℕ) → k < waitingCountAt w → drop k (waitingAt w) ≡ removalAt w k ∷ drop (k + 1) (waitingAt w)
+  unfolding waitingAt
+  waiting-left k h = left-on (removalAt w) (waitingCountAt w) k h
+
+  pub waiting-end : (k : ℕ) → waitingCountAt w ≤ k → drop k (waitingAt w) ≡ []
+  unfolding waitingAt
+  waiting-end k h = left-end (removalAt w) (waitingCountAt w) k h
+
+  -- the dots and the keys of a removal
+  module _ (k : ℕ) where
+    pub under-dots : underOf (removalAt w k) ≡ dotsAt w (removalPlace k)
+    under-dots = take-pad noDot dotLimit (dotsAt w (removalPlace k))
+
+    pub numbers-listed : keyNumbers k (removalAt w k) ≡ map (keyNumber k) (listedAt w k)
+    numbers-listed = ap (map (keyNumber k)) (take-pad 0 keyLimit (listedAt w k))
+
+    pub listed-left : (i : ℕ) → i < countAt keyLimit (keysPlace k) w → drop i (listedAt w k) ≡ numAt 2 (keyPlace k i) w ∷ drop (i + 1) (listedAt w k)
+    unfolding listedAt
+    listed-left i h = left-on _ (countAt keyLimit (keysPlace k) w) i h
+
+    pub listed-end : (i : ℕ) → countAt keyLimit (keysPlace k) w ≤ i → drop i (listedAt w k) ≡ []
+    unfolding listedAt
+    listed-end i h = left-end _ (countAt keyLimit (keysPlace k) w) i h

@@ -1,0 +1,59 @@
+-- `clock_at` meets its contract: one dot after the other. Assumes nothing.
+use mathlib.Core.Path.{_≡_, ap, sym, _∙_}
+use mathlib.Core.List.{map}
+use Prim.Native.Nat.{_+_, _*_, _≤_, _-_}
+use Rattle.clock.specs.Dots.{clockOf}
+use Rattle.maprecords.specs.Reading.{below}
+use Rattle.mailbox.specs.Memory.{dotRoom, dotAt, dotsAt}
+use Rattle.mailbox.proofs.Views.{length-of}
+use Rattle.delivery.proofs.Belows.{made-none, made-next}
+use borrow.Author.Needs.{needs}
+use native.Mathlib.Omega.{arith}
+use Rattle.delivery.proofs.clock_at.Statement.{statement}
+use Rattle.delivery.proofs.clock_at.Tie as tie
+
+abbrev Inv-loop : tie.InvT-loop
+Inv-loop mem at n clock₀ i₀ clock i = (i ≤ n) × (clock ≡ clockOf (map (λ j. dotAt mem (at + 1 + j * dotRoom)) (below i)))
+
+abbrev μ-loop : tie.MeasureT-loop
+μ-loop mem at n clock₀ i₀ clock i = n - i
+
+loop-holds : tie.Need-loop-holds Inv-loop μ-loop
+loop-holds c = (omega arith, c .new .ensures ∙ ap clockOf (sym (made-none _)))
+
+push-requires : tie.Need-push-requires Inv-loop μ-loop
+push-requires c κs =
+    let s = c .before .before in
+    omega (arith, ap (λ k. k .len) (s .loop .inv .1) ∙ length-of _ (s .loop .i))
+
+loop-again : tie.Need-loop-again Inv-loop μ-loop
+loop-again c =
+    let s = c .before .before .before in
+    (omega arith, made-next _ clockOf (s .loop .i) (c .before .dot-at .ensures) (c .push .ensures _ (s .loop .inv .1)))
+
+returns : tie.Need-returns Inv-loop μ-loop
+unfolding dotsAt
+returns c =
+    let s = c .before in
+    let a = s .before .before .before .args in
+    let e = s .before .before .count .ensures in
+    s .loop .inv .1 ∙ ap (λ m. clockOf (map (λ j. dotAt (a .mem .now) (a .at + 1 + j * dotRoom)) (below m))) (omega arith)
+
+pub clock-at-spec : {M : Type 1} → statement M
+clock-at-spec =
+    tie.close
+    (tie.spec
+    Inv-loop
+    μ-loop
+    (λ c κs. search needs)
+    (λ c κs. search needs)
+    loop-holds
+    (λ c. search needs)
+    (λ c. search needs)
+    (λ c. search needs)
+    (λ c κs. search needs)
+    (λ c. search needs)
+    push-requires
+    (λ c. search needs)
+    loop-again
+    returns)

@@ -1,0 +1,57 @@
+-- `count_entries` meets its contract: the loop adds up what each has. Assumes nothing.
+use mathlib.Core.Path.{_≡_, ap}
+use Prim.Native.Nat.{_+_, _*_, _≤_, _-_}
+use lib.ListN.{drop}
+use Rattle.answers.specs.Sizes.{totalOf, entrySize}
+use Rattle.mailbox.specs.Memory.{entriesAt}
+use Rattle.delivery.proofs.Views.{entries-left, entries-end}
+use borrow.Author.Needs.{needs}
+use native.Mathlib.Omega.{arith}
+use Rattle.delivery.proofs.count_entries.Statement.{statement}
+use Rattle.delivery.proofs.count_entries.Tie as tie
+
+abbrev Inv-loop : tie.InvT-loop
+Inv-loop mem n total₀ j₀ total j =
+    (j ≤ n) × ((total ≤ j * 44) × (total + totalOf entrySize (drop j (entriesAt mem)) ≡ totalOf entrySize (entriesAt mem)))
+
+abbrev μ-loop : tie.MeasureT-loop
+μ-loop mem n total₀ j₀ total j = n - j
+
+loop-holds : tie.Need-loop-holds Inv-loop μ-loop
+loop-holds c = (omega arith, (omega arith, omega arith))
+
+loop-again : tie.Need-loop-again Inv-loop μ-loop
+unfolding totalOf
+loop-again c =
+    let t = c .before .before .before .before in
+    let s = t .before .before in
+    let w = s .before .before .args .mem .now in
+    let e = ap (totalOf entrySize) (entries-left w (s .loop .j) (omega arith)) in
+    let x = ap entrySize (t .entry-at .ensures) in
+    (omega arith, (omega arith, omega arith))
+
+returns : tie.Need-returns Inv-loop μ-loop
+unfolding totalOf
+returns c =
+    let s = c .before in
+    let w = s .before .before .args .mem .now in
+    let e = ap (totalOf entrySize) (entries-end w (s .loop .j) (omega arith)) in
+    (omega arith, omega arith)
+
+pub count-entries-spec : {M : Type 1} → statement M
+count-entries-spec =
+    tie.close
+    (tie.spec
+    Inv-loop
+    μ-loop
+    (λ c κs. search needs)
+    loop-holds
+    (λ c κs. search needs)
+    (λ c. search needs)
+    (λ c κs. search needs)
+    (λ c κs. search needs)
+    (λ c. search needs)
+    (λ c. search needs)
+    (λ c. search needs)
+    loop-again
+    returns)

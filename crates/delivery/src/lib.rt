@@ -1,0 +1,343 @@
+// What a reader of pieces is answered with at the end, from its lent memory, whatever stands in it.
+ghost use mathlib.Core.Path.{_≡_};
+ghost use mathlib.Core.Bool.{true};
+ghost use Prim.Native.Nat.{_+_, _*_, _^_, _≤_, _<_, min};
+ghost use lib.Dec.{ltb};
+ghost use lib.ListN.{length};
+ghost use Rattle.clock.specs.Dots.{clockOf};
+ghost use Rattle.register.specs.Values.{registerOf};
+ghost use Rattle.parts.specs.Model.{entryLimit, waitingLimit, underOf};
+ghost use Rattle.records.specs.Records.{bytesOf, Wrote};
+ghost use Rattle.scan.specs.Each.{every};
+ghost use Rattle.mapimage.specs.Sorted.{leastFrom};
+ghost use Rattle.mapimage.specs.MapImage.{flatFrom, entryRecords, waitingDots, keyNumbers, waitingKeys};
+ghost use Rattle.maprecords.specs.Related.{entryWhole, ascend};
+ghost use Rattle.answers.specs.Sizes.{totalOf, entrySize};
+ghost use Rattle.mailbox.specs.Memory.{readerRoom, dotRoom, clockRoom, valueRoom, clockPlace, dotAt, dotsAt, valueAt, valuesAt, entryAt, entriesAt, removalAt, waitingAt};
+ghost use Rattle.delivery.specs.Delivery.{relatedAt, endNumber, imageAt, Ended};
+use clock::Clock;
+use clock::DOTS;
+use clock::Dot;
+use mailbox::CLOCK;
+use mailbox::CLOCK_ROOM;
+use mailbox::DOT_ROOM;
+use mailbox::ENTRY_COUNT;
+use mailbox::ENTRY_PLACE;
+use mailbox::ENTRY_ROOM;
+use mailbox::LENGTH;
+use mailbox::LOST;
+use mailbox::NUMBER;
+use mailbox::OPEN;
+use mailbox::READER;
+use mailbox::REMOVAL_PLACE;
+use mailbox::REMOVAL_ROOM;
+use mailbox::VALUE_ROOM;
+use mailbox::WAITING_COUNT;
+use mapimage::NO_KEY;
+use parts::ENTRIES;
+use parts::Entry;
+use parts::KEYS;
+use parts::WAITING;
+use records::Record;
+use register::Register;
+use register::VALUES;
+use register::Value;
+
+fn dot_at(mem: &[u8; READER], at: usize) -> Dot
+    requires { ⌜ at + dotRoom ≤ readerRoom ⌝ }
+    ensures { λ d. ⌜ d ≡ dotAt (now (mem .entry)) at ⌝ }
+{
+    let actor = records::read16(mem, at);
+    let counter = records::read64(mem, at + 2);
+    Dot { actor, counter }
+}
+
+fn clock_at(mem: &[u8; READER], at: usize) -> Clock
+    requires { ⌜ at + clockRoom ≤ readerRoom ⌝ }
+    ensures { λ r. ⌜ r ≡ clockOf (dotsAt (now (mem .entry)) at) ⌝ }
+{
+    let n = mailbox::count(mem, at, DOTS);
+    let mut clock = Clock::new();
+    let mut i: usize = 0;
+    while i < n {
+        let d = dot_at(mem, at + 1 + i * DOT_ROOM);
+        i += 1;
+        clock = clock.push(d);
+    }
+    clock
+}
+
+fn value_at(mem: &[u8; READER], at: usize) -> Value
+    requires { ⌜ at + valueRoom ≤ readerRoom ⌝ }
+    ensures { λ r. ⌜ r ≡ valueAt (now (mem .entry)) at ⌝ }
+{
+    let value = records::read64(mem, at);
+    let clock = clock_at(mem, at + 8);
+    Value { clock, value }
+}
+
+fn register_at(mem: &[u8; READER], j: usize) -> Register
+    requires { ⌜ j < entryLimit ⌝ }
+    ensures { λ r. ⌜ r ≡ registerOf (valuesAt (now (mem .entry)) j) ⌝ }
+{
+    let at = ENTRY_PLACE + j * ENTRY_ROOM + 4 + CLOCK_ROOM;
+    let n = mailbox::count(mem, at, VALUES);
+    let mut register = Register::new();
+    let mut i: usize = 0;
+    while i < n {
+        let v = value_at(mem, at + 1 + i * VALUE_ROOM);
+        i += 1;
+        register = register.push(v);
+    }
+    register
+}
+
+// An entry, by its place among the entries.
+fn entry_at(mem: &[u8; READER], j: usize) -> Entry
+    requires { ⌜ j < entryLimit ⌝ }
+    ensures { λ e. ⌜ e ≡ entryAt (now (mem .entry)) j ⌝ }
+{
+    let at = ENTRY_PLACE + j * ENTRY_ROOM;
+    let key = records::read32(mem, at);
+    let clock = clock_at(mem, at + 4);
+    let register = register_at(mem, j);
+    Entry {
+        key,
+        clock,
+        register,
+    }
+}
+
+fn entries_whole(mem: &[u8; READER]) -> bool
+    ensures { λ b. ⌜ b ≡ every (entryWhole (dotsAt (now (mem .entry)) clockPlace)) (entriesAt (now (mem .entry))) ⌝ }
+{
+    let clock = clock_at(mem, CLOCK);
+    let n = mailbox::count(mem, ENTRY_COUNT, ENTRIES);
+    let mut j: usize = 0;
+    while j < n {
+        let e = entry_at(mem, j);
+        if !maprecords::entry_whole(clock, e) {
+            return false;
+        }
+        j += 1;
+    }
+    true
+}
+
+// Whether waiting clocks differ and ascend.
+fn waiting_ascends(mem: &[u8; READER]) -> bool
+    ensures { λ b. ⌜ b ≡ ascend (waitingAt (now (mem .entry))) ⌝ }
+{
+    let n = mailbox::count(mem, WAITING_COUNT, WAITING);
+    let mut k: usize = 1;
+    while k < n {
+        let before = clock_at(mem, REMOVAL_PLACE + (k - 1) * REMOVAL_ROOM);
+        let after = clock_at(mem, REMOVAL_PLACE + k * REMOVAL_ROOM);
+        if !parts::queue::clock_before(before, after) {
+            return false;
+        }
+        k += 1;
+    }
+    true
+}
+
+fn related(mem: &[u8; READER]) -> bool
+    ensures { λ b. ⌜ b ≡ relatedAt (now (mem .entry)) ⌝ }
+{
+    (mem[LOST] == 0) & (entries_whole(mem) & waiting_ascends(mem))
+}
+
+// The number of the records one by one.
+fn scanned(number: u8) -> u8
+    ensures { λ r. ⌜ r ≡ min number 2 ⌝ }
+{
+    if number < 2 { number } else { 2 }
+}
+
+// The first number that applies.
+fn number_of(mem: &[u8; READER]) -> u8
+    ensures { λ r. ⌜ r ≡ endNumber (now (mem .entry)) ⌝ }
+{
+    let len = records::read32(mem, LENGTH) as usize;
+    let length = mapreader::length_number(len);
+    if length != 0 {
+        return length;
+    }
+    let number = scanned(mem[NUMBER]);
+    if number != 0 {
+        return number;
+    }
+    if related(mem) { 0 } else { 3 }
+}
+
+// How many records the entries have.
+fn count_entries(mem: &[u8; READER]) -> usize
+    ensures { λ r. ⌜ (r ≡ totalOf entrySize (entriesAt (now (mem .entry)))) × (r ≤ 704) ⌝ }
+{
+    let n = mailbox::count(mem, ENTRY_COUNT, ENTRIES);
+    let mut total: usize = 0;
+    let mut j: usize = 0;
+    while j < n {
+        let e = entry_at(mem, j);
+        j += 1;
+        let clock = e.clock;
+        let register = e.register;
+        total += clock.size() + answers::count_values(register);
+    }
+    total
+}
+
+// How many dots the waiting removals have.
+fn count_waiting(mem: &[u8; READER]) -> usize
+    ensures { λ r. ⌜ (r ≡ totalOf (λ x. length (underOf x)) (waitingAt (now (mem .entry)))) × (r ≤ 64) ⌝ }
+{
+    let n = mailbox::count(mem, WAITING_COUNT, WAITING);
+    let mut total: usize = 0;
+    let mut k: usize = 0;
+    while k < n {
+        let dots = mailbox::count(mem, REMOVAL_PLACE + k * REMOVAL_ROOM, DOTS);
+        k += 1;
+        total += dots;
+    }
+    total
+}
+
+// The least number of a removal's keys from `low` on, where there is one below `m`, else `m`.
+fn least_in(mem: &[u8; READER], k: usize, low: u64, m: u64) -> u64
+    requires { ⌜ k < waitingLimit ⌝ }
+    ensures { λ r. ⌜ (r ≡ leastFrom low m (keyNumbers k (removalAt (now (mem .entry)) k)))
+        × (every (λ x. ltb x (2 ^ 40)) (keyNumbers k (removalAt (now (mem .entry)) k)) ≡ true) ⌝ }
+{
+    let at = REMOVAL_PLACE + k * REMOVAL_ROOM + CLOCK_ROOM;
+    let n = mailbox::count(mem, at, KEYS);
+    let index = k as u8;
+    let mut best = m;
+    let mut i: usize = 0;
+    while i < n {
+        let key = records::read32(mem, at + 1 + i * 4);
+        i += 1;
+        best = mapimage::lesser(low, best, mapimage::key_number(index, key));
+    }
+    best
+}
+
+// The least number of a waiting key from `low` on.
+fn least(mem: &[u8; READER], low: u64) -> u64
+    ensures { λ r. ⌜ (r ≡ leastFrom low (2 ^ 40) (flatFrom keyNumbers 0 (waitingAt (now (mem .entry)))))
+        × (every (λ x. ltb x (2 ^ 40)) (flatFrom keyNumbers 0 (waitingAt (now (mem .entry)))) ≡ true) ⌝ }
+{
+    let n = mailbox::count(mem, WAITING_COUNT, WAITING);
+    let mut best = NO_KEY;
+    let mut k: usize = 0;
+    while k < n {
+        best = least_in(mem, k, low, best);
+        k += 1;
+    }
+    best
+}
+
+// How many waiting keys are written: one that stands twice in a removal counts once.
+fn count_keys(mem: &[u8; READER]) -> usize
+    ensures { λ r. ⌜ (r ≡ length (waitingKeys (waitingAt (now (mem .entry))))) × (r ≤ 2 ^ 40) ⌝ }
+{
+    let mut total: usize = 0;
+    let mut best = least(mem, 0);
+    while best < NO_KEY {
+        total += 1;
+        best = least(mem, best + 1);
+    }
+    total
+}
+
+fn image_length(mem: &[u8; READER]) -> usize
+    ensures { λ r. ⌜ r ≡ length (imageAt (now (mem .entry))) ⌝ }
+{
+    let dots = mailbox::count(mem, CLOCK, DOTS);
+    (dots + (count_entries(mem) + (count_waiting(mem) + count_keys(mem)))) * 16
+}
+
+fn write_entries(mem: &[u8; READER], kind: u8, out: &mut [u8], at: usize) -> usize
+    requires { ⌜ at + length (flatFrom (entryRecords kind) 0 (entriesAt (now mem))) * 16 ≤ length (now out) ⌝ }
+    ensures { λ next. ⌜ Wrote at (bytesOf (flatFrom (entryRecords kind) 0 (entriesAt (now (mem .entry))))) (now (out .entry)) (now (out .exit)) next ⌝ }
+{
+    let n = mailbox::count(mem, ENTRY_COUNT, ENTRIES);
+    let mut next = at;
+    let mut j: usize = 0;
+    while j < n {
+        let e = entry_at(mem, j);
+        j += 1;
+        next = mapimage::write_entry(out, next, kind, e);
+    }
+    next
+}
+
+fn write_waiting(mem: &[u8; READER], out: &mut [u8], at: usize) -> usize
+    requires { ⌜ at + length (flatFrom waitingDots 0 (waitingAt (now mem))) * 16 ≤ length (now out) ⌝ }
+    ensures { λ next. ⌜ Wrote at (bytesOf (flatFrom waitingDots 0 (waitingAt (now (mem .entry))))) (now (out .entry)) (now (out .exit)) next ⌝ }
+{
+    let n = mailbox::count(mem, WAITING_COUNT, WAITING);
+    let mut next = at;
+    let mut k: usize = 0;
+    while k < n {
+        let clock = clock_at(mem, REMOVAL_PLACE + k * REMOVAL_ROOM);
+        let index = k as u8;
+        k += 1;
+        next = clockimage::write_dots(out, next, 5, index, 0, clock);
+    }
+    next
+}
+
+// Writes the keys of waiting removals, by key and then by index; answers the place behind them.
+fn write_waiting_keys(mem: &[u8; READER], out: &mut [u8], at: usize) -> usize
+    requires { ⌜ at + length (waitingKeys (waitingAt (now mem))) * 16 ≤ length (now out) ⌝ }
+    ensures { λ next. ⌜ Wrote at (bytesOf (waitingKeys (waitingAt (now (mem .entry))))) (now (out .entry)) (now (out .exit)) next ⌝ }
+{
+    let mut next = at;
+    let mut best = least(mem, 0);
+    while best < NO_KEY {
+        let r = Record {
+            kind: 6,
+            index: (best % 256) as u8,
+            actor: 0,
+            key: (best / 256) as u32,
+            number: 0,
+        };
+        next = records::write_record(out, next, r);
+        best = least(mem, best + 1);
+    }
+    next
+}
+
+// Writes the image of what stands in the memory at the start of `out`; answers its length.
+fn write_image(mem: &[u8; READER], out: &mut [u8]) -> usize
+    requires { ⌜ length (imageAt (now mem)) ≤ length (now out) ⌝ }
+    ensures { λ n. ⌜ Wrote 0 (imageAt (now (mem .entry))) (now (out .entry)) (now (out .exit)) n ⌝ }
+{
+    let clock = clock_at(mem, CLOCK);
+    let first = clockimage::write_dots(out, 0, 1, 0, 0, clock);
+    let second = write_entries(mem, 2, out, first);
+    let third = write_entries(mem, 3, out, second);
+    let fourth = write_entries(mem, 4, out, third);
+    let fifth = write_waiting(mem, out, fourth);
+    write_waiting_keys(mem, out, fifth)
+}
+
+// The end of the image: 13 after the end, then the number of the whole image, then 10, else the map's image.
+pub fn end(mem: &mut [u8; READER], out: &mut [u8]) -> u64
+    ensures { λ r. ⌜ Ended (now (mem .entry)) (now (out .entry)) (now (mem .exit)) (now (out .exit)) r ⌝ }
+{
+    if mem[OPEN] != 1 {
+        return answers::word(13);
+    }
+    let number = number_of(mem);
+    if number != 0 {
+        records::put8(mem, OPEN, 0);
+        return answers::word(number);
+    }
+    if out.len() < image_length(mem) {
+        return answers::word(10);
+    }
+    let n = write_image(mem, out);
+    records::put8(mem, OPEN, 0);
+    n as u64
+}
