@@ -59,10 +59,10 @@ fn other_than(values: Register, value: u64) -> bool
     let mut i: usize = 0;
     while i < n {
         let v = values.values[i];
+        i += 1;
         if value != v.value {
             return true;
         }
-        i += 1;
     }
     false
 }

@@ -39,8 +39,8 @@ other-than-spec =
     loop-holds
     (λ c. search needs)
     (λ c. search needs)
-    returns
     (λ c. search needs)
+    returns
     (λ c. search needs)
     loop-again
     returns-2)
