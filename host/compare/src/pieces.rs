@@ -24,10 +24,10 @@ pub struct Feeder<'a> {
 
 type Met = BTreeMap<(Call, u32), u64>;
 
-/// One image in so many is fed, of the short inputs and of the random rounds: with all of them a run would
-/// take half its time again.
+/// One image in so many is fed: every one of the random rounds, and of the short inputs, which are many and
+/// alike, so many that they take little time.
 const SHARE_OF_SHORT: usize = 8;
-const SHARE_OF_RANDOM: usize = 2;
+const SHARE_OF_RANDOM: usize = 1;
 /// Ways of cutting each of the longest images.
 const TIMES_OF_LONGEST: usize = 48;
 
