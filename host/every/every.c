@@ -108,6 +108,18 @@ static void advances(const char *what, castribba_clock clock, uint16_t actor, ui
     report(word == REFUSED(number) && same_clock(&clock, &expected), what);
 }
 
+/* Constants that lie in memory that can only be read: a store would end the program. */
+static const castribba_clock SEEN = {.dots = {{1, 1}, {3, 7}}, .len = 2};
+static const castribba_clock UNORDERED = {.dots = {{3, 1}, {1, 1}}, .len = 2};
+static const castribba_clock FULL = {
+    .dots = {{0, 1}, {1, 1}, {2, 1}, {3, 1}, {4, 1}, {5, 1}, {6, 1}, {7, 1}}, .len = 8};
+
+static void stores_nothing(const char *what, const castribba_clock *clock, uint16_t actor,
+                           uint64_t counter, uint32_t number)
+{
+    is(what, castribba_clock_advance((castribba_clock *)clock, actor, counter), REFUSED(number));
+}
+
 static void advancing(void)
 {
     const castribba_clock one = {.dots = {{1, 1}, {3, 1}}, .len = 2};
@@ -128,6 +140,13 @@ static void advancing(void)
     advances("clock_advance, out of order", unordered, 1, 2, 1, unordered);
     advances("clock_advance, a zero counter lent", zero, 1, 2, 1, zero);
     advances("clock_advance, a ninth dot", full, 8, 1, 4, full);
+
+    const castribba_clock painted_behind = {.dots = {{1, 1}, {3, 1}, {9, 9}, {9, 9}}, .len = 2};
+    advances("clock_advance, zeros behind len", painted_behind, 3, 7, 0, raised);
+    advances("clock_advance, nothing stored behind len", painted_behind, 3, 1, 0, painted_behind);
+    stores_nothing("clock_advance, read-only, a counter seen", &SEEN, 3, 7, 0);
+    stores_nothing("clock_advance, read-only, out of order", &UNORDERED, 1, 2, 1);
+    stores_nothing("clock_advance, read-only, a ninth dot", &FULL, 8, 1, 4);
 }
 
 /* A map in pieces, cut within a record; the reader is painted before each begin, and stands at an odd

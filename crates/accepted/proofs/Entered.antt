@@ -29,7 +29,7 @@ use Rattle.parts.proofs.Pieces.{dots-in, values-in}
 use Rattle.parts.proofs.Kept.{valid-as}
 use Rattle.parts.proofs.Bounds.{EntryFits}
 use Rattle.records.specs.declared.Record.{Record}
-use Rattle.records.specs.Kinds.{maskOf, before}
+use Rattle.records.specs.Kinds.{before}
 use Rattle.scan.specs.Each.{every}
 use Rattle.scan.specs.Scanned.{scanNumber}
 use Rattle.scan.proofs.Befores.{before-fields}
@@ -124,8 +124,8 @@ module _ (l : List Record) (z : scanNumber 1 6 l ≡ 0) where
       (λ x i t. let k = at-key key 2 x t in let g = fine 1 6 l z x i in record {
         kind-is = k .0;
         key-is = k .1;
-        index-is = no-index 1 6 x g 14 (ap maskOf (k .0)) refl;
-        counter = counter-from-one 1 6 x g 14 (ap maskOf (k .0)) refl (λ e. omega (arith, k .0)) (λ e. omega (arith, k .0));
+        index-is = no-index 1 6 x g (k .0) refl;
+        counter = counter-from-one 1 6 x g (k .0) refl (λ e. omega (arith, k .0)) (λ e. omega (arith, k .0));
       })
 
   value-lawful : (key index : ℕ) → Lawful (dotsIn (underBoth 4 key index) l)
@@ -135,7 +135,7 @@ module _ (l : List Record) (z : scanNumber 1 6 l ≡ 0) where
         kind-is = k .0 .0;
         key-is = k .0 .1;
         index-is = k .1;
-        counter = counter-from-one 1 6 x g 15 (ap maskOf (k .0 .0)) refl (λ e. omega (arith, k .0 .0)) (λ e. omega (arith, k .0 .0));
+        counter = counter-from-one 1 6 x g (k .0 .0) refl (λ e. omega (arith, k .0 .0)) (λ e. omega (arith, k .0 .0));
       })
 
   pub clock-lawful : Lawful (clockIn l)
@@ -143,9 +143,9 @@ module _ (l : List Record) (z : scanNumber 1 6 l ≡ 0) where
       dots-lawful 1 6 l z (isKind 1) 1 0 0
       (λ x i t. let k = eqb-true (x .kind) 1 t in let g = fine 1 6 l z x i in record {
         kind-is = k;
-        key-is = no-key 1 6 x g 10 (ap maskOf k) refl;
-        index-is = no-index 1 6 x g 10 (ap maskOf k) refl;
-        counter = counter-from-one 1 6 x g 10 (ap maskOf k) refl (λ e. omega (arith, k)) (λ e. omega (arith, k));
+        key-is = no-key 1 6 x g k refl;
+        index-is = no-index 1 6 x g k refl;
+        counter = counter-from-one 1 6 x g k refl (λ e. omega (arith, k)) (λ e. omega (arith, k));
       })
 
   -- an entry that is whole

@@ -7,7 +7,6 @@ use mathlib.Core.List.{List, [], _∷_, List·Memᴰ·head, List·Memᴰ·tail, 
 use Prim.Native.Nat.{ℕ, _≤_, _<_, _%_}
 use native.Mathlib.Omega.{arith}
 use lib.Dec.{eqb, ltb}
-use lib.Bits.{bitAnd}
 use lib.ListN.{length, length-map}
 use borrow.Author.Tests.{eqb-true}
 use Rattle.lists.specs.Order.{_∈_, Ascending, nil, by}
@@ -19,11 +18,11 @@ use Rattle.clock.specs.Lawful.{Lawful}
 use Rattle.clock.proofs.Packs.{dots-of}
 use Rattle.map.specs.Valid.{RemovalWithin, UpdateWithin, OpWithin}
 use Rattle.records.specs.declared.Record.{Record}
-use Rattle.records.specs.Kinds.{maskOf}
 use Rattle.records.specs.Records.{recordsOf}
 use Rattle.scan.specs.Limits.{limitAt, innerLimits}
 use Rattle.scan.specs.Scanned.{scanNumber}
 use Rattle.scan.proofs.Eachs.{decide}
+use Rattle.records.proofs.Rule.{usesIndex, usesKey, usesNumber}
 use Rattle.scan.proofs.Rooms.{no-index, no-key, no-actor, counter-from-one, outer-room}
 use Rattle.scan.proofs.Scanning.{scan-good}
 use Rattle.clockimage.specs.Image.{isKind, dotOf, dotsIn}
@@ -47,22 +46,22 @@ last-that kind (x ∷ l) q = go (isKind kind x) refl (last-that kind l x) (last-
     go false f u v = ⊎-elim (λ m. inl (rw f (m .0), m .1)) (λ m. inr (List·Memᴰ·tail (m .0), m .1)) v
 
 module _ (l : List Record) (z : scanNumber 7 12 l ≡ 0) where
-  lawful : (kind : ℕ) → eqb (maskOf kind) 10 ≡ true → (kind ≡ 3 → ⊥) → (kind ≡ 11 → ⊥) → Lawful (dotsIn (isKind kind) l)
-  lawful kind m three eleven =
+  lawful : (kind : ℕ) → usesIndex kind ≡ false → usesKey kind ≡ false → usesNumber kind ≡ true → (kind ≡ 3 → ⊥) → (kind ≡ 11 → ⊥) → Lawful (dotsIn (isKind kind) l)
+  lawful kind index key number three eleven =
       dots-lawful 7 12 l z (isKind kind) kind 0 0
-      (λ x i t. let k = is-kind kind x t in let g = fine 7 12 l z x i in let mask = ap maskOf k ∙ eqb-true (maskOf kind) 10 m in record {
+      (λ x i t. let k = is-kind kind x t in let g = fine 7 12 l z x i in record {
         kind-is = k;
-        key-is = no-key 7 12 x g 10 mask refl;
-        index-is = no-index 7 12 x g 10 mask refl;
-        counter = counter-from-one 7 12 x g 10 mask refl (λ e. three (sym k ∙ e)) (λ e. eleven (sym k ∙ e));
+        key-is = no-key 7 12 x g k key;
+        index-is = no-index 7 12 x g k index;
+        counter = counter-from-one 7 12 x g k number (λ e. three (sym k ∙ e)) (λ e. eleven (sym k ∙ e));
       })
 
   keys : Ascending (by (λ k. k)) (keysIn (isKind 9) l)
   keys =
       keys-rise 7 12 l z (isKind 9) 9 0
-      (λ x i t. let k = is-kind 9 x t in let g = fine 7 12 l z x i in record { kind-is = k; index-is = no-index 7 12 x g 4 (ap maskOf k) refl; no-actor = no-actor 7 12 x g 4 (ap maskOf k) refl })
+      (λ x i t. let k = is-kind 9 x t in let g = fine 7 12 l z x i in record { kind-is = k; index-is = no-index 7 12 x g k refl; no-actor = no-actor 7 12 x g k refl })
 
-  dots-few : (kind : ℕ) → (kind ≡ 6 → ⊥) → eqb (bitAnd (maskOf kind) 1) 0 ≡ true → eqb (bitAnd (maskOf kind) 4) 0 ≡ true → limitAt innerLimits kind ≡ 8
+  dots-few : (kind : ℕ) → (kind ≡ 6 → ⊥) → usesIndex kind ≡ false → usesKey kind ≡ false → limitAt innerLimits kind ≡ 8
       → length (dotsIn (isKind kind) l) ≤ 8
   dots-few kind six a b e =
       few-dots 7 12 (isKind kind) 8 (λ m r y t. let h = dots-room 7 12 m r y kind (is-kind kind r t) six a b in omega (arith, length-map (those (isKind kind) m) dotOf)) l z
@@ -74,7 +73,7 @@ module _ (l : List Record) (z : scanNumber 7 12 l ≡ 0) where
 
   removal : RemovalWithin (removalIn l)
   removal = record {
-    valid = removal-as (dotsIn (isKind 8) l) (keysIn (isKind 9) l) (lawful 8 refl (λ e. omega arith) (λ e. omega arith)) keys;
+    valid = removal-as (dotsIn (isKind 8) l) (keysIn (isKind 9) l) (lawful 8 refl refl refl (λ e. omega arith) (λ e. omega arith)) keys;
     dots = rw (under-as (dotsIn (isKind 8) l) (keysIn (isKind 9) l)) (dots-few 8 (λ e. omega arith) refl refl refl);
     keys = rw (listed-as (dotsIn (isKind 8) l) (keysIn (isKind 9) l)) keys-few;
   }
@@ -84,7 +83,7 @@ module _ (l : List Record) (z : scanNumber 7 12 l ≡ 0) where
   head-counter u =
       ⊎-elim
       (λ m. absurd (let e = eqb-true (howMany 10 l) 1 u in omega (arith, ap length (m .0))))
-      (λ m. let k = is-kind 10 (recordOf 10 l) (m .1) in counter-from-one 7 12 (recordOf 10 l) (fine 7 12 l z (recordOf 10 l) (m .0)) 14 (ap maskOf k) refl (λ e. omega (arith, k)) (λ e. omega (arith, k)))
+      (λ m. let k = is-kind 10 (recordOf 10 l) (m .1) in counter-from-one 7 12 (recordOf 10 l) (fine 7 12 l z (recordOf 10 l) (m .0)) k refl (λ e. omega (arith, k)) (λ e. omega (arith, k)))
       (last-that 10 l noRecord)
 
   update : eqb (howMany 10 l) 1 ≡ true → UpdateWithin (updateIn l)
@@ -94,7 +93,7 @@ module _ (l : List Record) (z : scanNumber 7 12 l ≡ 0) where
         valid = record {
           dot = head-counter u;
           laid = ap (λ c. record { clock = clockOf c; value = recordOf 11 l .number }) (sym e);
-          clock = rw e (lawful 12 refl (λ e. omega arith) (λ e. omega arith));
+          clock = rw e (lawful 12 refl refl refl (λ e. omega arith) (λ e. omega arith));
         };
         dots = rw e (dots-few 12 (λ e. omega arith) refl refl refl);
       }

@@ -1,6 +1,6 @@
 -- The waiting removals of an accepted map's image are valid and within the limits.
 -- Assumes nothing.
-use mathlib.Core.Path.{_≡_, refl, ap, ap₂, sym, _∙_}
+use mathlib.Core.Path.{_≡_, refl, ap₂, sym, _∙_}
 use mathlib.Core.Bool.{true, false, cond}
 use mathlib.Core.Logic.{⊎-elim}
 use mathlib.Core.List.{List, [], _∷_, _++_, map, List·Memᴰ·head, List·Memᴰ·not-nil, List·Memᴰ·eq-of-singleton, List·Memᴰ·append-cases, Memᴰ·of-map, Memᴰ·append-left, Memᴰ·append-right}
@@ -25,7 +25,6 @@ use Rattle.parts.specs.Valid.{ValidRemoval, ValidWaiting}
 use Rattle.parts.proofs.Clocks.{removal-strict, removal-steady}
 use Rattle.parts.proofs.Bounds.{RemovalFits}
 use Rattle.records.specs.declared.Record.{Record}
-use Rattle.records.specs.Kinds.{maskOf}
 use Rattle.scan.specs.Each.{each}
 use Rattle.scan.specs.Scanned.{scanNumber}
 use Rattle.scan.proofs.Eachs.{decide, each-snoc, both, both-left, both-right}
@@ -98,7 +97,7 @@ count-good = by-records (λ l. scanNumber 1 6 l ≡ 0 → each placed l ≡ true
         (λ f. let e : waitingCount (l ++ (r ∷ [])) ≡ waitingCount l = count-more l r ∙ rw f in
         record { held = λ i b. let (s, m, u) = h .held i (omega arith) in (s, Memᴰ·append-left (r ∷ []) m, u); few = let g = h .few in omega arith })
 
-below-has : (n i : ℕ) → i ∈ below n → i < n
+pub below-has : (n i : ℕ) → i ∈ below n → i < n
 unfolding below
 below-has zero i m = absurd (List·Memᴰ·not-nil m)
 below-has (suc n) i m = ⊎-elim (λ j. let h = below-has n i j in omega arith) (λ j. omega (arith, List·Memᴰ·eq-of-singleton j)) (List·Memᴰ·append-cases (below n) m)
@@ -119,15 +118,15 @@ module _ (l : List Record) (z : scanNumber 1 6 l ≡ 0) (p : each placed l ≡ t
         dots-lawful 1 6 l z (underIndex 5 index) 5 0 index
         (λ x i t. let k = at-index index 5 x t in let g = fine 1 6 l z x i in record {
           kind-is = k .0;
-          key-is = no-key 1 6 x g 11 (ap maskOf (k .0)) refl;
+          key-is = no-key 1 6 x g (k .0) refl;
           index-is = k .1;
-          counter = counter-from-one 1 6 x g 11 (ap maskOf (k .0)) refl (λ e. omega (arith, k .0)) (λ e. omega (arith, k .0));
+          counter = counter-from-one 1 6 x g (k .0) refl (λ e. omega (arith, k .0)) (λ e. omega (arith, k .0));
         })
 
     keys : Ascending (by (λ k. k)) (map (λ x. x .key) (those (underIndex 6 index) l))
     keys =
         keys-rise 1 6 l z (underIndex 6 index) 6 index
-        (λ x i t. let k = at-index index 6 x t in record { kind-is = k .0; index-is = k .1; no-actor = no-actor 1 6 x (fine 1 6 l z x i) 5 (ap maskOf (k .0)) refl })
+        (λ x i t. let k = at-index index 6 x t in record { kind-is = k .0; index-is = k .1; no-actor = no-actor 1 6 x (fine 1 6 l z x i) (k .0) refl })
 
     pub removal-valid : ValidRemoval (removalIn l index)
     removal-valid = removal-as _ _ lawful keys

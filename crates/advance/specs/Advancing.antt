@@ -31,9 +31,13 @@ module _ (c : Clock) (actor counter : ℕ) where
   abbrev pub advanceAnswer : Answer
   advanceAnswer = record { first = lentNumber c; second = 0; own = grownNumber (addDot (dotsOf c) dotGiven); bytes = [] }
 
-  -- "Adding a dot takes effect only if its counter is larger"; "clock unchanged in each"
-  unfoldable pub advancedClock : Clock
-  advancedClock = cond (eqb (numberOf advanceAnswer []) 0 && beyond (dotsOf c) dotGiven) (clockOf (addDot (dotsOf c) dotGiven)) c
+  -- "Adding a dot takes effect only if its counter is larger"
+  unfoldable pub takesEffect : Bool
+  takesEffect = eqb (numberOf advanceAnswer []) 0 && beyond (dotsOf c) dotGiven
+
+  -- "clock unchanged in each" refusal
+  abbrev pub advancedClock : Clock
+  advancedClock = cond takesEffect (clockOf (addDot (dotsOf c) dotGiven)) c
 
   abbrev pub advancedOf : Advanced
-  advancedOf = record { word = wordOf advanceAnswer []; clock = advancedClock }
+  advancedOf = record { word = wordOf advanceAnswer []; grew = takesEffect; clock = advancedClock }

@@ -7,9 +7,10 @@ use clock::Clock;
 use clock::DOTS;
 use clock::Dot;
 
-// The word, and the clock, which is the one given where the number is not 0.
+// The word, whether the dot took effect, and the clock, which is the one given where it did not.
 pub struct Advanced {
     pub word: u64,
+    pub grew: bool,
     pub clock: Clock,
 }
 
@@ -49,6 +50,7 @@ pub fn advance(clock: Clock, actor: u16, counter: u64) -> Advanced
     if number != 0 {
         return Advanced {
             word: answers::word(number),
+            grew: false,
             clock,
         };
     }
@@ -58,14 +60,20 @@ pub fn advance(clock: Clock, actor: u16, counter: u64) -> Advanced
         if grown.over {
             return Advanced {
                 word: answers::word(4),
+                grew: false,
                 clock,
             };
         }
         let next = grown.clock;
         return Advanced {
             word: 0,
+            grew: true,
             clock: next,
         };
     }
-    Advanced { word: 0, clock }
+    Advanced {
+        word: 0,
+        grew: false,
+        clock,
+    }
 }

@@ -5,19 +5,19 @@ use mathlib.Core.Bool.{Bool, true, false, cond}
 use mathlib.Core.List.{List, [], _∷_, _++_, map, Memᴰ·append-left, Memᴰ·append-right, List·Memᴰ·head}
 use Prim.Native.Nat.{ℕ, _<_}
 use lib.Dec.{eqb}
-use lib.Bits.{bitAnd}
 use lib.ListN.{length, length-map}
 use borrow.Author.Tests.{eqb-true}
 use Rattle.lists.specs.Order.{_∈_}
 use Rattle.lists.specs.Sift.{those}
 use Rattle.lists.proofs.Those.{those-same}
 use Rattle.records.specs.declared.Record.{Record}
-use Rattle.records.specs.Kinds.{recordOk, maskOf}
+use Rattle.records.specs.Kinds.{recordOk}
 use Rattle.scan.specs.Limits.{innerLimits, limitAt, sameMiddle}
 use Rattle.scan.specs.Scanned.{scanNumber}
 use Rattle.scan.proofs.Eachs.{decide}
 use Rattle.scan.proofs.Scans.{alike-middle}
 use Rattle.scan.proofs.Scanning.{scan-good}
+use Rattle.records.proofs.Rule.{usesIndex, usesKey}
 use Rattle.scan.proofs.Rooms.{those-yes, those-no, good-at, no-index, no-key, inner-room}
 use Rattle.clockimage.specs.Image.{isKind, dotOf, dotsIn}
 
@@ -35,7 +35,7 @@ pub dots-snoc : (test : Record → Bool) (l : List Record) (r : Record) → dots
 dots-snoc test l r = decide (test r) (λ t. dots-more test l r t ∙ rw t) (λ f. dots-same test l r f ∙ rw f)
 
 module _ (low high : ℕ) (l : List Record) (r : Record) (n : scanNumber low high (l ++ (r ∷ [])) ≡ 0) where
-  pub dots-room : (kind : ℕ) → r .kind ≡ kind → (kind ≡ 6 → ⊥) → eqb (bitAnd (maskOf kind) 1) 0 ≡ true → eqb (bitAnd (maskOf kind) 4) 0 ≡ true
+  pub dots-room : (kind : ℕ) → r .kind ≡ kind → (kind ≡ 6 → ⊥) → usesIndex kind ≡ false → usesKey kind ≡ false
       → length (dotsIn (isKind kind) l) < limitAt innerLimits kind
   dots-room kind k plain i y =
       let g = scan-good low high (l ++ (r ∷ [])) n in
@@ -55,6 +55,6 @@ module _ (low high : ℕ) (l : List Record) (r : Record) (n : scanNumber low hig
           decide (eqb (x .kind) kind)
           (λ t. let xk = eqb-true (x .kind) kind t in
           t ∙ sym (alike-middle r x (λ e. plain (sym k ∙ e)) (xk ∙ sym k)
-          (no-key low high x gx (maskOf kind) (ap maskOf xk) y ∙ sym (no-key low high r gr (maskOf kind) (ap maskOf k) y))
-          (no-index low high x gx (maskOf kind) (ap maskOf xk) i ∙ sym (no-index low high r gr (maskOf kind) (ap maskOf k) i))))
+          (no-key low high x gx xk y ∙ sym (no-key low high r gr k y))
+          (no-index low high x gx xk i ∙ sym (no-index low high r gr k i))))
           (λ f. f ∙ sym (rw (k, f)))

@@ -17,7 +17,7 @@ use Rattle.clock.specs.Dots.{dotLimit, clockOf}
 use Rattle.clock.specs.Lawful.{Lawful}
 use Rattle.records.specs.declared.Record.{Record}
 use Rattle.records.specs.Bytes.{Bytes}
-use Rattle.records.specs.Kinds.{before, recordOk, maskOf}
+use Rattle.records.specs.Kinds.{before, recordOk}
 use Rattle.records.specs.Records.{recordsOf, bytesOf}
 use Rattle.records.proofs.RoundTrips.{Fitting, by-fields, length-bytes, read-written, written-read, read-all-fit}
 use Rattle.scan.proofs.Eachs.{decide}
@@ -128,9 +128,9 @@ module _ (l : List Record) (n : scanNumber 1 1 l ≡ 0) where
       let k : x .kind ≡ 1 = omega arith in
       record {
         kind = k;
-        index = no-index 1 1 x g 10 (ap maskOf k) refl;
-        key = no-key 1 1 x g 10 (ap maskOf k) refl;
-        number = counter-from-one 1 1 x g 10 (ap maskOf k) refl (λ e. omega arith) (λ e. omega arith);
+        index = no-index 1 1 x g k refl;
+        key = no-key 1 1 x g k refl;
+        number = counter-from-one 1 1 x g k refl (λ e. omega arith) (λ e. omega arith);
       }
 
   those-first : those (isKind 1) l ≡ l

@@ -18,13 +18,13 @@ use Rattle.records.proofs.RoundTrips.{write-from}
 use Rattle.clockimage.specs.Image.{dotRecords}
 use Rattle.mapimage.specs.Sorted.{inOrder}
 use Rattle.mapimage.specs.MapImage.{flatFrom, entryRecords, waitingDots, waitingKeys, mapRecords}
-use Rattle.layout.specs.declared.Layout.{Layout}
-use Rattle.layout.specs.declared.Span.{Span}
-use Rattle.layout.specs.declared.Spans.{Spans}
+use Rattle.walks.specs.declared.Layout.{Layout}
+use Rattle.walks.specs.declared.Span.{Span}
+use Rattle.keyed.specs.declared.Spans.{Spans}
 use Rattle.layout.specs.Whole.{Lies}
-use Rattle.layout.specs.Keyed.{Holds, EntryLies}
-use Rattle.layout.proofs.Loops.{length-part, sections-end}
-use Rattle.layout.proofs.Entry.{heldAt, held-records}
+use Rattle.keyed.specs.Keyed.{Holds, EntryLies}
+use Rattle.walks.proofs.Loops.{length-part, sections-end}
+use Rattle.keyed.proofs.Entry.{heldAt, held-records}
 use Rattle.direct.specs.Reading.{Inside, recordsAt, keyRecords}
 
 -- the bytes of a span are those of its records

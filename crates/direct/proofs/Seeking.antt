@@ -11,11 +11,11 @@ use Rattle.map.specs.declared.Spent.the-variants.{Once}
 use Rattle.map.specs.Model.{entriesIn}
 use Rattle.map.specs.Asking.{isTwice, firstSpent}
 use Rattle.map.proofs.Askings.{or-this, or-next}
-use Rattle.layout.specs.declared.Layout.{Layout}
-use Rattle.layout.specs.declared.Stop.{Stop}
+use Rattle.walks.specs.declared.Layout.{Layout}
+use Rattle.keyed.specs.declared.Stop.{Stop}
 use Rattle.layout.specs.Whole.{Lies}
-use Rattle.layout.specs.Keyed.{Owned, Stops}
-use Rattle.layout.proofs.Walks.{owned-all, owned-end}
+use Rattle.keyed.specs.Keyed.{Owned, Stops}
+use Rattle.keyed.proofs.Walks.{owned-all, owned-end}
 
 -- the dots of the rest stand from `at` to `end`, and before them nothing was spent twice
 pub record Seeking (f : Entry → Spent) (all : List Entry) (s : List ℕ) (end at : ℕ) : Type 0 where

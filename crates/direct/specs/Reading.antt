@@ -4,9 +4,9 @@ use mathlib.Core.List.{List, _++_}
 use Prim.Native.Nat.{ℕ, _*_, _≤_}
 use lib.ListN.{length}
 use Rattle.records.specs.declared.Record.{Record}
-use Rattle.layout.specs.declared.Span.{Span}
-use Rattle.layout.specs.declared.Spans.{Spans}
-use Rattle.layout.specs.Walk.{part}
+use Rattle.walks.specs.declared.Span.{Span}
+use Rattle.keyed.specs.declared.Spans.{Spans}
+use Rattle.walks.specs.Walk.{part}
 
 -- a span within s
 pub record Inside (s : List ℕ) (r : Span) : Type 0 where

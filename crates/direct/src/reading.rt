@@ -9,9 +9,9 @@ ghost use Rattle.maprecords.specs.Related.{readMap};
 ghost use Rattle.answers.specs.Answer.{Answered};
 ghost use Rattle.layout.specs.Whole.{Lies};
 ghost use Rattle.direct.specs.Reading.{Inside, recordsAt, keyRecords};
-use layout::Layout;
-use layout::Span;
-use layout::Spans;
+use keyed::Spans;
+use walks::Layout;
+use walks::Span;
 
 fn size(span: Span) -> usize
     requires { ⌜ span .from ≤ span .to ⌝ }
@@ -47,7 +47,7 @@ pub fn give_key(map: &[u8], l: Layout, key: u32, out: &mut [u8]) -> u64
     requires { ⌜ Lies (now map) (readMap (now map) .map) l ⌝ }
     ensures { λ r. ⌜ Answered (record { first = 0; second = 0; own = 0; bytes = mapImage (readKey (readMap (now (map .entry)) .map) key) }) (now (out .entry)) (now (out .exit)) r ⌝ }
 {
-    let at = layout::keyed::spans_of(map, l, key);
+    let at = keyed::spans_of(map, l, key);
     let clock = Span {
         from: 0,
         to: l.second,

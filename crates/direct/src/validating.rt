@@ -8,10 +8,10 @@ ghost use Rattle.maprecords.specs.Related.{readMap};
 ghost use Rattle.layout.specs.Whole.{Lies, LaidOut};
 use clock::Clock;
 use layout::Laid;
-use layout::Layout;
 use map::Op;
 use map::Order;
 use map::Spent;
+use walks::Layout;
 
 // Whether an operation fits a map.
 pub fn order_of(map: &[u8], l: Laid, op: Op) -> Order
@@ -20,7 +20,7 @@ pub fn order_of(map: &[u8], l: Laid, op: Op) -> Order
 {
     if op.up {
         let u = op.update;
-        let held = layout::keyed::clock_at(map, l.layout, u.key);
+        let held = keyed::clock_at(map, l.layout, u.key);
         return map::asking::follow(l.clock, held, u.dot);
     }
     Order::Fits
@@ -34,7 +34,7 @@ fn spent_among(key: u32, ours: Clock, other: &[u8], l: Layout) -> Spent
     let end = l.third;
     let mut at = l.second;
     while at < end {
-        let theirs = layout::keyed::stop_at(other, at, end);
+        let theirs = keyed::stop_at(other, at, end);
         at = theirs.next;
         let found = map::asking::spent_under(key, ours, theirs.key, theirs.clock);
         if map::asking::twice(found) {
@@ -52,7 +52,7 @@ pub fn spent_between(map: &[u8], l: Layout, other: &[u8], theirs: Layout) -> Spe
     let end = l.third;
     let mut at = l.second;
     while at < end {
-        let ours = layout::keyed::stop_at(map, at, end);
+        let ours = keyed::stop_at(map, at, end);
         at = ours.next;
         let found = spent_among(ours.key, ours.clock, other, theirs);
         if map::asking::twice(found) {

@@ -1,7 +1,12 @@
 // A map image from standard input, printed a line a record: kind, index, actor, key and number; or only `refused N`.
+use libc::STDERR_FILENO;
 use libc::STDIN_FILENO;
 use libc::STDOUT_FILENO;
+use mapimage::MAP_LONGEST;
 use records::Record;
+
+// Room for one byte more than the longest image.
+const ROOM: usize = MAP_LONGEST + 1;
 
 fn print_field(x: u64, after: &[u8]) {
     io::print_decimal(STDOUT_FILENO, x);
@@ -35,9 +40,26 @@ fn show(map: &[u8]) {
     print_all(map);
 }
 
-// One byte more than the longest image is read, so that a longer input is seen to be longer.
+// Whether the input has ended: a read that fails, as one that brings more, says that it has not.
+fn ended() -> bool {
+    let mut more = [0u8; 1];
+    let got = libc::read(STDIN_FILENO, &mut more);
+    got == 0
+}
+
+// One byte more than the longest image is read, so that a longer input is seen to be longer. An input whose end was not
+// reached is no image: nothing is printed of it, and standard error says so.
 pub fn run() {
-    let mut space = [0u8; 14465];
+    let mut space = [0u8; ROOM];
     let n = io::read_full(STDIN_FILENO, &mut space);
+    if n < ROOM {
+        if !ended() {
+            io::write_all(
+                STDERR_FILENO,
+                b"mapdump: the input could not be read to its end\n",
+            );
+            return;
+        }
+    }
     show(&space[..n]);
 }

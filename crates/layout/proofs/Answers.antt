@@ -28,11 +28,11 @@ use Rattle.oneimage.proofs.Relates.{records-related}
 use Rattle.oneimage.proofs.Reread.{map-again}
 use Rattle.oneimage.proofs.Rewritten.{records-rewritten}
 use Rattle.parts.specs.Model.{entryLimit, waitingLimit}
-use Rattle.layout.specs.declared.Layout.{Layout}
+use Rattle.walks.specs.declared.Layout.{Layout}
 use Rattle.layout.specs.declared.Laid.{Laid}
-use Rattle.layout.specs.Walk.{part, dotTest, runEnd, entriesEnd, waitsEnd, keysGood}
+use Rattle.walks.specs.Walk.{part, dotTest, runEnd, entriesEnd, waitsEnd, keysGood}
 use Rattle.layout.specs.Whole.{recognised, recognisedAt, Parted, slowNumber, LaidOut}
-use Rattle.layout.proofs.Loops.{length-part}
+use Rattle.walks.proofs.Loops.{length-part}
 use Rattle.layout.proofs.Wholes.{Found, sections-mean, sections-hold}
 use Rattle.layout.proofs.Found.{part-append, all-records, sections-found}
 

@@ -26,8 +26,8 @@ use Rattle.clockimage.specs.Image.{dotRecord, dotRecords}
 use Rattle.mapimage.specs.MapImage.{flatFrom, valueRecord, valueRecords, entryRecords}
 use Rattle.oneimage.proofs.Stands.{place-in, flat-means-from}
 use Rattle.register.specs.Values.{valueLimit}
-use Rattle.layout.specs.declared.Passed.{Passed}
-use Rattle.layout.specs.Walk.{isNone, firstKey, ended, entriesEnd}
+use Rattle.walks.specs.declared.Passed.{Passed}
+use Rattle.walks.specs.Walk.{isNone, firstKey, ended, entriesEnd}
 use Rattle.layout.proofs.Runs.{OwnRun, run-own, own-lawful, own-covers, own-of}
 use Rattle.layout.proofs.Values.{threes, fours, Taken, values-mean, values-count}
 

@@ -18,10 +18,10 @@ use Rattle.clockimage.specs.Image.{dotRecord, dotRecords}
 use Rattle.mapimage.specs.Sorted.{inOrder}
 use Rattle.mapimage.specs.MapImage.{flatFrom, valueRecords, entryRecords, waitingDots, keyNumbers, numberRecord, waitingKeys, mapRecords}
 use Rattle.oneimage.proofs.Stands.{flat-means-from}
-use Rattle.layout.specs.declared.Layout.{Layout}
-use Rattle.layout.specs.Walk.{fieldOf, Splits, part}
+use Rattle.walks.specs.declared.Layout.{Layout}
+use Rattle.walks.specs.Walk.{fieldOf, Splits, part}
 use Rattle.layout.specs.Whole.{Sectioned, Parted}
-use Rattle.layout.proofs.Loops.{part-on, part-take, part-drop, length-part}
+use Rattle.walks.proofs.Loops.{part-on, part-take, part-drop, length-part}
 
 module _ (s : List ℕ) where
   -- a part in two

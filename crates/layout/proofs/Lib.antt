@@ -1,14 +1,9 @@
-pub mod Loops
 pub mod Runs
 pub mod Values
 pub mod Entered
 pub mod Waiting
-pub mod Keys
 pub mod Queued
 pub mod Slow
 pub mod Wholes
 pub mod Found
 pub mod Answers
-pub mod Entry
-pub mod Registers
-pub mod Walks

@@ -30,9 +30,9 @@ use Rattle.accepted.proofs.Waited.{under-as, listed-as, removal-as}
 use Rattle.oneimage.proofs.Stands.{Place, place-in, place-below, place-get, place-one, flat-has, flat-means}
 use Rattle.oneimage.proofs.Made.{place-of, of-place}
 use Rattle.oneimage.proofs.Places.{places-means}
-use Rattle.layout.specs.Walk.{keysGood}
+use Rattle.walks.specs.Walk.{keysGood}
 use Rattle.layout.proofs.Waiting.{Clocked, fives}
-use Rattle.layout.proofs.Keys.{KeyFields, rank, underOne, Listed, keys-hold}
+use Rattle.walks.proofs.Keys.{KeyFields, rank, underOne, Listed, keys-hold}
 
 -- the keys under an index
 abbrev pub keysUnder : ℕ → List Record → List ℕ

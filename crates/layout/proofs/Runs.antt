@@ -19,7 +19,7 @@ use Rattle.clock.specs.Lawful.{Lawful}
 use Rattle.records.specs.declared.Record.{Record}
 use Rattle.records.proofs.RoundTrips.{by-fields}
 use Rattle.clockimage.specs.Image.{dotOf, dotRecord, dotRecords}
-use Rattle.layout.specs.Walk.{dotTest, ownTest, runEnd}
+use Rattle.walks.specs.Walk.{dotTest, ownTest, runEnd}
 
 module _ (kind index key : ℕ) (test : Record → Bool) where
   -- the dots that a walk takes

@@ -22,8 +22,8 @@ use Rattle.records.proofs.RoundTrips.{by-fields}
 use Rattle.clockimage.specs.Image.{dotRecord, dotRecords}
 use Rattle.mapimage.specs.MapImage.{flatFrom, valueRecord, valueRecords}
 use Rattle.oneimage.proofs.Stands.{flat-means-from}
-use Rattle.layout.specs.declared.Passed.{Passed}
-use Rattle.layout.specs.Walk.{dotTest, valueTest, runEnd, valuesEnd}
+use Rattle.walks.specs.declared.Passed.{Passed}
+use Rattle.walks.specs.Walk.{dotTest, valueTest, runEnd, valuesEnd}
 use Rattle.layout.proofs.Runs.{DotRun, run-dots, run-lawful, run-of}
 
 -- a list in two parts and a rest

@@ -24,7 +24,7 @@ use Rattle.records.specs.declared.Record.{Record}
 use Rattle.clockimage.specs.Image.{dotOf, dotRecord, dotRecords}
 use Rattle.mapimage.specs.MapImage.{flatFrom, waitingDots}
 use Rattle.oneimage.proofs.Stands.{flat-means-from}
-use Rattle.layout.specs.Walk.{dotTest, runEnd, isNone, waitsEnd}
+use Rattle.walks.specs.Walk.{dotTest, runEnd, isNone, waitsEnd}
 use Rattle.layout.proofs.Runs.{DotRun, run-dots, run-lawful, run-of}
 use Rattle.layout.proofs.Entered.{none-nil}
 

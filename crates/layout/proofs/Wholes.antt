@@ -28,12 +28,12 @@ use Rattle.map.proofs.Accepts.{Fits, fits-means, fits-holds}
 use Rattle.records.specs.declared.Record.{Record}
 use Rattle.clockimage.specs.Image.{dotOf, dotRecord, dotRecords}
 use Rattle.clockimage.proofs.RoundTrip.{dots-back}
-use Rattle.layout.specs.Walk.{dotTest, runEnd, entriesEnd, waitsEnd, keysGood}
+use Rattle.walks.specs.Walk.{dotTest, runEnd, entriesEnd, waitsEnd, keysGood}
 use Rattle.layout.specs.Whole.{Sectioned, recognised}
 use Rattle.layout.proofs.Runs.{run-dots, run-lawful, run-of}
 use Rattle.layout.proofs.Entered.{Entered, entries-mean, entries-count}
 use Rattle.layout.proofs.Waiting.{Waited, waits-mean, waits-count}
-use Rattle.layout.proofs.Keys.{Listed, keys-mean}
+use Rattle.walks.proofs.Keys.{Listed, keys-mean}
 use Rattle.maprecords.proofs.Keys.{length-places}
 use Rattle.layout.proofs.Queued.{removalFor, removalsFor, keys-back, dots-back as clocks-back, removals-valid, removals-fit, keys-accepted}
 

@@ -15,8 +15,8 @@ use Rattle.clockimage.specs.Image.{dotOf, dotRecords}
 use Rattle.mapimage.specs.MapImage.{flatFrom, entryRecords, waitingDots, waitingKeys}
 use Rattle.clock.specs.Dots.{dotLimit}
 use Rattle.parts.specs.Model.{entryLimit, waitingLimit}
-use Rattle.layout.specs.Walk.{Sections, Splits, part, dotTest, runEnd, entriesEnd, waitsEnd, keysGood}
-use Rattle.layout.specs.declared.Layout.{Layout}
+use Rattle.walks.specs.Walk.{Sections, Splits, part, dotTest, runEnd, entriesEnd, waitsEnd, keysGood}
+use Rattle.walks.specs.declared.Layout.{Layout}
 use Rattle.layout.specs.declared.Laid.{Laid}
 
 -- six lists of records are the sections of a map's image

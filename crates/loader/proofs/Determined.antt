@@ -2,16 +2,15 @@
 -- Assumes nothing.
 use mathlib.Core.List.{List}
 use Prim.Native.Nat.{ℕ}
-use Rattle.answers.specs.Answer.{Answer, Answered}
 use Rattle.answers.proofs.Answers.{Same, same-answer}
-use Rattle.loader.specs.Calls.{bayAnswer, baysAnswer}
+use Rattle.loader.specs.Calls.{BayPromise, BaysPromise}
 
-abbrev Written : Answer → Type 0
-Written a = (out d e : List ℕ) (r s : ℕ) → Answered a out d r → Answered a out e s → Same d e r s
+abbrev Written : (List ℕ → List ℕ → ℕ → Type 0) → Type 0
+Written Promise = (out d e : List ℕ) (r s : ℕ) → Promise out d r → Promise out e s → Same d e r s
 
 pub record Determined : Type 0 where
-  pub bay : (map : List ℕ) (bay : ℕ) → Written (bayAnswer map bay)
-  pub bays : (map : List ℕ) → Written (baysAnswer map)
+  pub bay : (map : List ℕ) (bay : ℕ) → Written (BayPromise map bay)
+  pub bays : (map : List ℕ) → Written (BaysPromise map)
 
 pub determined : Determined
 determined = record {

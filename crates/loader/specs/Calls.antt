@@ -1,11 +1,11 @@
--- What the two calls of the loader answer, of the bytes and the number that they are given.
+-- What the two calls of the loader answer, of the bytes and the number that they are given, and their contracts.
 -- Assumes nothing.
 use mathlib.Core.Bool.{Bool, cond, _&&_}
 use mathlib.Core.List.{List}
 use Prim.Native.Nat.{ℕ}
 use lib.Dec.{leb}
 use Rattle.maprecords.specs.Related.{readMap}
-use Rattle.answers.specs.Answer.{Answer}
+use Rattle.answers.specs.Answer.{Answer, Answered}
 use Rattle.loader.specs.Reports.{reportAt, reportBytes, reportsAfter}
 
 -- "Keys 1 to 24 are bays."
@@ -36,3 +36,10 @@ baysAnswer map = record {
   own = 0;
   bytes = reportsAfter (readMap map .map) 0 bayCount;
 }
+
+-- the contract of each, which the code cites and `Determined` takes
+abbrev pub BayPromise : List ℕ → ℕ → List ℕ → List ℕ → ℕ → Type 0
+BayPromise map bay entry exit word = Answered (bayAnswer map bay) entry exit word
+
+abbrev pub BaysPromise : List ℕ → List ℕ → List ℕ → ℕ → Type 0
+BaysPromise map entry exit word = Answered (baysAnswer map) entry exit word

@@ -6,13 +6,12 @@ ghost use Rattle.lists.specs.First.{some};
 ghost use Rattle.register.specs.Values.{valuesOf};
 ghost use Rattle.records.specs.Records.{Wrote};
 ghost use Rattle.maprecords.specs.Related.{readMap};
-ghost use Rattle.answers.specs.Answer.{Answered};
 ghost use Rattle.layout.specs.Whole.{Lies};
 ghost use Rattle.loader.specs.Choice.{smallest, another, reportOf};
 ghost use Rattle.loader.specs.Reports.{reportAt, flagOf, reportBytes, reportsAfter};
-ghost use Rattle.loader.specs.Calls.{bayCount, isBay, bayAnswer, baysAnswer};
-use layout::Layout;
+ghost use Rattle.loader.specs.Calls.{bayCount, isBay, BayPromise, BaysPromise};
 use register::Register;
+use walks::Layout;
 
 // The keys that are bays: from 1 to this.
 pub const BAYS: u32 = 24;
@@ -88,7 +87,7 @@ fn report_at(map: &[u8], l: Layout, bay: u32) -> Report
     requires { ⌜ Lies (now map) (readMap (now map) .map) l ⌝ }
     ensures { λ r. ⌜ r ≡ reportAt (readMap (now (map .entry)) .map) bay ⌝ }
 {
-    choose(layout::keyed::register_at(map, l, bay))
+    choose(keyed::register_at(map, l, bay))
 }
 
 fn flag(b: bool) -> u8
@@ -131,7 +130,7 @@ fn is_bay(key: u32) -> bool
 
 #[no_mangle]
 pub extern "C" fn castribba_bay(map: &[u8], bay: u32, out: &mut [u8]) -> u64
-    ensures { λ r. ⌜ Answered (bayAnswer (now (map .entry)) bay) (now (out .entry)) (now (out .exit)) r ⌝ }
+    ensures { λ r. ⌜ BayPromise (now (map .entry)) bay (now (out .entry)) (now (out .exit)) r ⌝ }
 {
     let l = layout::lay_out(map);
     if l.number != 0 {
@@ -149,7 +148,7 @@ pub extern "C" fn castribba_bay(map: &[u8], bay: u32, out: &mut [u8]) -> u64
 
 #[no_mangle]
 pub extern "C" fn castribba_bays(map: &[u8], out: &mut [u8]) -> u64
-    ensures { λ r. ⌜ Answered (baysAnswer (now (map .entry))) (now (out .entry)) (now (out .exit)) r ⌝ }
+    ensures { λ r. ⌜ BaysPromise (now (map .entry)) (now (out .entry)) (now (out .exit)) r ⌝ }
 {
     let l = layout::lay_out(map);
     if l.number != 0 {

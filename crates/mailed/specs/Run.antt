@@ -7,13 +7,12 @@ use lib.ListN.{length}
 use Rattle.lists.specs.Order.{_∈_}
 use Rattle.records.specs.Bytes.{Bytes}
 use Rattle.mailbox.specs.Memory.{readerRoom}
-use Rattle.mailbox.specs.Machine.{begun, takeWord, takeIn}
-use Rattle.delivery.specs.Delivery.{Ended}
+use Rattle.promises.specs.Promises.{PiecesBeginPromise, PiecesTakePromise, PiecesEndPromise}
 
 -- pieces are taken one after the other: the memory before, the pieces, the words, the memory behind
 pub data Taking : List ℕ → List (List ℕ) → List ℕ → List ℕ → Type 0 where
   last : {w : List ℕ} → Taking w [] [] w
-  more : {w v u p : List ℕ} {pieces : List (List ℕ)} {words : List ℕ} {word : ℕ} → (word ≡ takeWord w) × (v ≡ takeIn w p) → Taking v pieces words u → Taking w (p ∷ pieces) (word ∷ words) u
+  more : {w v u p : List ℕ} {pieces : List (List ℕ)} {words : List ℕ} {word : ℕ} → PiecesTakePromise w p v word → Taking v pieces words u → Taking w (p ∷ pieces) (word ∷ words) u
 
 -- memory of a reader's size, whatever stands in it, and pieces of bytes
 pub record Lent (memory : List ℕ) (pieces : List (List ℕ)) : Type 0 where
@@ -26,8 +25,8 @@ pub record Run (memory : List ℕ) (pieces : List (List ℕ)) (entry left exit :
   pub lent : Lent memory pieces
   pub begins : List ℕ
   pub first : ℕ
-  pub began : (first ≡ 0) × (begins ≡ begun memory)
+  pub began : PiecesBeginPromise memory begins first
   pub words : List ℕ
   pub taken : List ℕ
   pub takes : Taking begins pieces words taken
-  pub ended : Ended taken entry left exit word
+  pub ended : PiecesEndPromise taken entry left exit word

@@ -2,6 +2,7 @@ pub mod Examples
 pub mod Removals
 pub mod Kept
 pub mod Uncovered
+pub mod Preserved
 pub mod Small
 pub mod Orders
 pub mod Accepts

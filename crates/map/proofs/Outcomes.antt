@@ -35,7 +35,8 @@ use Rattle.map.specs.Resetting.{reset}
 use Rattle.map.specs.Judging.{exceeding, judged}
 use Rattle.map.specs.Valid.{Within, RemovalWithin, UpdateWithin}
 use Rattle.map.proofs.Kept.{under-own, heldAfter, remove-laid, valid-remove, valid-update, valid-merge, valid-reset}
-use Rattle.map.proofs.Small.{small-remove, small-update, small-merge, small-reset}
+use Rattle.map.proofs.Preserved.{each-remove, each-update, each-merge, each-reset}
+use Rattle.map.proofs.Small.{small-rules, small-taken}
 use Rattle.map.proofs.Removals.{update-closed, merge-closed}
 use Rattle.map.proofs.Accepts.{fits-means}
 use Rattle.map.proofs.Verdicts.{outcome, judged-as, small-within, not-over, none-overfull, those-few, those-short}
@@ -55,7 +56,7 @@ module _ {m : Map} {r : Removal} (i : Within m) (j : RemovalWithin r) where
   remove-outcome w h d e p q =
       let x : remove m r ≡ mapAs (seenBy m) (removeEntries r (entriesIn m)) w = remove-laid (under-own (i .valid)) r ∙ ap (mapAs (seenBy m) (removeEntries r (entriesIn m))) h in
       ap judged x
-      ∙ judged-as (seenBy m) (removeEntries r (entriesIn m)) w (rw x at (valid-remove (i .valid) (j .valid))) (rw x at (small-remove (under-own (i .valid)) (small-within i) (j .valid) (j .dots)))
+      ∙ judged-as (seenBy m) (removeEntries r (entriesIn m)) w (rw x at (valid-remove (i .valid) (j .valid))) (rw x at (each-remove small-rules (under-own (i .valid)) (small-within i) (j .valid) (j .dots)))
       false false false d e (not-over dotLimit (seenBy m) (fits-means m (i .limits) .clock)) (not-over entryLimit (removeEntries r (entriesIn m)) removed-few) removed-full p q
 
 -- an update breaks the limit on dots, entries or values
@@ -71,7 +72,7 @@ module _ {m : Map} {u : Update} (i : Within m) (j : UpdateWithin u) (new : count
   update-outcome a b d p q r =
       let x = update-closed u (i .valid) new in
       ap judged x
-      ∙ judged-as grownClock grownEntries (those (waits grownClock) (waitingIn m)) (rw x at (valid-update (i .valid) (j .valid))) (rw x at (small-update (i .valid) (small-within i) (j .valid) (j .dots)))
+      ∙ judged-as grownClock grownEntries (those (waits grownClock) (waitingIn m)) (rw x at (valid-update (i .valid) (j .valid))) (rw x at (each-update small-rules (i .valid) (small-within i) (j .valid) (small-taken u (j .dots))))
       a b d false false p q r (not-over waitingLimit (those (waits grownClock) (waitingIn m)) (those-few i (waits grownClock))) (those-short i (waits grownClock))
 
   -- the update's entry takes the dot without breaking the limit that the map's clock keeps
@@ -97,7 +98,7 @@ module _ {m n : Map} (i : Within m) (j : Within n) where
   merge-outcome a b d e f p q r s t =
       let x = merge-closed (i .valid) (j .valid) in
       ap judged x
-      ∙ judged-as joinedClock joinedEntries joinedWaiting (rw x at (valid-merge (i .valid) (j .valid))) (rw x at (small-merge (i .valid) (j .valid) (small-within i) (small-within j))) a b d e f p q r s t
+      ∙ judged-as joinedClock joinedEntries joinedWaiting (rw x at (valid-merge (i .valid) (j .valid))) (rw x at (each-merge small-rules (i .valid) (j .valid) (small-within i) (small-within j))) a b d e f p q r s t
 
 -- a reset breaks the limit on the keys of one
 module _ {m : Map} (i : Within m) (c : List Dot) where
@@ -111,7 +112,7 @@ module _ {m : Map} (i : Within m) (c : List Dot) where
   unfolding reset
   reset-outcome h f t =
       let g = fits-means m (i .limits) in
-      judged-as (cutDots c (seenBy m)) (sift stays (cutEntry c) (entriesIn m)) (resetWaiting c (waitingIn m)) (valid-reset (i .valid) c) (small-reset (i .valid) (small-within i) c)
+      judged-as (cutDots c (seenBy m)) (sift stays (cutEntry c) (entriesIn m)) (resetWaiting c (waitingIn m)) (valid-reset (i .valid) c) (each-reset small-rules (i .valid) (small-within i) c)
       false false false false f
       (not-over dotLimit (cutDots c (seenBy m)) (omega (arith, cut-length c (seenBy m), g .clock))) (not-over entryLimit (sift stays (cutEntry c) (entriesIn m)) (omega (arith, length-sift stays (cutEntry c) (entriesIn m), g .count)))
       reset-full (not-over waitingLimit (resetWaiting c (waitingIn m)) h) t

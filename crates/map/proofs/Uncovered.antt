@@ -21,14 +21,14 @@ use Rattle.clock.proofs.Joins.{lawful-one}
 use Rattle.parts.specs.declared.Entry.{Entry}
 use Rattle.parts.specs.declared.Removal.{Removal}
 use Rattle.parts.specs.declared.Update.{Update}
-use Rattle.parts.specs.Model.{removalAs}
+use Rattle.parts.specs.Model.{removalAs, underOf}
 use Rattle.parts.specs.Entries.{removeEntries}
 use Rattle.parts.specs.Waits.{waits, clockBefore, unionKeys, uniteAll, uniteInto, resetWaiting}
 use Rattle.parts.specs.Valid.{ValidRemoval, ValidWaiting}
 use Rattle.parts.proofs.Pieces.{waiting-of}
 use Rattle.parts.proofs.Runs.{runs}
 use Rattle.parts.proofs.Waits.{waits-covers}
-use Rattle.parts.proofs.Held.{valid-one, waits-uncovered, waits-some, into-clocks}
+use Rattle.parts.proofs.Held.{valid-one, waits-uncovered, waits-some, into-each}
 use Rattle.map.specs.declared.Map.{Map}
 use Rattle.map.specs.Model.{seenBy, entriesIn, waitingIn, mapAs}
 use Rattle.map.specs.Removing.{remove, afresh}
@@ -54,7 +54,7 @@ held-waits seen {w} {r} v k f z i = go (waits seen r) refl i
     go : (b : Bool) → waits seen r ≡ b → z ∈ cond b (uniteInto w r) w → waits seen z ≡ true
     go true t j =
         waits-covers seen z
-        ∙ ap not (into-clocks v k (waits-some seen r t) (λ c. covers seen c ≡ false) (λ x p. waits-uncovered seen x (f x p)) (waits-uncovered seen r t) z j)
+        ∙ ap not (into-each (λ w. covers seen (underOf w) ≡ false) (λ x y a b p q. p) v k (waits-some seen r t) (λ x p. waits-uncovered seen x (f x p)) (waits-uncovered seen r t) z j)
     go false t j = f z j
 
 pub remove-waits : {m : Map} → Valid m → AllWait m → {r : Removal} → ValidRemoval r → AllWait (remove m r)

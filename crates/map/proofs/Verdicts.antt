@@ -51,7 +51,7 @@ judged-within e = rw e
 pub small-within : {m : Map} → Within m → Small m
 small-within {m} i =
     let f = fits-means m (i .limits) in
-    record { values = λ e j. record { each = f .entries e j .each }; waiting = λ r j. f .waiting r j .dots }
+    record { clock = tt; entries = λ e j. record { each = f .entries e j .each }; waiting = λ r j. f .waiting r j .dots }
 
 -- a list within a limit
 pub not-over : {A : Type 0} (limit : ℕ) (l : List A) → length l ≤ limit → exceeding limit l ≡ false

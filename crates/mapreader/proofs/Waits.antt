@@ -19,7 +19,7 @@ use Rattle.parts.specs.declared.Removal.{Removal}
 use Rattle.parts.specs.declared.Waiting.{Waiting}
 use Rattle.parts.specs.Model.{noRemoval, removalAs, waitingAs}
 use Rattle.records.specs.declared.Record.{Record}
-use Rattle.records.specs.Kinds.{recordOk, maskOf}
+use Rattle.records.specs.Kinds.{recordOk}
 use Rattle.scan.specs.Each.{each}
 use Rattle.scan.specs.Formed.{follows, wellFormed}
 use Rattle.scan.specs.Limits.{outer, middle, middleLimits, limitAt, tally}
@@ -37,7 +37,7 @@ use Rattle.mapreader.proofs.SoFar.{WaitingSoFar, WaitingNow}
 use Rattle.parts.proofs.Packs.{removal-pushed}
 use Rattle.maprecords.proofs.Packs.{removal-read, removal-changed}
 use Rattle.maprecords.proofs.Keys.{get-map, map-changed, map-same, length-below, get-below, unique-below}
-use Rattle.maprecords.proofs.Counts.{by-records, tally-grows, kinds-ascend, waiting-dots-room, waiting-keys-room}
+use Rattle.maprecords.proofs.Counts.{by-records, tally-grows, kinds-ascend, waiting-keys-room}
 
 count-snoc : (l : List Record) (r : Record) → waitingCount (l ++ (r ∷ [])) ≡ cond (isKind 5 r) (max (waitingCount l) (r .index + 1)) (waitingCount l)
 unfolding waitingCount fold
@@ -100,7 +100,7 @@ waits-counted l = by-records (λ m. each placed m ≡ true → wellFormed 1 6 m 
         decide (eqb (r .index) (waitingCount m))
         (λ a. let q = eqb-true (r .index) (waitingCount m) a in
         let good = both-left (recordOk 1 6 r) _ (both-right (wellFormed 1 6 m) (follows 1 6 m r) wm) in
-        let c = counted-new m r k (no-key 1 6 r good 11 (ap maskOf k) refl) (omega arith) in omega arith)
+        let c = counted-new m r k (no-key 1 6 r good k refl) (omega arith) in omega arith)
         (λ a. let q = eqb-false (r .index) (waitingCount m) a in omega arith))
         (λ f. let e = count-same m r (eqb-false (r .kind) 5 f) in omega arith)
 
@@ -109,7 +109,7 @@ pub waits-room : (l : List Record) (r : Record) → each placed l ≡ true → s
 waits-room l r p z k i =
     let g = scan-good 1 6 (l ++ (r ∷ [])) z in
     let w = both-left (wellFormed 1 6 l) (follows 1 6 l r) (sym (formed-snoc 1 6 l r) ∙ g .0) in
-    let y = no-key 1 6 r (scan-last 1 6 l r z) 11 (ap maskOf k) refl in
+    let y = no-key 1 6 r (scan-last 1 6 l r z) k refl in
     let b = middle-few 1 6 l r (g .0) (g .1) in
     let e = ap (limitAt middleLimits) k in
     let same = ap₂ (λ a o. tally (λ x. eqb (x .kind) a && eqb (outer x) o) middle (l ++ (r ∷ []))) k (outer-key r (λ q. omega arith) ∙ y) in

@@ -3,11 +3,10 @@
 use mathlib.Core.Path.{_≡_, refl, ap, sym, _∙_}
 use mathlib.Core.Bool.{Bool, true, false, cond, _&&_, _||_}
 use mathlib.Core.Logic.{⊎-elim}
-use mathlib.Core.List.{List, [], _∷_, _++_, map, append-nil, append-assoc, List·Memᴰ·not-nil, List·Memᴰ·append-cases, List·Memᴰ·eq-of-singleton, Memᴰ·append-left}
+use mathlib.Core.List.{List, [], _∷_, _++_, append-nil, append-assoc, List·Memᴰ·not-nil, List·Memᴰ·append-cases, List·Memᴰ·eq-of-singleton, Memᴰ·append-left}
 use Prim.Native.Nat.{ℕ, _+_, _≤_, _<_}
 use native.Mathlib.Omega.{arith}
 use lib.Dec.{eqb}
-use lib.Bits.{bitAnd}
 use lib.ListN.{length, length-append, length-map}
 use borrow.Author.Tests.{eq-eqb, eqb-true, eqb-false}
 use Rattle.lists.specs.Order.{_∈_}
@@ -17,16 +16,16 @@ use Rattle.lists.specs.Fold.{fold}
 use Rattle.lists.proofs.Orders.{apart}
 use Rattle.lists.proofs.Those.{those-same}
 use Rattle.records.specs.declared.Record.{Record}
-use Rattle.records.specs.Kinds.{before, recordOk, maskOf}
-use Rattle.scan.specs.Each.{each}
+use Rattle.records.specs.Kinds.{before, recordOk}
 use Rattle.scan.specs.Formed.{follows, wellFormed}
-use Rattle.scan.specs.Limits.{outer, middle, outerLimits, middleLimits, innerLimits, limitAt, sameKind, sameOuter, sameMiddle, tally, within, room}
+use Rattle.scan.specs.Limits.{outer, middle, outerLimits, middleLimits, innerLimits, limitAt, sameKind, sameOuter, sameMiddle, tally, within}
 use Rattle.scan.specs.Scanned.{scanNumber}
 use Rattle.scan.proofs.Eachs.{decide, both, both-left, both-right, every-at, some-snoc, some-none}
 use Rattle.scan.proofs.Befores.{before-fields}
 use Rattle.scan.proofs.Tallies.{tally-snoc, tally-new, tally-other}
 use Rattle.scan.proofs.Scans.{formed-snoc, alike, alike-outer, alike-middle, alike-index, outer-key}
 use Rattle.scan.proofs.Scanning.{scan-good, scan-last}
+use Rattle.records.proofs.Rule.{usesActor}
 use Rattle.scan.proofs.Rooms.{good-at, no-index, no-key, inner-room, middle-room, outer-few}
 use Rattle.clockimage.specs.Image.{isKind, dotOf, dotsIn}
 use Rattle.maprecords.specs.Reading.{underKey, underIndex, underBoth, entryKeys}
@@ -71,7 +70,7 @@ module _ (l : List Record) (r : Record) (z : scanNumber 1 6 (l ++ (r ∷ [])) �
       (let b = inner-room 1 6 l r formed few (λ e. omega arith) in let e = ap (limitAt innerLimits) k in omega arith)
     where
       zero-index : (x : Record) → recordOk 1 6 x ≡ true → x .kind ≡ 2 → x .index ≡ 0
-      zero-index x g e = no-index 1 6 x g 14 (ap maskOf e) refl
+      zero-index x g e = no-index 1 6 x g e refl
 
       same : (x : Record) → x ∈ l → underKey 2 (r .key) x ≡ sameMiddle r x
       same x i =
@@ -85,7 +84,7 @@ module _ (l : List Record) (r : Record) (z : scanNumber 1 6 (l ++ (r ∷ [])) �
   pub values-room : r .kind ≡ 3 → length (those (underKey 3 (r .key)) l) < 4
   values-room k =
       rw (those-same (underKey 3 (r .key)) (sameOuter r) l same)
-      (let b = middle-room 1 6 l r formed few (ap (λ j. eqb (bitAnd (maskOf j) 2) 0) k) in let e = ap (limitAt middleLimits) k in omega arith)
+      (let b = middle-room 1 6 l r formed few (ap usesActor k) in let e = ap (limitAt middleLimits) k in omega arith)
     where
       same : (x : Record) → x ∈ l → underKey 3 (r .key) x ≡ sameOuter r x
       same x i =
@@ -116,7 +115,7 @@ module _ (l : List Record) (r : Record) (z : scanNumber 1 6 (l ++ (r ∷ [])) �
       (let b = inner-room 1 6 l r formed few (λ e. omega arith) in let e = ap (limitAt innerLimits) k in omega arith)
     where
       zero-key : (x : Record) → recordOk 1 6 x ≡ true → x .kind ≡ 5 → x .key ≡ 0
-      zero-key x g e = no-key 1 6 x g 11 (ap maskOf e) refl
+      zero-key x g e = no-key 1 6 x g e refl
 
       same : (x : Record) → x ∈ l → underIndex 5 (r .index) x ≡ sameMiddle r x
       same x i =
@@ -130,7 +129,7 @@ module _ (l : List Record) (r : Record) (z : scanNumber 1 6 (l ++ (r ∷ [])) �
   pub waiting-keys-room : r .kind ≡ 6 → length (those (underIndex 6 (r .index)) l) < 16
   waiting-keys-room k =
       rw (those-same (underIndex 6 (r .index)) (sameOuter r) l same)
-      (let b = middle-room 1 6 l r formed few (ap (λ j. eqb (bitAnd (maskOf j) 2) 0) k) in let e = ap (limitAt middleLimits) k in omega arith)
+      (let b = middle-room 1 6 l r formed few (ap usesActor k) in let e = ap (limitAt middleLimits) k in omega arith)
     where
       by-index : (x : Record) → x .kind ≡ 6 → outer x ≡ x .index
       by-index x e = rw (eq-eqb (x .kind) 6 e)

@@ -1,12 +1,11 @@
 -- What was read as an operation writes as it was.
 -- Assumes nothing.
 use mathlib.Core.Path.{_≡_, refl, ap, ap₂, sym, _∙_}
-use mathlib.Core.Bool.{true, cond}
+use mathlib.Core.Bool.{true, false, cond}
 use mathlib.Core.List.{List, [], _∷_, _++_, map, append-nil, List·Memᴰ·head, List·Memᴰ·tail}
 use Prim.Native.Nat.{ℕ, _+_}
 use native.Mathlib.Omega.{arith}
 use lib.Dec.{eqb, leb}
-use lib.Bits.{bitAnd}
 use lib.ListN.{length}
 use borrow.Author.Tests.{eqb-true, eqb-false, le-leb, lt-leb}
 use Rattle.lists.specs.Order.{_∈_}
@@ -18,11 +17,12 @@ use Rattle.clock.specs.Dots.{dotLimit, noDot, dotsOf}
 use Rattle.parts.specs.Model.{keyLimit}
 use Rattle.records.specs.declared.Record.{Record}
 use Rattle.records.specs.Bytes.{Bytes}
-use Rattle.records.specs.Kinds.{recordOk, maskOf}
+use Rattle.records.specs.Kinds.{recordOk}
 use Rattle.records.specs.Records.{recordsOf, bytesOf}
 use Rattle.records.proofs.RoundTrips.{by-fields, written-read}
 use Rattle.scan.specs.Scanned.{scanNumber}
 use Rattle.scan.proofs.Eachs.{decide, both-left, both-right}
+use Rattle.records.proofs.Rule.{usesIndex, usesKey}
 use Rattle.scan.proofs.Rooms.{good-at, kind-range, no-index, no-actor, no-key, no-number}
 use Rattle.scan.proofs.Scanning.{scan-good}
 use Rattle.scan.proofs.Builds.{formed-ascends}
@@ -95,17 +95,17 @@ module _ (l : List Record) (z : scanNumber 7 12 l ≡ 0) where
     plain : (x : Record) → x ∈ those (isKind kind) l → Plain x
     plain x i = let m = those-means (isKind kind) l i in record { kind-is = eqb-true (x .kind) kind (m .1); fine = good x (m .0) }
 
-    dots-again : eqb (bitAnd (maskOf kind) 1) 0 ≡ true → eqb (bitAnd (maskOf kind) 4) 0 ≡ true → dotRecords kind 0 0 (dotsIn (isKind kind) l) ≡ ofKind kind l
+    dots-again : usesIndex kind ≡ false → usesKey kind ≡ false → dotRecords kind 0 0 (dotsIn (isKind kind) l) ≡ ofKind kind l
     dots-again a b =
         made-again dotOf (dotRecord kind 0 0) (those (isKind kind) l)
-        (λ x i. let p = plain x i in let k = ap maskOf (p .kind-is) in
-        by-fields (sym (p .kind-is)) (sym (no-index 7 12 x (p .fine) (maskOf kind) k a)) refl (sym (no-key 7 12 x (p .fine) (maskOf kind) k b)) refl)
+        (λ x i. let p = plain x i in let k = p .kind-is in
+        by-fields (sym (p .kind-is)) (sym (no-index 7 12 x (p .fine) k a)) refl (sym (no-key 7 12 x (p .fine) k b)) refl)
 
   keys-again : map (keyRecord 9 0) (keysIn (isKind 9) l) ≡ ofKind 9 l
   keys-again =
       made-again (λ x. x .key) (keyRecord 9 0) (those (isKind 9) l)
-      (λ x i. let p = plain 9 x i in let k = ap maskOf (p .kind-is) in
-      by-fields (sym (p .kind-is)) (sym (no-index 7 12 x (p .fine) 4 k refl)) (sym (no-actor 7 12 x (p .fine) 4 k refl)) refl (sym (no-number 7 12 x (p .fine) 4 k refl)))
+      (λ x i. let p = plain 9 x i in let k = p .kind-is in
+      by-fields (sym (p .kind-is)) (sym (no-index 7 12 x (p .fine) k refl)) (sym (no-actor 7 12 x (p .fine) k refl)) refl (sym (no-number 7 12 x (p .fine) k refl)))
 
   one-of : (kind : ℕ) (x : Record) → those (isKind kind) l ≡ x ∷ [] → Plain kind x
   one-of kind x e = plain kind x (rw e (List·Memᴰ·head refl))
@@ -120,9 +120,9 @@ module _ (l : List Record) (z : scanNumber 7 12 l ≡ 0) where
       let d = both-right (eqb (howMany 11 l) 0) (eqb (howMany 12 l) 0) t11 in
       let one = one-left (those (isKind 7) l) a in
       let p = one-of 7 (one .0) (one .1) in
-      let k = ap maskOf (p .kind-is) in
+      let k = p .kind-is in
       let head : one .0 ≡ removalHead =
-      by-fields (p .kind-is) (no-index 7 12 (one .0) (p .fine) 0 k refl) (no-actor 7 12 (one .0) (p .fine) 0 k refl) (no-key 7 12 (one .0) (p .fine) 0 k refl) (no-number 7 12 (one .0) (p .fine) 0 k refl) in
+      by-fields (p .kind-is) (no-index 7 12 (one .0) (p .fine) k refl) (no-actor 7 12 (one .0) (p .fine) k refl) (no-key 7 12 (one .0) (p .fine) k refl) (no-number 7 12 (one .0) (p .fine) k refl) in
       rw (eqb-true (howMany 10 l) 0 b)
       (ap₂ (λ u h. removalHead ∷ (dotRecords 8 0 0 u ++ map (keyRecord 9 0) h)) (take-pad noDot dotLimit (dotsIn (isKind 8) l)) (take-pad 0 keyLimit (keysIn (isKind 9) l))
       ∙ ap₂ (λ u h. removalHead ∷ (u ++ h)) (dots-again 8 refl refl) keys-again
@@ -144,13 +144,13 @@ module _ (l : List Record) (z : scanNumber 7 12 l ≡ 0) where
       let v = one-left (those (isKind 11) l) b in
       let p = one-of 10 (h .0) (h .1) in
       let q = one-of 11 (v .0) (v .1) in
-      let k = ap maskOf (q .kind-is) in
+      let k = q .kind-is in
       let head : updateHead (updateIn l) ≡ h .0 =
       ap (λ x. record { kind = 10; index = 0; actor = x .actor; key = x .key; number = x .number }) (only 10 l (h .0) (h .1))
-      ∙ by-fields (sym (p .kind-is)) (sym (no-index 7 12 (h .0) (p .fine) 14 (ap maskOf (p .kind-is)) refl)) refl refl refl in
+      ∙ by-fields (sym (p .kind-is)) (sym (no-index 7 12 (h .0) (p .fine) (p .kind-is) refl)) refl refl refl in
       let value : putValue (updateIn l) ≡ v .0 =
       ap (λ x. record { kind = 11; index = 0; actor = 0; key = 0; number = x .number }) (only 11 l (v .0) (v .1))
-      ∙ by-fields (sym (q .kind-is)) (sym (no-index 7 12 (v .0) (q .fine) 8 k refl)) (sym (no-actor 7 12 (v .0) (q .fine) 8 k refl)) (sym (no-key 7 12 (v .0) (q .fine) 8 k refl)) refl in
+      ∙ by-fields (sym (q .kind-is)) (sym (no-index 7 12 (v .0) (q .fine) k refl)) (sym (no-actor 7 12 (v .0) (q .fine) k refl)) (sym (no-key 7 12 (v .0) (q .fine) k refl)) refl in
       rw (eqb-true (howMany 10 l) 1 a)
       (ap₂ (λ x y. x ∷ (y ∷ dotRecords 12 0 0 (dotsOf (updateIn l .put .clock)))) head value
       ∙ ap (λ m. h .0 ∷ (v .0 ∷ m)) (ap (dotRecords 12 0 0) (take-pad noDot dotLimit (dotsIn (isKind 12) l)) ∙ dots-again 12 refl refl ∙ sym (append-nil (ofKind 12 l)))

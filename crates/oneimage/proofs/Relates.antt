@@ -44,7 +44,7 @@ use Rattle.oneimage.proofs.Keyed.{keys-has, count-has}
 use Rattle.oneimage.proofs.Reread.{key-record, index-low, values-stand, entry-stands, waiting-stands, clock-again, entries-again, waiting-again}
 
 -- those before r, among ascending records
-abbrev ahead : Record → List Record → List Record
+abbrev pub ahead : Record → List Record → List Record
 ahead r l = those (λ s. before s r) l
 
 ahead-of : (seen : List Record) (x : Record) (l : List Record) → Ascending before (seen ++ (x ∷ l)) → ahead x (seen ++ (x ∷ l)) ≡ seen
@@ -64,7 +64,7 @@ module _ (test : List Record → Record → Bool) where
       both (test seen x) _ (ap (λ m. test m x) (sym (ahead-of seen x l a)) ∙ f x (List·Memᴰ·head refl))
       (each-after (seen ++ (x ∷ [])) l (rw (append-assoc seen (x ∷ []) l) a) (rw (append-assoc seen (x ∷ []) l) (λ r i. f r (List·Memᴰ·tail i))))
 
-  each-of : (l : List Record) → Ascending before l → ((r : Record) → r ∈ l → test (ahead r l) r ≡ true) → each test l ≡ true
+  pub each-of : (l : List Record) → Ascending before l → ((r : Record) → r ∈ l → test (ahead r l) r ≡ true) → each test l ≡ true
   each-of l a f = each-after [] l a f
 
 -- so many values stand before a value as its place says
@@ -87,7 +87,7 @@ module _ (key : ℕ) where
       let same : i + suc j ≡ i + 1 + j = omega arith in
       rw (same, by-index (valueRecord key i y) (valueRecord key (i + 1 + j) v) refl refl (omega arith)) (ap suc (values-ahead (i + 1) p))
 
-neighbours-ascend : (l : List Removal) → Ascending removalBefore l → ascend l ≡ true
+pub neighbours-ascend : (l : List Removal) → Ascending removalBefore l → ascend l ≡ true
 unfolding ascend
 neighbours-ascend [] a = refl
 neighbours-ascend (v ∷ []) a = refl

@@ -1,12 +1,12 @@
 -- A good record of a map's image is the one that is written again of what it holds.
 -- Assumes nothing.
-use mathlib.Core.Path.{_≡_, refl, ap, sym, _∙_}
+use mathlib.Core.Path.{_≡_, refl, sym, _∙_}
 use mathlib.Core.Bool.{true}
 use Prim.Native.Nat.{ℕ, _<_}
 use native.Mathlib.Omega.{arith}
 use Rattle.register.specs.declared.Value.{Value}
 use Rattle.records.specs.declared.Record.{Record}
-use Rattle.records.specs.Kinds.{recordOk, maskOf}
+use Rattle.records.specs.Kinds.{recordOk}
 use Rattle.records.proofs.RoundTrips.{by-fields}
 use Rattle.scan.proofs.Rooms.{no-index, no-actor, no-key, no-number}
 use Rattle.clockimage.specs.Image.{isKind, dotOf, dotRecord}
@@ -23,25 +23,25 @@ module _ (r : Record) (good : recordOk 1 6 r ≡ true) where
   pub clock-fields : isKind 1 r ≡ true → Fields 1 0 0 r
   clock-fields t =
       let k = is-kind 1 r t in
-      record { kind-is = k; key-is = no-key 1 6 r good 10 (ap maskOf k) refl; index-is = no-index 1 6 r good 10 (ap maskOf k) refl }
+      record { kind-is = k; key-is = no-key 1 6 r good k refl; index-is = no-index 1 6 r good k refl }
 
   pub entry-fields : {key : ℕ} → underKey 2 key r ≡ true → Fields 2 key 0 r
-  entry-fields {key} t = let k = at-key key 2 r t in record { kind-is = k .0; key-is = k .1; index-is = no-index 1 6 r good 14 (ap maskOf (k .0)) refl }
+  entry-fields {key} t = let k = at-key key 2 r t in record { kind-is = k .0; key-is = k .1; index-is = no-index 1 6 r good (k .0) refl }
 
   pub value-dot-fields : {key index : ℕ} → underBoth 4 key index r ≡ true → Fields 4 key index r
   value-dot-fields {key} {index} t = let k = at-both key index r t in record { kind-is = k .0 .0; key-is = k .0 .1; index-is = k .1 }
 
   pub waiting-fields : {index : ℕ} → underIndex 5 index r ≡ true → Fields 5 0 index r
-  waiting-fields {index} t = let k = at-index index 5 r t in record { kind-is = k .0; key-is = no-key 1 6 r good 11 (ap maskOf (k .0)) refl; index-is = k .1 }
+  waiting-fields {index} t = let k = at-index index 5 r t in record { kind-is = k .0; key-is = no-key 1 6 r good (k .0) refl; index-is = k .1 }
 
   -- records that hold no dot
   pub value-remade : {key index : ℕ} (v : Value) → underKey 3 key r ≡ true → r .index ≡ index → v .value ≡ r .number → valueRecord key index v ≡ r
-  value-remade {key} v t e n = let k = at-key key 3 r t in by-fields (sym (k .0)) (sym e) (sym (no-actor 1 6 r good 13 (ap maskOf (k .0)) refl)) (sym (k .1)) n
+  value-remade {key} v t e n = let k = at-key key 3 r t in by-fields (sym (k .0)) (sym e) (sym (no-actor 1 6 r good (k .0) refl)) (sym (k .1)) n
 
   pub key-remade : {index : ℕ} → underIndex 6 index r ≡ true → index < 256 → numberRecord (keyNumber index (r .key)) ≡ r
   key-remade {index} t h =
       let k = at-index index 6 r t in
-      by-fields (sym (k .0)) (low ∙ sym (k .1)) (sym (no-actor 1 6 r good 5 (ap maskOf (k .0)) refl)) high (sym (no-number 1 6 r good 5 (ap maskOf (k .0)) refl))
+      by-fields (sym (k .0)) (low ∙ sym (k .1)) (sym (no-actor 1 6 r good (k .0) refl)) high (sym (no-number 1 6 r good (k .0) refl))
     where
       low : numberRecord (keyNumber index (r .key)) .index ≡ index
       low = omega arith

@@ -136,7 +136,7 @@ module _ {m : Map} (h : Within m) where
     pub index-low : j < 256
     index-low = let f = fits-means m (h .limits) .number in let b = place-below p in omega arith
 
-    under-again : dotsIn (underIndex 5 j) (mapRecords m) ≡ underOf q
+    pub under-again : dotsIn (underIndex 5 j) (mapRecords m) ≡ underOf q
     under-again =
         selected-back (underIndex 5 j) (records-ascend h) (dotRecord 5 j 0) dotOf (underOf q) (dots-ascend 5 j 0 (underOf q) (h .valid .waiting .each q (place-in p) .clock .rising)) (λ d. refl)
         (λ r i t. let k = at-index j 5 r t in

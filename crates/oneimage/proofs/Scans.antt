@@ -36,7 +36,7 @@ use Rattle.oneimage.proofs.Rising.{records-ascend}
 use Rattle.oneimage.proofs.Stands.{Place, place-in, place-below, place-one, Part, clock-dot, entry-dot, value, value-dot, waiting-dot, waiting-key, stands-part}
 use Rattle.oneimage.proofs.Reread.{key-record, of-kind, of-key, same-entry, index-low}
 
-below-has : (n i : ℕ) → i < n → i ∈ below n
+pub below-has : (n i : ℕ) → i < n → i ∈ below n
 unfolding below
 below-has zero i h = absurd (not-suc-le-zero h)
 below-has (suc n) i h =

@@ -1,8 +1,8 @@
 -- The order theorem over castribba_apply: runs of calls on images.
 -- Assumes nothing.
 use mathlib.Core.Path.{_≡_, refl, ap, sym, _∙_}
-use mathlib.Core.Bool.{true, false}
-use mathlib.Core.List.{List, [], _∷_, map, List·Memᴰ·head, List·Memᴰ·tail, Memᴰ·of-map, List·Permᴰ, List·Permᴰ·nil, List·Permᴰ·cons, List·Permᴰ·swap, List·Permᴰ·trans}
+use mathlib.Core.Bool.{false}
+use mathlib.Core.List.{List, [], _∷_, map, List·Memᴰ·head, List·Memᴰ·tail, Memᴰ·of-map, Memᴰ·map, Memᴰ·cast}
 use Prim.Native.Nat.{ℕ}
 use native.Mathlib.Omega.{arith}
 use borrow.Author.Tests.{eq-eqb, eqb-true, eqb-false}
@@ -10,7 +10,7 @@ use lib.Dec.{eqb}
 use lib.ListN.{length, replicate, length-replicate}
 use Rattle.lists.specs.Fold.{fold}
 use Rattle.lists.specs.Order.{_∈_}
-use Rattle.lists.proofs.Perms.{perm-in}
+use Rattle.parts.specs.declared.Removal.{Removal}
 use Rattle.parts.specs.Model.{listedIn}
 use Rattle.parts.specs.Entries.{listed}
 use Rattle.map.specs.declared.Map.{Map}
@@ -21,7 +21,6 @@ use Rattle.map.specs.Applying.{apply}
 use Rattle.map.specs.Judging.{overNumber, judged}
 use Rattle.map.specs.Valid.{ValidOp, Within, OpWithin}
 use Rattle.map.proofs.Kept.{valid-apply}
-use Rattle.map.proofs.Orders.{removes-perm}
 use Rattle.map.proofs.Accepts.{stage}
 use Rattle.scan.proofs.Eachs.{decide}
 use Rattle.opimage.specs.OpImage.{readOp}
@@ -31,53 +30,39 @@ use Rattle.answers.specs.Answer.{firstOf, numberOf}
 use Rattle.answers.proofs.Answers.{number-done}
 use Rattle.accepted.proofs.Maps.{map-within}
 use Rattle.accepted.proofs.Ops.{op-within}
+use Rattle.maplaws.specs.Among.{Exactly}
+use Rattle.selfmerge.specs.Pairs.{Independent}
+use Rattle.selfmerge.proofs.Either.{updates-trade}
 use Rattle.order.specs.Ends.{EndMap}
-use Rattle.castribba.specs.Calls.{applyAnswer}
-use Rattle.order.specs.Calls.{Done, step, Passed, none, more, end, MapImage, OpImage, RemovalImage, removalOf}
+use Rattle.promises.specs.Calls.{applyAnswer}
+use Rattle.order.specs.Calls.{Done, step, Passed, none, more, end, Trade, MapImage, OpImage, RemovalImage, UpdateImage, removalOf, updateOf, RemovalImages}
 use Rattle.order.proofs.Runs.{Removals, maps-end}
+use Rattle.order.proofs.Unique.{ends-same, same-removals}
 use Rattle.order.proofs.Trades.{maps-trade}
 use Rattle.oneimage.specs.One.{GoodMap}
-use Rattle.order.proofs.Narrow.{narrow-apply}
+use Rattle.readsback.proofs.Goods.{good-apply}
+use Rattle.readsback.proofs.Images.{map-bytes}
+use Rattle.readsback.proofs.Back.{zeros, judged-number, judged-map}
 use Rattle.oneimage.proofs.Fields.{op-narrow}
 use Rattle.oneimage.proofs.Sizes.{image-most}
 use Rattle.oneimage.proofs.Again.{reads-written}
 use Rattle.oneimage.proofs.Maps.{one-map-image}
-
--- judging
-judged-number : (m : Map) → judged m .number ≡ overNumber m
-unfolding judged
-judged-number m = decide (eqb (overNumber m) 0) (λ t. rw t (sym (eqb-true (overNumber m) 0 t))) (λ f. rw f refl)
-
-judged-within : (m : Map) → overNumber m ≡ 0 → judged m .map ≡ m
-unfolding judged
-judged-within m z = rw (eq-eqb (overNumber m) 0 z) refl
-
--- the first number that is not 0
-first-zero : (n : ℕ) (l : List ℕ) → firstOf (n ∷ l) ≡ 0 → (n ≡ 0) × (firstOf l ≡ 0)
-unfolding firstOf
-first-zero n l e = decide (eqb n 0) (λ t. (eqb-true n 0 t, rw t at e)) (λ f. absurd (eqb-false n 0 f (rw f at e)))
 
 -- the image of a map within the limits
 pub record ImageOf (s : List ℕ) (m : Map) : Type 0 where
   pub image : s ≡ mapImage m
   pub good : GoodMap m
 
-reads : {s : List ℕ} {m : Map} → ImageOf s m → readMap s ≡ record { number = 0; map = m }
+pub reads : {s : List ℕ} {m : Map} → ImageOf s m → readMap s ≡ record { number = 0; map = m }
 reads r = ap readMap (r .image) ∙ reads-written (r .good .within) (r .good .narrow)
 
 -- what an accepted image reads as
-start : {s : List ℕ} → MapImage s → ImageOf s (readMap s .map)
+pub start : {s : List ℕ} → MapImage s → ImageOf s (readMap s .map)
 start {s} i = let a = one-map-image .again s (i .bytes) (i .accepted) in record { image = sym (a .1); good = a .0 }
 
-valid-op : {op : Op} → OpWithin op → ValidOp op
-valid-op h = record { removal = h .removal .valid; update = λ t. h .update t .valid }
-
--- lists of removals
-perm-map : {A B : Type 0} (f : A → B) {l m : List A} → List·Permᴰ l m → List·Permᴰ (map f l) (map f m)
-perm-map f List·Permᴰ·nil = List·Permᴰ·nil
-perm-map f (List·Permᴰ·cons e d) = List·Permᴰ·cons (ap f e) (perm-map f d)
-perm-map f (List·Permᴰ·swap e g) = List·Permᴰ·swap (ap f e) (ap f g)
-perm-map f (List·Permᴰ·trans d e) = List·Permᴰ·trans (perm-map f d) (perm-map f e)
+-- the image of a map within the limits is accepted
+pub image-accepted : {s : List ℕ} {m : Map} → ImageOf s m → MapImage s
+image-accepted r = record { bytes = rw (r .image) (map-bytes _ (r .good)); accepted = ap (λ q. q .number) (reads r) }
 
 module _ {s o : List ℕ} {m : Map} (r : ImageOf s m) (i : OpImage o) where
   abbrev next : Map
@@ -87,39 +72,38 @@ module _ {s o : List ℕ} {m : Map} (r : ImageOf s m) (i : OpImage o) where
   same = ap (λ q. judged (apply (q .map) (readOp o .op))) (reads r)
 
   -- a call that answers 0
-  done-means : Done s o → overNumber next ≡ 0
+  pub done-means : Done s o → overNumber next ≡ 0
   unfolding numberOf
   done-means d =
       let e = d (replicate mapLongest 0) (omega (arith, length-replicate {A = ℕ} mapLongest 0)) in
-      let a = first-zero (readMap s .number) _ e .1 in
-      let b = first-zero (readOp o .number) _ a .1 in
-      let c = first-zero (judged (apply (readMap s .map) (readOp o .op)) .number) _ b .0 in
-      sym (judged-number next) ∙ ap (λ q. q .number) (sym same) ∙ c
+      sym (judged-number next) ∙ ap (λ q. q .number) (sym same) ∙ zeros (applyAnswer s o) (replicate mapLongest 0) e .own
 
   module _ (z : overNumber next ≡ 0) where
-    next-within : Within next
-    next-within = record { valid = valid-apply (r .good .within .valid) (valid-op (op-within o)); limits = z }
+    next-good : GoodMap next
+    next-good = good-apply (r .good) (op-within o) (op-narrow o (i .bytes)) z
 
     step-is : step s o ≡ mapImage next
     unfolding step
-    step-is = ap (λ q. mapImage (q .map)) same ∙ ap mapImage (judged-within next z)
+    step-is = ap (λ q. mapImage (q .map)) same ∙ ap mapImage (judged-map next (judged-number next ∙ z))
 
     done-holds : Done s o
     unfolding step
     done-holds out n =
         number-done (applyAnswer s o) out (ap (λ q. q .number) (reads r)) (i .accepted)
-        (ap (λ q. q .number) same ∙ judged-number next ∙ z) (omega (arith, ap length step-is, image-most next-within))
+        (ap (λ q. q .number) same ∙ judged-number next ∙ z) (omega (arith, ap length step-is, image-most (next-good .within)))
 
-    image-next : ImageOf (step s o) next
-    image-next = record {
-      image = step-is;
-      good = record { within = next-within; narrow = narrow-apply (r .good .within .valid) (r .good .narrow) (valid-op (op-within o)) (op-narrow o (i .bytes)) };
-    }
+    pub image-next : ImageOf (step s o) next
+    image-next = record { image = step-is; good = next-good }
 
 -- a call with a removal
 removes-is : (m : Map) {o : List ℕ} → RemovalImage o → apply m (readOp o .op) ≡ remove m (removalOf o)
 unfolding apply
 removes-is m i = rw (i .removes) refl
+
+-- a call with an update
+updates-is : (m : Map) {o : List ℕ} → UpdateImage o → apply m (readOp o .op) ≡ update m (updateOf o)
+unfolding apply
+updates-is m i = rw (i .updates) refl
 
 valid-removals : (ops : List (List ℕ)) → Removals (map removalOf ops)
 valid-removals ops w i = let y = Memᴰ·of-map removalOf ops i in rw (← y .2) (op-within (y .0) .removal .valid)
@@ -139,7 +123,7 @@ module _ {s o : List ℕ} {m : Map} (r : ImageOf s m) (i : RemovalImage o) where
     removal-next = rw (removes-is m i) at (image-next r (i .image) over)
 
 -- every call answers 0 exactly when the end map is within the limits
-run-means : {s : List ℕ} {m : Map} {ops : List (List ℕ)} → ImageOf s m → ((o : List ℕ) → o ∈ ops → RemovalImage o) → Passed s ops → overNumber (fold remove m (map removalOf ops)) ≡ 0
+run-means : {s : List ℕ} {m : Map} {ops : List (List ℕ)} → ImageOf s m → RemovalImages ops → Passed s ops → overNumber (fold remove m (map removalOf ops)) ≡ 0
 unfolding fold
 run-means r f none = r .good .within .limits
 run-means {ops = o ∷ ops} r f (more d p) =
@@ -149,7 +133,7 @@ early : {m : Map} (o : List ℕ) (ops : List (List ℕ)) → Within m → overNu
 unfolding fold
 early o ops h z = stage (removalOf o ∷ []) (map removalOf ops) (h .valid) (valid-removals (o ∷ ops)) (h .limits) z
 
-run-holds : {s : List ℕ} {m : Map} (ops : List (List ℕ)) → ImageOf s m → ((o : List ℕ) → o ∈ ops → RemovalImage o) → overNumber (fold remove m (map removalOf ops)) ≡ 0 → Passed s ops
+run-holds : {s : List ℕ} {m : Map} (ops : List (List ℕ)) → ImageOf s m → RemovalImages ops → overNumber (fold remove m (map removalOf ops)) ≡ 0 → Passed s ops
 unfolding fold
 run-holds [] r f z = none
 run-holds (o ∷ ops) r f z =
@@ -158,42 +142,81 @@ run-holds (o ∷ ops) r f z =
     more (removal-holds r i y) (run-holds ops (removal-next r i y) (λ q j. f q (List·Memᴰ·tail j)) z)
 
 -- the last image is the end map's
-run-image : {s : List ℕ} {m : Map} (ops : List (List ℕ)) → ImageOf s m → ((o : List ℕ) → o ∈ ops → RemovalImage o) → overNumber (fold remove m (map removalOf ops)) ≡ 0 → ImageOf (end s ops) (fold remove m (map removalOf ops))
+run-image : {s : List ℕ} {m : Map} (ops : List (List ℕ)) → ImageOf s m → RemovalImages ops → overNumber (fold remove m (map removalOf ops)) ≡ 0 → ImageOf (end s ops) (fold remove m (map removalOf ops))
 unfolding fold
 run-image [] r f z = r
 run-image (o ∷ ops) r f z =
     let i = f o (List·Memᴰ·head refl) in
     run-image ops (removal-next r i (early o ops (r .good .within) z)) (λ q j. f q (List·Memᴰ·tail j)) z
 
-module _ {s : List ℕ} {ops : List (List ℕ)} (h : MapImage s) (f : (o : List ℕ) → o ∈ ops → RemovalImage o) where
+-- images of the same removals are the same removals
+same-among : {ops vs : List (List ℕ)} → ((o : List ℕ) → Exactly (o ∈ ops) (o ∈ vs)) → (w : Removal) → Exactly (w ∈ map removalOf ops) (w ∈ map removalOf vs)
+same-among {ops} {vs} e w = (
+  λ i. let y = Memᴰ·of-map removalOf ops i in Memᴰ·cast (sym (y .2)) (Memᴰ·map removalOf (e (y .0) .0 (y .1))),
+  λ i. let y = Memᴰ·of-map removalOf vs i in Memᴰ·cast (sym (y .2)) (Memᴰ·map removalOf (e (y .0) .1 (y .1))),
+)
+
+module _ {s : List ℕ} {ops : List (List ℕ)} (h : MapImage s) (f : RemovalImages ops) where
+  abbrev r : ImageOf s (readMap s .map)
+  r = start h
+
+  abbrev last : Map
+  last = fold remove (readMap s .map) (map removalOf ops)
+
   -- a run is accepted exactly when its end map is within the limits
-  pub accepted-when : (Passed s ops → overNumber (fold remove (readMap s .map) (map removalOf ops)) ≡ 0) × (overNumber (fold remove (readMap s .map) (map removalOf ops)) ≡ 0 → Passed s ops)
-  accepted-when = (λ p. run-means (start h) f p, λ z. run-holds ops (start h) f z)
+  pub accepted-when : Exactly (Passed s ops) (overNumber (fold remove (readMap s .map) (map removalOf ops)) ≡ 0)
+  accepted-when = (λ p. run-means r f p, λ z. run-holds ops r f z)
 
-  -- what its last image reads as
-  pub end-map : Passed s ops → (readMap (end s ops) .number ≡ 0) × EndMap (readMap s .map) (map removalOf ops) (readMap (end s ops) .map)
-  end-map p =
-      let r = reads (run-image ops (start h) f (run-means (start h) f p)) in
-      (ap (λ q. q .number) r, rw r (maps-end (map-within s .valid) (valid-removals ops)))
+  -- its last image
+  ends-in : Passed s ops → ImageOf (end s ops) last
+  ends-in p = run-image ops r f (run-means r f p)
 
-  -- accepted in one order, accepted in every order, and all end in one image
-  pub any-order : {vs : List (List ℕ)} → List·Permᴰ ops vs → Passed s ops → Passed s vs × (end s ops ≡ end s vs)
-  any-order {vs} d p =
-      let r = start h in
-      let g : (o : List ℕ) → o ∈ vs → RemovalImage o = λ o i. f o (perm-in d o i) in
-      let one = removes-perm (map-within s .valid) (perm-map removalOf d) (valid-removals ops) in
-      let z = run-means r f p in
-      let y = ap overNumber (sym one) ∙ z in
-      (run-holds vs r g y, run-image ops r f z .image ∙ ap mapImage one ∙ sym (run-image vs r g y .image))
+  -- what that reads as
+  pub end-map : Passed s ops → EndMap (readMap s .map) (map removalOf ops) (readMap (end s ops) .map)
+  end-map p = rw (reads (ends-in p)) (maps-end (map-within s .valid) (valid-removals ops))
 
--- an update and a removal that does not list its key: where neither order refuses, both end in one image
-pub update-trades : {s u r : List ℕ} → MapImage s → OpImage u → readOp u .op .up ≡ true → RemovalImage r → listed (listedIn (removalOf r)) (readOp u .op .update .key) ≡ false → Passed s (u ∷ r ∷ []) → Passed s (r ∷ u ∷ []) → end s (u ∷ r ∷ []) ≡ end s (r ∷ u ∷ [])
-unfolding fold apply
-update-trades {s} {u} {r} h i t j n (more d (more e none)) (more b (more c none)) =
-    let a = start h in
-    let p = image-next a i (done-means a i d) in
-    let q = removal-next a j (removal-means a j b) in
-    removal-next p j (removal-means p j e) .image ∙ ap mapImage (go t) ∙ sym (image-next q i (done-means q i c) .image)
+  -- no other image reads as such a map
+  pub only-map : Passed s ops → (other : List ℕ) → MapImage other → EndMap (readMap s .map) (map removalOf ops) (readMap other .map) → other ≡ end s ops
+  only-map p other i q =
+      start i .image
+      ∙ ap mapImage (ends-same (λ w. (λ j. j, λ j. j)) q (end-map p) (map-within other .valid) (map-within (end s ops) .valid) ∙ ap (λ x. x .map) (reads (ends-in p)))
+      ∙ sym (ends-in p .image)
+
+  -- the same removals, in another order or more than once, are accepted too, and end in the same image
+  pub same-end : {vs : List (List ℕ)} → ((o : List ℕ) → Exactly (o ∈ ops) (o ∈ vs)) → Passed s ops → Passed s vs × (end s vs ≡ end s ops)
+  same-end {vs} e p =
+      let g : RemovalImages vs = λ o i. f o (e o .1 i) in
+      let one = same-removals (map-within s .valid) (valid-removals ops) (valid-removals vs) (same-among e) in
+      let z = ap overNumber (sym one) ∙ run-means r f p in
+      (run-holds vs r g z, run-image vs r g z .image ∙ ap mapImage (sym one) ∙ sym (ends-in p .image))
+
+-- two operations that trade places on the map do so on its image, where neither order refuses
+pub neighbours : {s u v : List ℕ} {m : Map} → ImageOf s m → OpImage u → OpImage v → apply (apply m (readOp u .op)) (readOp v .op) ≡ apply (apply m (readOp v .op)) (readOp u .op) → Trade s u v
+unfolding fold
+neighbours r i j e (more a (more b none)) (more c (more d none)) =
+    let p = image-next r i (done-means r i a) in
+    let q = image-next r j (done-means r j c) in
+    image-next p j (done-means p j b) .image ∙ ap mapImage e ∙ sym (image-next q i (done-means q i d) .image)
+
+-- an update and a removal that does not list its key
+pub update-trades : {s u r : List ℕ} → MapImage s → UpdateImage u → RemovalImage r → listed (listedIn (removalOf r)) (updateOf u .key) ≡ false → Trade s u r
+update-trades {s} {u} {r} h i j n =
+    neighbours (start h) (i .image) (j .image)
+    (removes-is (apply m (readOp u .op)) j ∙ ap (λ x. remove x (removalOf r)) (updates-is m i)
+    ∙ sym (maps-trade (map-within s .valid) (op-within u .update (i .updates) .valid) (op-within r .removal .valid) n)
+    ∙ sym (updates-is (remove m (removalOf r)) i) ∙ ap (λ x. apply x (readOp u .op)) (sym (removes-is m j)))
   where
-    go : readOp u .op .up ≡ true → remove (apply (readMap s .map) (readOp u .op)) (removalOf r) ≡ apply (remove (readMap s .map) (removalOf r)) (readOp u .op)
-    go v = rw v (sym (maps-trade (map-within s .valid) (op-within u .update v .valid) (op-within r .removal .valid) n))
+    m : Map
+    m = readMap s .map
+
+-- two unseen updates by different actors on different keys, where nothing is waiting
+pub two-updates : {s u v : List ℕ} → MapImage s → UpdateImage u → UpdateImage v → Independent (readMap s .map) (updateOf u) (updateOf v) → Trade s u v
+two-updates {s} {u} {v} h i j a =
+    neighbours (start h) (i .image) (j .image)
+    (twice i j ∙ updates-trade (map-within s .valid) (op-within u .update (i .updates) .valid) (op-within v .update (j .updates) .valid) a ∙ sym (twice j i))
+  where
+    m : Map
+    m = readMap s .map
+
+    twice : {x y : List ℕ} → UpdateImage x → UpdateImage y → apply (apply m (readOp x .op)) (readOp y .op) ≡ update (update m (updateOf x)) (updateOf y)
+    twice {x} {y} k l = updates-is (apply m (readOp x .op)) l ∙ ap (λ n. update n (updateOf y)) (updates-is m k)

@@ -9,7 +9,7 @@ use Rattle.maprecords.specs.Related.{readMap}
 use Rattle.selfmerge.specs.Premises.{Standing, Untouched, Uncovered}
 use Rattle.selfmerge.proofs.Merges.{merge-self-accepted}
 use Rattle.oneimage.proofs.Maps.{one-map-image}
-use Rattle.castribba.specs.Calls.{mergeAnswer}
+use Rattle.promises.specs.Calls.{mergeAnswer}
 
 pub merged-with-itself : (s : List ℕ) → Bytes s → readMap s .number ≡ 0 → Standing (readMap s .map) → Untouched (readMap s .map) → Uncovered (readMap s .map)
     → mergeAnswer s s ≡ record { first = 0; second = 0; own = 0; bytes = s }

@@ -1,7 +1,10 @@
 pub mod Runs
+pub mod Unique
 pub mod Trades
 pub mod Crossing
-pub mod Narrow
 pub mod Images
+pub mod Composed
+pub mod AnyOrder
 pub mod Leaves
+pub mod Resets
 pub mod Itself

@@ -1,35 +1,39 @@
 -- A run of removals, on maps: accepted in every order or in none, one end map, and what that map is.
 -- Assumes nothing.
-use mathlib.Core.Path.{_≡_, refl, ap, _∙_}
-use mathlib.Core.Bool.{not}
+use mathlib.Core.Path.{_≡_, ap, sym, _∙_}
+use mathlib.Core.Bool.{true, false, not}
+use mathlib.Core.Logic.{_⊎_, inl, inr, ⊎-elim}
 use mathlib.Core.List.{List, List·Permᴰ}
-use Prim.Native.Nat.{ℕ}
+use borrow.Author.Tests.{not-true}
 use Rattle.lists.specs.Fold.{fold}
 use Rattle.lists.specs.Sift.{sift, those}
 use Rattle.lists.specs.Order.{_∈_}
-use Rattle.lists.proofs.Those.{those-same}
-use Rattle.clock.specs.Dots.{covers}
+use Rattle.lists.proofs.Orders.{apart}
+use Rattle.lists.proofs.Those.{Sifted, sift-means, sift-holds, those-means, those-holds}
+use Rattle.clock.specs.Dots.{isEmpty, covers, cutDots}
 use Rattle.parts.specs.declared.Entry.{Entry}
 use Rattle.parts.specs.declared.Removal.{Removal}
-use Rattle.parts.specs.Model.{underOf}
-use Rattle.parts.specs.Entries.{stays, cutEntry, entryAt}
+use Rattle.parts.specs.Model.{dotsIn, underOf}
+use Rattle.parts.specs.Entries.{stays, cutEntry}
 use Rattle.parts.specs.Waits.{waits, uniteInto}
 use Rattle.parts.specs.Valid.{ValidRemoval}
 use Rattle.parts.proofs.Pieces.{entries-of, waiting-of}
-use Rattle.parts.proofs.Cuts.{cut-key, gone-cut}
+use Rattle.parts.proofs.Cuts.{cut-key, cut-dots}
 use Rattle.parts.proofs.Runs.{supOf, Clocked, sup-above, sup-reached}
 use Rattle.parts.proofs.Waits.{waits-covers}
-use Rattle.parts.proofs.Keyed.{settled, entry-after}
-use Rattle.parts.proofs.Wholes.{at-every}
+use Rattle.parts.proofs.Trades.{ready-those}
 use Rattle.map.specs.declared.Map.{Map}
 use Rattle.map.specs.Model.{seenBy, entriesIn, waitingIn, mapAs}
 use Rattle.map.specs.Removing.{remove}
 use Rattle.map.specs.Judging.{overNumber}
 use Rattle.map.specs.Valid.{Valid, Within}
-use Rattle.map.proofs.Kept.{seen-of}
+use Rattle.map.proofs.Kept.{seen-of, valid-removes}
 use Rattle.map.proofs.Orders.{removes-closed, removes-perm}
 use Rattle.map.proofs.Accepts.{Accepted, end-accepted, accepted-end, accepted-perm}
-use Rattle.order.specs.Ends.{lessened, EndMap}
+use Rattle.maplaws.specs.Among.{OneOf, Exactly}
+use Rattle.maplaws.proofs.United.{Shared, united-exactly, shared-clock, shared-key}
+use Rattle.oneimage.proofs.Places.{same-rank}
+use Rattle.order.specs.Ends.{EndMap}
 
 abbrev pub Removals : List Removal → Type 0
 Removals ws = (w : Removal) → w ∈ ws → ValidRemoval w
@@ -43,10 +47,6 @@ module _ {m : Map} {ws : List Removal} (h : Within m) (f : Removals ws) where
   pub maps-accepted-when : (Accepted m ws → overNumber (fold remove m ws) ≡ 0) × (overNumber (fold remove m ws) ≡ 0 → Accepted m ws)
   maps-accepted-when = (accepted-end m ws, λ z. end-accepted (h .valid) f (h .limits) z)
 
--- the entry of a key has that key
-at-key : (k : ℕ) (l : List Entry) → entryAt k l .key ≡ k
-at-key k l = at-every (λ e. e .key ≡ k) k l (λ e i q. q) refl
-
 module _ {m : Map} {ws : List Removal} (h : Valid m) (f : Removals ws) where
   abbrev left : Entry → Entry
   left e = cutEntry (supOf ws (e .key)) e
@@ -54,26 +54,62 @@ module _ {m : Map} {ws : List Removal} (h : Valid m) (f : Removals ws) where
   clocked : Clocked ws
   clocked w i = f w i .clock
 
-  abbrev held : List Removal
-  held = fold uniteInto (waitingIn m) (those (waits (seenBy m)) ws)
+  abbrev joining : List Removal
+  joining = those (waits (seenBy m)) ws
 
-  whole : fold remove m ws ≡ mapAs (seenBy m) (sift stays left (entriesIn m)) held
+  whole : fold remove m ws ≡ mapAs (seenBy m) (sift stays left (entriesIn m)) (fold uniteInto (waitingIn m) joining)
   whole = removes-closed h clocked
 
-  -- what a key's entry becomes
-  at-end : (k : ℕ) → entryAt k (entriesIn (fold remove m ws)) ≡ lessened (supOf ws k) (entryAt k (entriesIn m))
-  unfolding lessened settled cutEntry
-  at-end k =
-      ap (λ n. entryAt k (entriesIn n)) whole ∙ ap (entryAt k) (entries-of (sift stays left (entriesIn m)))
-      ∙ entry-after left (λ e. cut-key (supOf ws (e .key)) e) (λ e. gone-cut (supOf ws (e .key)) e) (h .entries .rising) k
-      ∙ ap (λ n. settled (cutEntry (supOf ws n) (entryAt k (entriesIn m)))) (at-key k (entriesIn m))
+  entries-end : entriesIn (fold remove m ws) ≡ sift stays left (entriesIn m)
+  entries-end = ap (λ n. entriesIn n) whole ∙ entries-of (sift stays left (entriesIn m))
+
+  waiting-end : waitingIn (fold remove m ws) ≡ fold uniteInto (waitingIn m) joining
+  waiting-end = ap (λ n. waitingIn n) whole ∙ waiting-of (fold uniteInto (waitingIn m) joining)
+
+  valid-end : Valid (fold remove m ws)
+  valid-end = valid-removes h ws f
+
+  -- an entry at the end, and where it is from
+  from : (e : Entry) → e ∈ entriesIn (fold remove m ws) → Sifted stays left (entriesIn m) e
+  from e i = sift-means stays left (entriesIn m) (rw entries-end at i)
+
+  left-key : (e : Entry) → left e .key ≡ e .key
+  left-key e = cut-key (supOf ws (e .key)) e
+
+  -- an entry that was emptied
+  left-goes : (e : Entry) → isEmpty (cutDots (supOf ws (e .key)) (dotsIn e)) ≡ true → stays (left e) ≡ false
+  left-goes e t = ap not (ap isEmpty (cut-dots (supOf ws (e .key)) e) ∙ t)
+
+  -- one of those that wait, or one that the map's clock does not cover
+  module _ {Such : Removal → Type 0} (s : Shared Such) where
+    joined : Exactly (OneOf (waitingIn (fold remove m ws)) Such) (OneOf (waitingIn m) Such ⊎ OneOf joining Such)
+    joined = rw waiting-end (united-exactly s joining (h .waiting) (ready-those (seenBy m) f))
+
+  joins : (w : Removal) → w ∈ joining → (w ∈ ws) × (covers (seenBy m) (underOf w) ≡ false)
+  joins w i = let r = those-means (waits (seenBy m)) ws i in (r .0, not-true (covers (seenBy m) (underOf w)) (sym (waits-covers (seenBy m) w) ∙ r .1))
+
+  joining-holds : (w : Removal) → w ∈ ws → covers (seenBy m) (underOf w) ≡ false → w ∈ joining
+  joining-holds w i t = those-holds (waits (seenBy m)) i (waits-covers (seenBy m) w ∙ ap not t)
 
   -- the end map
   pub maps-end : EndMap m ws (fold remove m ws)
+  unfolding cutEntry
   maps-end = record {
-    clock = ap (λ n. seenBy n) whole ∙ seen-of (seenBy m) (sift stays left (entriesIn m)) held;
-    entries = λ k. (supOf ws k, record { above = sup-above clocked k; reached = sup-reached clocked k }, at-end k);
-    waiting =
-        ap (λ n. waitingIn n) whole ∙ waiting-of held
-        ∙ ap (fold uniteInto (waitingIn m)) (those-same (waits (seenBy m)) (λ w. not (covers (seenBy m) (underOf w))) ws (λ w i. waits-covers (seenBy m) w));
+    clock = ap (λ n. seenBy n) whole ∙ seen-of (seenBy m) (sift stays left (entriesIn m)) (fold uniteInto (waitingIn m) joining);
+    counters = supOf ws;
+    largest = λ k. record { above = sup-above clocked k; reached = sup-reached clocked k };
+    loses = λ e i. let s = from e i in (s .source, s .stands, s .changed);
+    keeps = λ e i t. rw entries-end (sift-holds stays left i (ap not (ap isEmpty (cut-dots (supOf ws (e .key)) e) ∙ t)));
+    emptied-values = λ e i v j. valid-end .entries .each e i .values v j .some;
+    emptied-entries = λ e i t g j q. let s = from g j in
+        let same : s .source ≡ e = same-rank (λ x. x .key) (h .entries .rising) (s .stands) i (sym (left-key (s .source)) ∙ ap (λ x. x .key) (sym (s .changed)) ∙ q) in
+        apart (sym (s .passes) ∙ ap stays (s .changed ∙ ap left same) ∙ left-goes e t);
+    waiting = λ c. let u = joined (shared-clock c) in (
+      λ q. ⊎-elim (λ t. inl t) (λ t. let r = joins (t .0) (t .1) in inr (t .0, r .0, (r .1, t .2))) (u .0 q),
+      λ q. u .1 (⊎-elim (λ t. inl t) (λ t. inr (t .0, joining-holds (t .0) (t .1) (t .2 .0), t .2 .1)) q),
+    );
+    waiting-keys = λ c k. let u = joined (shared-key c k) in (
+      λ q. ⊎-elim (λ t. inl t) (λ t. let r = joins (t .0) (t .1) in inr (t .0, r .0, (r .1, t .2))) (u .0 q),
+      λ q. u .1 (⊎-elim (λ t. inl t) (λ t. inr (t .0, joining-holds (t .0) (t .1) (t .2 .0), t .2 .1)) q),
+    );
   }

@@ -8,7 +8,6 @@ use lib.Dec.{ltb, leb}
 use borrow.Author.Tests.{leb-false, not-false}
 use Rattle.lists.specs.Fold.{fold}
 use Rattle.lists.specs.Sift.{sift, those}
-use Rattle.lists.specs.Order.{by}
 use Rattle.lists.proofs.Sifts.{sift-append}
 use Rattle.lists.proofs.Twice.{sift-same, sift-sift}
 use Rattle.clock.specs.declared.Dot.{Dot}
@@ -27,7 +26,7 @@ use Rattle.parts.proofs.Cuts.{Whole, whole-valid}
 use Rattle.parts.proofs.Runs.{from-key, from-other, gone-stays, whole-from, run-trade, run-whole, removes-changed}
 use Rattle.parts.proofs.Rounds.{run-unite, run-some}
 use Rattle.parts.proofs.Waits.{waits-covers, waits-same, unite-nil, unite-those}
-use Rattle.parts.proofs.Trades.{waits-some, waiting-one}
+use Rattle.parts.proofs.Held.{waits-some, valid-one}
 use Rattle.parts.proofs.Keyed.{settled, removed-entry}
 use Rattle.parts.proofs.Wholes.{at-every, put-some, whole-none}
 use Rattle.parts.proofs.Listed
@@ -38,18 +37,7 @@ use Rattle.map.specs.Updating.{update}
 use Rattle.map.specs.Valid.{Valid, ValidUpdate}
 use Rattle.map.proofs.Removals.{remove-as, update-closed}
 use Rattle.map.proofs.Kept.{seen-of, under-own, heldAfter, remove-laid, valid-remove, valid-put}
-
--- a test that a change does not disturb may come before it
-those-first : {A : Type 0} (p keep : A → Bool) (f : A → A) (l : List A) → ((x : A) → p (f x) ≡ p x) → those p (sift keep f l) ≡ sift keep f (those p l)
-unfolding sift
-those-first p keep f [] g = refl
-those-first p keep f (x ∷ l) g = go (keep (f x)) refl (p x) refl (those-first p keep f l g)
-  where
-    go : (b : Bool) → keep (f x) ≡ b → (c : Bool) → p x ≡ c → those p (sift keep f l) ≡ sift keep f (those p l) → those p (cond b (f x ∷ sift keep f l) (sift keep f l)) ≡ sift keep f (cond c (x ∷ those p l) (those p l))
-    go true s true t e = rw (g x, t, s) (ap (λ u. f x ∷ u) e)
-    go true s false t e = rw (g x, t) e
-    go false s true t e = rw s e
-    go false s false t e = e
+use Rattle.maplaws.proofs.OneKey.{those-first}
 
 module _ {seen : List Dot} {l : List Entry} (v : ValidEntries seen l) (u : Update) (p : 0 < u .dot .counter) (r : Removal) (n : listed (listedIn r) (u .key) ≡ false) where
   abbrev old : Entry
@@ -111,7 +99,7 @@ module _ {w : List Removal} {r : Removal} (v : ValidWaiting w) (q : ValidRemoval
     where
       go : (b : Bool) → waits c r ≡ b → run (cond b (uniteInto w r) w) (removeFrom r e) ≡ removeFrom r (run w e)
       go true t =
-          run-unite v (waiting-one q (waits-some c r t)) (whole-from r e h) ∙ ap (removeFrom r) (run-trade w (r ∷ []) e)
+          run-unite v (valid-one q (waits-some c r t)) (whole-from r e h) ∙ ap (removeFrom r) (run-trade w (r ∷ []) e)
           ∙ again (run-whole w h)
       go false t = run-trade w (r ∷ []) e
 
@@ -125,7 +113,7 @@ module _ {w : List Removal} {r : Removal} (v : ValidWaiting w) (q : ValidRemoval
       last false = unite-nil (those (waits d) w)
 
       go : (b : Bool) → waits c r ≡ b → those (waits d) (cond b (uniteInto w r) w) ≡ cond (waits d r) (uniteInto (those (waits d) w) r) (those (waits d) w)
-      go true e = unite-those (v .rising) (waiting-one q (waits-some c r e) .rising) (waits d) (waits-same d) ∙ last (waits d r)
+      go true e = unite-those (v .rising) (valid-one q (waits-some c r e) .rising) (waits d) (waits-same d) ∙ last (waits d r)
       go false e = rw (waits-later c d r t (q .clock) e) refl
 
 module _ {m : Map} {u : Update} {r : Removal} (h : Valid m) (k : ValidUpdate u) (q : ValidRemoval r) (n : listed (listedIn r) (u .key) ≡ false) where

@@ -1,35 +1,59 @@
 -- What a run of removals makes of a map, key by key.
 -- Assumes nothing.
 use mathlib.Core.Path.{_≡_}
-use mathlib.Core.Bool.{true, not, cond}
+use mathlib.Core.Bool.{Bool, true, false}
 use mathlib.Core.Logic.{_⊎_}
-use mathlib.Core.List.{List, []}
+use mathlib.Core.List.{List}
 use Prim.Native.Nat.{ℕ, _≤_}
-use Rattle.lists.specs.Fold.{fold}
-use Rattle.lists.specs.Sift.{those}
 use Rattle.lists.specs.Order.{_∈_}
 use Rattle.clock.specs.declared.Dot.{Dot}
-use Rattle.clock.specs.Dots.{counterIn, covers, cutDots}
+use Rattle.clock.specs.Dots.{dotsOf, isEmpty, counterIn, covers, cutDots}
+use Rattle.register.specs.declared.Value.{Value}
 use Rattle.register.specs.Values.{cutValues}
 use Rattle.parts.specs.declared.Entry.{Entry}
 use Rattle.parts.specs.declared.Removal.{Removal}
 use Rattle.parts.specs.Model.{dotsIn, valuesIn, entryAs, underOf, listedIn}
-use Rattle.parts.specs.Entries.{stays, listed, entryAt}
-use Rattle.parts.specs.Waits.{uniteInto}
+use Rattle.parts.specs.Entries.{listed}
 use Rattle.map.specs.declared.Map.{Map}
 use Rattle.map.specs.Model.{seenBy, entriesIn, waitingIn}
+use Rattle.maplaws.specs.Among.{OneOf, Under, Lists, Exactly}
 
 -- "the largest counters among the clocks that list" a key: at or above each of them, and one of them or 0
 pub record Largest (ws : List Removal) (k : ℕ) (c : List Dot) : Type 0 where
   pub above : (a : ℕ) (w : Removal) → w ∈ ws → listed (listedIn w) k ≡ true → counterIn (underOf w) a ≤ counterIn c a
-  pub reached : (a : ℕ) → (counterIn c a ≡ 0) ⊎ ((w : Removal) × (w ∈ ws) × (listed (listedIn w) k ≡ true) × (counterIn c a ≡ counterIn (underOf w) a))
+  pub reached : (a : ℕ)
+      → (counterIn c a ≡ 0) ⊎ ((w : Removal) × (w ∈ ws) × (listed (listedIn w) k ≡ true) × (counterIn c a ≡ counterIn (underOf w) a))
 
--- an entry after its clock and its values lose the dots at or below these counters; one with no dot left goes with all it holds
-unfoldable pub lessened : List Dot → Entry → Entry
-lessened c e = cond (stays (entryAs (e .key) (cutDots c (dotsIn e)) (cutValues c (valuesIn e)))) (entryAs (e .key) (cutDots c (dotsIn e)) (cutValues c (valuesIn e))) (entryAs (e .key) [] [])
+-- what becomes of an entry whose key has these largest counters: its clock and its values lose exactly the dots at or below them
+abbrev pub lessened : List Dot → Entry → Entry
+lessened c e = entryAs (e .key) (cutDots c (dotsIn e)) (cutValues c (valuesIn e))
 
--- the map that a run of removals ends in
+-- nothing is left of an entry's clock
+abbrev pub emptied : List Dot → Entry → Bool
+emptied c e = isEmpty (cutDots c (dotsIn e))
+
+-- a removal that the map's clock does not cover, and is such
+abbrev pub Uncovered : Map → (Removal → Type 0) → Removal → Type 0
+Uncovered m Such w = (covers (seenBy m) (underOf w) ≡ false) × Such w
+
+-- the map that removals end in: nothing here tells apart two lists that have the same removals, in another order or more than once
 pub record EndMap (m : Map) (ws : List Removal) (end : Map) : Type 0 where
+  -- the map clock stays as it is
   pub clock : seenBy end ≡ seenBy m
-  pub entries : (k : ℕ) → (c : List Dot) × Largest ws k c × (entryAt k (entriesIn end) ≡ lessened c (entryAt k (entriesIn m)))
-  pub waiting : waitingIn end ≡ fold uniteInto (waitingIn m) (those (λ w. not (covers (seenBy m) (underOf w))) ws)
+  -- "the largest counters among the clocks that list it", of each key
+  pub counters : ℕ → List Dot
+  pub largest : (k : ℕ) → Largest ws k (counters k)
+  -- "each key loses exactly the dots at or below" these: an entry at the end is an old one without them
+  pub loses : (f : Entry) → f ∈ entriesIn end → (e : Entry) × (e ∈ entriesIn m) × (f ≡ lessened (counters (e .key)) e)
+  -- and each old one that has a dot left stands there
+  pub keeps : (e : Entry) → e ∈ entriesIn m → emptied (counters (e .key)) e ≡ false → lessened (counters (e .key)) e ∈ entriesIn end
+  -- "emptied values go"
+  pub emptied-values : (f : Entry) → f ∈ entriesIn end → (v : Value) → v ∈ valuesIn f → isEmpty (dotsOf (v .clock)) ≡ false
+  -- "emptied entries go with all they hold": nothing is left under their keys
+  pub emptied-entries : (e : Entry) → e ∈ entriesIn m → emptied (counters (e .key)) e ≡ true
+      → (f : Entry) → f ∈ entriesIn end → f .key ≡ e .key → ⊥
+  -- "a removal joins those waiting exactly if the map's clock doesn't cover it": which clocks wait, also with no keys
+  pub waiting : (c : List Dot) → Exactly (OneOf (waitingIn end) (Under c)) (OneOf (waitingIn m) (Under c) ⊎ OneOf ws (Uncovered m (Under c)))
+  -- and which keys under each
+  pub waiting-keys : (c : List Dot) (k : ℕ)
+      → Exactly (OneOf (waitingIn end) (Lists c k)) (OneOf (waitingIn m) (Lists c k) ⊎ OneOf ws (Uncovered m (Lists c k)))

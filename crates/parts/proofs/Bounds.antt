@@ -27,7 +27,8 @@ use Rattle.parts.specs.Valid.{ValidWaiting}
 use Rattle.parts.proofs.Cuts.{cut-dots, cut-values}
 use Rattle.parts.proofs.Runs.{runs, from}
 use Rattle.parts.proofs.Waits.{unite-left, unite-keys}
-use Rattle.parts.proofs.Trades.{Ready, waiting-one, into-valid}
+use Rattle.parts.proofs.Held.{valid-one, valid-unite-into}
+use Rattle.parts.proofs.Trades.{Ready}
 
 -- an entry within the limits
 pub record EntryFits (e : Entry) : Type 0 where
@@ -93,4 +94,4 @@ unfolding fold
 into-fits [] h g f = f
 into-fits (w ∷ ws) {l} h g f =
     let q = g w (List·Memᴰ·head refl) in
-    unite-fits h (waiting-one (q .0) (q .1)) (into-fits ws (into-valid h (q .0) (q .1)) (λ v i. g v (List·Memᴰ·tail i)) f)
+    unite-fits h (valid-one (q .0) (q .1)) (into-fits ws (valid-unite-into h (q .0) (q .1)) (λ v i. g v (List·Memᴰ·tail i)) f)

@@ -1,23 +1,26 @@
 -- Cutting an entry twice, again, and by nothing; a cut leaves it laid down and keeps its key.
 -- Assumes nothing.
-use mathlib.Core.Path.{_≡_, refl, ap₂, sym, _∙_}
-use mathlib.Core.Bool.{true}
+use mathlib.Core.Path.{_≡_, refl, ap, ap₂, sym, _∙_}
+use mathlib.Core.Bool.{true, false}
 use mathlib.Core.List.{List, []}
+use Prim.Native.Nat.{ℕ}
 use Rattle.lists.specs.Order.{_∈_}
 use Rattle.clock.specs.declared.Dot.{Dot}
-use Rattle.clock.specs.Dots.{isEmpty, cutDots, joinDots}
+use Rattle.lists.proofs.Pads.{take-pad}
+use Rattle.clock.specs.Dots.{dotLimit, noDot, dotsOf, clockOf, isEmpty, cutDots, joinDots}
 use Rattle.clock.specs.Lawful.{Lawful}
-use Rattle.clock.proofs.Cuts.{cut-trade, cut-again, cut-none, lawful-cut}
-use Rattle.clock.proofs.Joins.{cut-cut}
+use Rattle.clock.proofs.Cuts.{cut-trade, cut-again, cut-none, lawful-cut, lawful-common}
+use Rattle.clock.proofs.Joins.{cut-cut, lawful-join}
 use Rattle.clock.proofs.Empties.{empty-cut}
 use Rattle.register.specs.declared.Value.{Value}
-use Rattle.register.specs.Values.{cutValues}
-use Rattle.register.proofs.Cuts.{Sound, cut-values-cut, cut-values-trade, cut-values-again, cut-values-none, sound-cut}
+use Rattle.register.specs.Values.{cutValue, cutValues}
+use Rattle.register.proofs.Cuts.{Sound, cut-values-cut, cut-values-trade, cut-values-again, cut-values-none}
 use Rattle.parts.specs.declared.Entry.{Entry}
 use Rattle.parts.specs.Model.{dotsIn, valuesIn, entryAs, Laid}
 use Rattle.parts.specs.Entries.{cutEntry}
 use Rattle.parts.specs.Valid.{ValidValue, ValidEntry}
 use Rattle.parts.proofs.Pieces.{dots-in, values-in}
+use Rattle.parts.proofs.Preserving.{Closed, Made, entry-cut}
 
 -- an entry laid down, with a clock that may be empty, and values under clocks that are not
 pub record Whole (e : Entry) : Type 0 where
@@ -28,17 +31,35 @@ pub record Whole (e : Entry) : Type 0 where
 pub whole-valid : {seen : List Dot} {e : Entry} → ValidEntry seen e → Whole e
 whole-valid h = record { laid = h .laid; clock = h .clock; values = h .values }
 
-valid-sound : {v : Value} → Sound v → ValidValue v
-valid-sound s = record { laid = s .0; clock = s .1; some = s .2 }
-
 sound-valid : {v : Value} → ValidValue v → Sound v
 sound-valid h = (h .laid, h .clock, h .some)
 
 pub cut-none-values : (l : List Value) → ((v : Value) → v ∈ l → ValidValue v) → cutValues [] l ≡ l
 cut-none-values l f = cut-values-none l (λ v i. sound-valid (f v i))
 
-pub valid-cut-values : (c : List Dot) (l : List Value) → ((v : Value) → v ∈ l → ValidValue v) → (v : Value) → v ∈ cutValues c l → ValidValue v
-valid-cut-values c l f v i = valid-sound (sound-cut c l (λ w j. f w j .clock) v i)
+pub valid-cut-value : (c : List Dot) (v : Value) → ValidValue v → isEmpty (cutDots c (dotsOf (v .clock))) ≡ false → ValidValue (cutValue c v)
+valid-cut-value c v h n =
+    let e = take-pad noDot dotLimit (cutDots c (dotsOf (v .clock))) in
+    record { laid = ap (λ x. record { clock = clockOf x; value = v .value }) (sym e); clock = rw e (lawful-cut c (h .clock)); some = rw e n }
+
+-- valid values under clocks: what cutting and joining keep
+pub lawful-closed : Closed Lawful ValidValue
+lawful-closed = record {
+  cut = λ by l h. lawful-cut by h;
+  common = λ l m h. lawful-common m h;
+  join = λ l m h k. lawful-join h k;
+  value = valid-cut-value;
+}
+
+pub whole-as : (k : ℕ) {c : List Dot} {l : List Value} → Lawful c → ((v : Value) → v ∈ l → ValidValue v) → Whole (entryAs k c l)
+whole-as k {c} {l} h f = record {
+  laid = sym (ap₂ (entryAs k) (dots-in k c l) (values-in k c l));
+  clock = rw (dots-in k c l) h;
+  values = rw (values-in k c l) f;
+}
+
+pub whole-made : Made (λ k. Unit {0}) Lawful ValidValue Whole
+whole-made = record { key = λ e h. tt; clock = λ e h. h .clock; values = λ e h. h .values; make = λ k c l t h f. whole-as k h f }
 
 module _ (c : List Dot) (e : Entry) where
   pub cut-key : cutEntry c e .key ≡ e .key
@@ -61,11 +82,7 @@ module _ (c : List Dot) (e : Entry) where
   gone-cut t = rw cut-dots (empty-cut c (dotsIn e) t)
 
   pub whole-cut : Whole e → Whole (cutEntry c e)
-  whole-cut h = record {
-    laid = laid-cut;
-    clock = rw cut-dots (lawful-cut c (h .clock));
-    values = rw cut-values (valid-cut-values c (valuesIn e) (h .values));
-  }
+  whole-cut h = entry-cut lawful-closed whole-made c e h
 
 -- a cut of an entry, by its dots and values
 cut-twice : (c d : List Dot) (e : Entry) → cutEntry d (cutEntry c e) ≡ entryAs (e .key) (cutDots d (cutDots c (dotsIn e))) (cutValues d (cutValues c (valuesIn e)))

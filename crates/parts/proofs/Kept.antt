@@ -1,32 +1,31 @@
 -- An entry stays valid: cut, with a dot and a put, merged, and under a larger clock.
 -- Assumes nothing.
-use mathlib.Core.Path.{_≡_, ap, sym, _∙_}
+use mathlib.Core.Path.{_≡_, ap, _∙_}
 use mathlib.Core.Bool.{Bool, true, false, cond}
 use mathlib.Core.List.{List, [], List·Memᴰ·not-nil}
 use Prim.Native.Nat.{ℕ, _<_}
 use Rattle.lists.specs.Order.{_∈_}
-use Rattle.lists.proofs.Orders.{apart}
 use Rattle.clock.specs.declared.Dot.{Dot}
 use Rattle.clock.specs.Dots.{dotsOf, isEmpty, covers, cutDots, joinDots, addDot}
 use Rattle.clock.specs.Lawful.{Lawful}
-use Rattle.clock.proofs.Cuts.{lawful-cut}
-use Rattle.clock.proofs.Joins.{lawful-nil, lawful-add}
-use Rattle.clock.proofs.Covers.{covers-trans, covers-cut}
-use Rattle.clock.proofs.Within.{nil-empty, covers-nil, covers-cuts, covers-adds, some-added}
+use Rattle.clock.proofs.Cuts.{lawful-cut, lawful-common}
+use Rattle.clock.proofs.Joins.{lawful-nil, lawful-join, lawful-add}
+use Rattle.clock.proofs.Covers.{covers-trans, covers-cut, covers-add, covers-join, covers-join-left, covers-join-right}
+use Rattle.clock.proofs.Within.{covers-nil, covers-common, covers-cuts, covers-adds}
 use Rattle.register.specs.declared.Value.{Value}
-use Rattle.register.specs.Values.{cutValues, putValues, mergeValues}
-use Rattle.register.proofs.Kept.{put-each, merge-each}
+use Rattle.register.specs.Values.{cutValues}
+use Rattle.register.proofs.Kept.{cut-each}
 use Rattle.parts.specs.declared.Entry.{Entry}
 use Rattle.parts.specs.declared.Removal.{Removal}
 use Rattle.parts.specs.declared.Update.{Update}
 use Rattle.parts.specs.Model.{dotsIn, valuesIn, entryAs, underOf, listedIn}
-use Rattle.parts.specs.Entries.{cutEntry, listed, removeFrom, putEntry, cutAlone, keepDots, mergeBoth}
+use Rattle.parts.specs.Entries.{cutEntry, listed, removeFrom, putEntry, cutAlone, mergeBoth}
 use Rattle.parts.specs.Valid.{ValidValue, ValidEntry}
 use Rattle.parts.proofs.Pieces.{dots-in, values-in}
 use Rattle.parts.proofs.Packs.{laid-as}
-use Rattle.parts.proofs.Cuts.{valid-cut-values}
-use Rattle.parts.proofs.Wholes.{lawful-keep}
-use Rattle.parts.proofs.Fits.{keep-covered}
+use Rattle.parts.proofs.Preserving.{Closed, Made, entry-cut, entry-put, entry-alone, entry-together}
+use Rattle.parts.proofs.Cuts.{Whole, whole-valid, whole-as, valid-cut-value, cut-dots}
+use Rattle.parts.proofs.Wholes.{put-some}
 
 module _ (k : ℕ) (c : List Dot) (l : List Value) where
   pub valid-as : {seen : List Dot} → Lawful c → isEmpty c ≡ false → covers seen c ≡ true → ((v : Value) → v ∈ l → ValidValue v) → ValidEntry seen (entryAs k c l)
@@ -38,14 +37,6 @@ module _ (k : ℕ) (c : List Dot) (l : List Value) where
     values = λ v i. f v (rw (values-in k c l) at i);
   }
 
--- values stay valid
-module _ {l : List Value} (f : (v : Value) → v ∈ l → ValidValue v) where
-  pub valid-put-values : (put : Value) → (isEmpty (dotsOf (put .clock)) ≡ false → ValidValue put) → (v : Value) → v ∈ putValues l put → ValidValue v
-  valid-put-values put g = put-each ValidValue l put f g
-
-  pub valid-merge-values : {m : List Value} → ((v : Value) → v ∈ m → ValidValue v) → (v : Value) → v ∈ mergeValues l m → ValidValue v
-  valid-merge-values {m} g = merge-each ValidValue l m f g
-
 pub valid-more : {seen more : List Dot} {e : Entry} → ValidEntry seen e → covers more seen ≡ true → ValidEntry more e
 valid-more {seen} {more} v t = record {
   laid = v .laid;
@@ -55,20 +46,48 @@ valid-more {seen} {more} v t = record {
   values = v .values;
 }
 
+-- a clock that the map's clock covers
+record Below (seen c : List Dot) : Type 0 where
+  lawful : Lawful c
+  covered : covers seen c ≡ true
+
+below-closed : (seen : List Dot) → Closed (Below seen) ValidValue
+below-closed seen = record {
+  cut = λ by l h. let k = lawful-cut by (h .lawful) in record { lawful = k; covered = covers-trans seen l k (h .covered) (covers-cut by (h .lawful)) };
+  common = λ l m h. let k = lawful-common m (h .lawful) in record { lawful = k; covered = covers-trans seen l k (h .covered) (covers-common m (h .lawful)) };
+  join = λ l m h k. record { lawful = lawful-join (h .lawful) (k .lawful); covered = covers-join (h .lawful) (k .lawful) seen (h .covered) (k .covered) };
+  value = valid-cut-value;
+}
+
+-- an entry that is valid, but its clock may be empty
+record Nearly (seen : List Dot) (e : Entry) : Type 0 where
+  whole : Whole e
+  below : Below seen (dotsIn e)
+
+nearly-made : (seen : List Dot) → Made (λ k. Unit {0}) (Below seen) ValidValue (Nearly seen)
+nearly-made seen = record {
+  key = λ e h. tt;
+  clock = λ e h. h .below;
+  values = λ e h. h .whole .values;
+  make = λ k c l t h f. record { whole = whole-as k (h .lawful) f; below = rw (dots-in k c l) h };
+}
+
+nearly : {seen : List Dot} {e : Entry} → ValidEntry seen e → Nearly seen e
+nearly v = record { whole = whole-valid v; below = record { lawful = v .clock; covered = v .covered } }
+
+fully : {seen : List Dot} {e : Entry} → Nearly seen e → isEmpty (dotsIn e) ≡ false → ValidEntry seen e
+fully h n = record { laid = h .whole .laid; clock = h .whole .clock; some = n; covered = h .below .covered; values = h .whole .values }
+
 module _ {seen : List Dot} {e : Entry} (v : ValidEntry seen e) where
   pub valid-cut : (c : List Dot) → isEmpty (cutDots c (dotsIn e)) ≡ false → ValidEntry seen (cutEntry c e)
-  unfolding cutEntry
-  valid-cut c n =
-      let cut = cutDots c (dotsIn e) in
-      let h = lawful-cut c (v .clock) in
-      valid-as (e .key) cut (cutValues c (valuesIn e)) h n (covers-trans seen (dotsIn e) h (v .covered) (covers-cut c (v .clock))) (valid-cut-values c (valuesIn e) (v .values))
+  valid-cut c n = fully (entry-cut (below-closed seen) (nearly-made seen) c e (nearly v)) (ap isEmpty (cut-dots c e) ∙ n)
 
   -- cut along with the map's clock
   pub valid-reset : Lawful seen → (c : List Dot) → isEmpty (cutDots c (dotsIn e)) ≡ false → ValidEntry (cutDots c seen) (cutEntry c e)
   unfolding cutEntry
   valid-reset h c n =
       valid-as (e .key) (cutDots c (dotsIn e)) (cutValues c (valuesIn e)) (lawful-cut c (v .clock)) n (covers-cuts h (v .clock) (v .covered) c)
-      (valid-cut-values c (valuesIn e) (v .values))
+      (cut-each ValidValue c (valuesIn e) (λ w i m. valid-cut-value c w (v .values w i) m))
 
   pub valid-from : (r : Removal) → isEmpty (dotsIn (removeFrom r e)) ≡ false → ValidEntry seen (removeFrom r e)
   unfolding removeFrom cutEntry
@@ -80,38 +99,27 @@ module _ {seen : List Dot} {e : Entry} (v : ValidEntry seen e) where
 
 -- an entry, or a new one, with a dot and a put
 module _ {seen : List Dot} (h : Lawful seen) (u : Update) (n : 0 < u .dot .counter) (g : isEmpty (dotsOf (u .put .clock)) ≡ false → ValidValue (u .put)) where
+  -- the map's clock with the dot covers an entry's clock with it
+  added : {c : List Dot} → Below seen c → Below (addDot seen (u .dot)) (addDot c (u .dot))
+  added b = record { lawful = lawful-add (b .lawful) (u .dot); covered = covers-adds h (b .lawful) (b .covered) (u .dot) }
+
   pub valid-put : {e : Entry} → ValidEntry seen e → ValidEntry (addDot seen (u .dot)) (putEntry u e)
-  unfolding putEntry
   valid-put {e} v =
-      valid-as (e .key) (addDot (dotsIn e) (u .dot)) (putValues (valuesIn e) (u .put)) (lawful-add (v .clock) (u .dot))
-      (some-added (v .clock) (u .dot) n) (covers-adds h (v .clock) (v .covered) (u .dot))
-      (valid-put-values (v .values) (u .put) g)
+      fully (entry-put (below-closed (addDot seen (u .dot))) (nearly-made (addDot seen (u .dot))) u e (nearly (valid-more v (covers-add h (u .dot)))) (added (nearly v .below)) g) (put-some u e (v .clock) n)
 
   pub valid-new : (k : ℕ) → ValidEntry (addDot seen (u .dot)) (putEntry u (entryAs k [] []))
-  unfolding putEntry
   valid-new k =
-      rw (dots-in k [] [], values-in k [] [])
-      (valid-as k (addDot [] (u .dot)) (putValues [] (u .put)) (lawful-add lawful-nil (u .dot))
-      (some-added lawful-nil (u .dot) n) (covers-adds h lawful-nil (covers-nil seen) (u .dot))
-      (valid-put-values (λ v i. absurd (List·Memᴰ·not-nil i)) (u .put) g))
+      let none : (s : List Dot) → Nearly s (entryAs k [] []) = λ s. nearly-made s .make k [] [] tt (record { lawful = lawful-nil; covered = covers-nil s }) (λ v i. absurd (List·Memᴰ·not-nil i)) in
+      fully (entry-put (below-closed (addDot seen (u .dot))) (nearly-made (addDot seen (u .dot))) u (entryAs k [] []) (none (addDot seen (u .dot))) (added (none seen .below)) g)
+      (put-some u (entryAs k [] []) (none seen .whole .clock) n)
 
 -- an entry that one side has alone
 pub valid-alone : {seen : List Dot} {e : Entry} → ValidEntry seen e → (other : List Dot) → isEmpty (dotsIn (cutAlone other e)) ≡ false → ValidEntry seen (cutAlone other e)
-unfolding cutAlone
-valid-alone {seen} {e} v other n =
-    let left = cutDots other (dotsIn e) in
-    let h = lawful-cut other (v .clock) in
-    let values = cutValues (cutDots left other) (valuesIn e) in
-    valid-as (e .key) left values h (rw (dots-in (e .key) left values) at n)
-    (covers-trans seen (dotsIn e) h (v .covered) (covers-cut other (v .clock)))
-    (valid-cut-values (cutDots left other) (valuesIn e) (v .values))
+valid-alone {seen} {e} v other n = fully (entry-alone (below-closed seen) (nearly-made seen) other e (nearly v)) n
 
 -- an entry that both sides have
 pub valid-together : {ours theirs : List Dot} {e f : Entry} → Lawful ours → Lawful theirs → ValidEntry ours e → ValidEntry theirs f → isEmpty (dotsIn (mergeBoth ours theirs e f)) ≡ false → ValidEntry (joinDots ours theirs) (mergeBoth ours theirs e f)
-unfolding mergeBoth
 valid-together {ours} {theirs} {e} {f} h k v w n =
-    let keep = keepDots ours theirs (dotsIn e) (dotsIn f) in
-    let by = cutDots keep (joinDots (dotsIn e) (dotsIn f)) in
-    let values = cutValues by (mergeValues (valuesIn e) (valuesIn f)) in
-    valid-as (e .key) keep values (lawful-keep ours theirs (v .clock) (w .clock)) (rw (dots-in (e .key) keep values) at n)
-    (keep-covered h k v w) (valid-cut-values by (mergeValues (valuesIn e) (valuesIn f)) (valid-merge-values (v .values) (w .values)))
+    let both = joinDots ours theirs in
+    fully
+    (entry-together (below-closed both) (nearly-made both) ours theirs e f (nearly (valid-more v (covers-join-left h k))) (nearly (valid-more w (covers-join-right h k)))) n

@@ -6,6 +6,7 @@ pub mod Meets
 pub mod Gather
 pub mod Clocks
 pub mod Pieces
+pub mod Preserving
 pub mod Cuts
 pub mod Runs
 pub mod Waits
@@ -16,7 +17,6 @@ pub mod Fits
 pub mod Kept
 pub mod Listed
 pub mod Held
-pub mod Small
 pub mod Hold
 pub mod Trades
 pub mod Keyed

@@ -1,9 +1,9 @@
 -- A list of entries stays valid: after a removal, an update, a merge, a reset, and with fewer entries.
 -- Assumes nothing.
 use mathlib.Core.Path.{_≡_, refl, ap, sym, _∙_}
-use mathlib.Core.Bool.{Bool, true, false, not, cond}
+use mathlib.Core.Bool.{Bool, true, false, not}
 use mathlib.Core.Logic.{⊎-elim}
-use mathlib.Core.List.{List, [], List·Memᴰ·cases-cons}
+use mathlib.Core.List.{List, List·Memᴰ·cases-cons}
 use Prim.Native.Nat.{ℕ, _<_}
 use native.Mathlib.Omega.{arith}
 use borrow.Author.Tests.{ltb-true, lt-ltb, not-true}
@@ -22,13 +22,14 @@ use Rattle.register.specs.Values.{cutValues}
 use Rattle.parts.specs.declared.Entry.{Entry}
 use Rattle.parts.specs.declared.Removal.{Removal}
 use Rattle.parts.specs.declared.Update.{Update}
-use Rattle.parts.specs.Model.{dotsIn, valuesIn, entryAs}
+use Rattle.parts.specs.Model.{dotsIn, valuesIn}
 use Rattle.parts.specs.Entries.{stays, cutEntry, removeFrom, removeEntries, putEntry, entryAt, aside, putEntries, cutAlone, mergeBoth, mergeEntries}
 use Rattle.parts.specs.Valid.{ValidValue, ValidEntry, ValidEntries}
 use Rattle.parts.proofs.Pieces.{dots-in}
-use Rattle.parts.proofs.Cuts.{cut-key, Whole}
+use Rattle.parts.proofs.Cuts.{cut-key, Whole, lawful-closed, whole-made}
 use Rattle.parts.proofs.Runs.{from-key}
-use Rattle.parts.proofs.Wholes.{at-every, put-every, whole-alone, whole-together}
+use Rattle.parts.proofs.Wholes.{at-every, put-every}
+use Rattle.parts.proofs.Preserving.{entry-alone, entry-together}
 use Rattle.parts.proofs.Goes.{wovenEntries, merge-sifted}
 use Rattle.parts.proofs.Kept.{valid-more, valid-reset, valid-from, valid-put, valid-new, valid-alone, valid-together}
 
@@ -83,7 +84,8 @@ merge-entries-each P ours theirs {l} {m} a b f g h z i =
 pub whole-merged : (ours theirs : List Dot) {l m : List Entry} → Ascending (by (λ e. e .key)) l → Ascending (by (λ e. e .key)) m → ((e : Entry) → e ∈ l → Whole e) → ((e : Entry) → e ∈ m → Whole e)
     → (e : Entry) → e ∈ mergeEntries ours theirs l m → Whole e
 whole-merged ours theirs a b f g =
-    merge-entries-each Whole ours theirs a b (λ e i s. whole-alone theirs (f e i)) (λ e i s. whole-alone ours (g e i)) (λ e f′ i j q s. whole-together ours theirs (f e i) (g f′ j))
+    merge-entries-each Whole ours theirs a b (λ e i s. entry-alone lawful-closed whole-made theirs e (f e i)) (λ e i s. entry-alone lawful-closed whole-made ours e (g e i))
+    (λ e f′ i j q s. entry-together lawful-closed whole-made ours theirs e f′ (f e i) (g f′ j))
 
 module _ {seen : List Dot} {l : List Entry} (v : ValidEntries seen l) where
   pub valid-those : (p : Entry → Bool) → ValidEntries seen (those p l)

@@ -1,21 +1,19 @@
 -- Removals trade places: in a run over entries, and where they are united into those that wait.
 -- Assumes nothing.
 use mathlib.Core.Path.{_≡_, refl, ap, sym, _∙_}
-use mathlib.Core.Bool.{Bool, true, false}
+use mathlib.Core.Bool.{false}
 use mathlib.Core.Logic.{⊎-elim}
-use mathlib.Core.List.{List, [], _∷_, List·Memᴰ·head, List·Memᴰ·tail, List·Memᴰ·not-nil, List·Memᴰ·eq-of-singleton, List·Permᴰ}
+use mathlib.Core.List.{List, [], _∷_, List·Memᴰ·head, List·Memᴰ·tail, List·Permᴰ}
 use Prim.Native.Nat.{ℕ}
-use borrow.Author.Tests.{not-true}
 use Rattle.lists.specs.Fold.{fold}
 use Rattle.lists.specs.Sift.{those}
-use Rattle.lists.specs.Order.{_∈_, Ascending, nil, next, by}
-use Rattle.lists.proofs.Orders.{apart, by-strict, same-members}
+use Rattle.lists.specs.Order.{_∈_, Ascending, by}
+use Rattle.lists.proofs.Orders.{by-strict, same-members}
 use Rattle.lists.proofs.Those.{those-means}
 use Rattle.lists.proofs.Uniting.{united-trade}
 use Rattle.lists.proofs.Perms.{fold-perm}
 use Rattle.clock.specs.declared.Dot.{Dot}
-use Rattle.clock.specs.Dots.{clockOf, isEmpty, covers}
-use Rattle.clock.proofs.Empties.{covers-empty}
+use Rattle.clock.specs.Dots.{clockOf, isEmpty}
 use Rattle.parts.specs.declared.Entry.{Entry}
 use Rattle.parts.specs.declared.Removal.{Removal}
 use Rattle.parts.specs.Model.{keysAs, underOf, listedIn}
@@ -24,7 +22,8 @@ use Rattle.parts.specs.Waits.{waits, removalBefore, unionKeys, unite, un
 use Rattle.parts.specs.Valid.{ValidRemoval, ValidWaiting}
 use Rattle.parts.proofs.Clocks.{removal-strict, removal-steady, removal-level}
 use Rattle.parts.proofs.Runs.{runs, from-trade, removes-trade}
-use Rattle.parts.proofs.Waits.{waits-covers, keeps, union-ascends, union-means, union-left, union-right, unite-keys, unite-valid}
+use Rattle.parts.proofs.Held.{waits-some, valid-unite-into}
+use Rattle.parts.proofs.Waits.{keeps, union-ascends, union-means, union-left, union-right, unite-keys}
 
 -- a run in any order
 pub run-perm : {ws vs : List Removal} → List·Permᴰ ws vs → (e : Entry) → run ws e ≡ run vs e
@@ -75,24 +74,6 @@ unite-trade {y} {z} l f h k =
     united-trade removalBefore unite removal-strict removal-steady keeps y z l
     (λ x i e q. unite-assoc (f x i) h k) (λ x i e q. unite-assoc (f x i) k h) (λ e. unite-comm h k (removal-level y z e))
 
--- what waits is not empty
-pub waits-some : (seen : List Dot) (r : Removal) → waits seen r ≡ true → isEmpty (underOf r) ≡ false
-waits-some seen r t = go (isEmpty (underOf r)) refl
-  where
-    go : (b : Bool) → isEmpty (underOf r) ≡ b → b ≡ false
-    go true e = apart (sym (covers-empty seen (underOf r) e) ∙ not-true (covers seen (underOf r)) (sym (waits-covers seen r) ∙ t))
-    go false e = refl
-
-pub waiting-one : {r : Removal} → ValidRemoval r → isEmpty (underOf r) ≡ false → ValidWaiting (r ∷ [])
-waiting-one h t = record {
-  rising = next (λ y i. absurd (List·Memᴰ·not-nil i)) nil;
-  each = λ y i. rw (List·Memᴰ·eq-of-singleton i) h;
-  some = λ y i. rw (List·Memᴰ·eq-of-singleton i) t;
-}
-
-pub into-valid : {l : List Removal} {r : Removal} → ValidWaiting l → ValidRemoval r → isEmpty (underOf r) ≡ false → ValidWaiting (uniteInto l r)
-into-valid h k t = unite-valid h (waiting-one k t)
-
 -- removals under clocks that are not empty
 abbrev pub Ready : List Removal → Type 0
 Ready ws = (w : Removal) → w ∈ ws → ValidRemoval w × (isEmpty (underOf w) ≡ false)
@@ -102,12 +83,12 @@ pub into-all : (ws : List Removal) {l : List Removal} → ValidWaiting l → Rea
 unfolding fold
 into-all [] h g = h
 into-all (w ∷ ws) h g =
-    let q = g w (List·Memᴰ·head refl) in into-all ws (into-valid h (q .0) (q .1)) (λ v i. g v (List·Memᴰ·tail i))
+    let q = g w (List·Memᴰ·head refl) in into-all ws (valid-unite-into h (q .0) (q .1)) (λ v i. g v (List·Memᴰ·tail i))
 
 -- in any order
 pub unite-perm : {ws vs : List Removal} → List·Permᴰ ws vs → Ready ws → {l : List Removal} → ValidWaiting l → fold uniteInto l ws ≡ fold uniteInto l vs
 unite-perm d g {l} h =
-    fold-perm uniteInto ValidWaiting (λ w. ValidRemoval w × (isEmpty (underOf w) ≡ false)) (λ s w p q. into-valid p (q .0) (q .1))
+    fold-perm uniteInto ValidWaiting (λ w. ValidRemoval w × (isEmpty (underOf w) ≡ false)) (λ s w p q. valid-unite-into p (q .0) (q .1))
     (λ s r t p q u. unite-trade s (p .each) (q .0) (u .0)) d g l h
 
 -- removals that wait are ready

@@ -1,7 +1,7 @@
--- The laws of a number in 2 ^ k bytes, once over k: written and read, read and written.
+-- The laws of a number in 2 ^ k bytes, once over k: written and read, read and written; and that these are bytes.
 -- Assumes nothing.
 use mathlib.Core.Path.{_≡_, refl, ap, _∙_}
-use mathlib.Core.List.{List, _++_, append-assoc}
+use mathlib.Core.List.{List, [], _∷_, _++_, append-assoc}
 use Prim.Native.Nat.{ℕ, zero, suc, _+_, _*_, _/_, _%_, _^_, _≤_, _<_}
 use native.Mathlib.Nat.{mod-lt, mod-add-div, div-lt-iff-lt-mul, one-le-pow}
 use native.Mathlib.Omega.{arith}
@@ -58,3 +58,23 @@ bytes-num (suc k) at s b h =
     let m : (lo + base k * hi) % base k ≡ lo = rw e (digits-mod hi (num-lt k at s b)) in
     rw (d, m, double k, take-add (2 ^ k) (2 ^ k) (drop at s), drop-drop (2 ^ k) at s, bytes-num k at s b (omega arith))
     (ap (λ t. take (2 ^ k) (drop at s) ++ t) (bytes-num k (at + 2 ^ k) s b (omega arith)))
+
+-- lists of bytes
+pub none-bytes : Bytes []
+none-bytes zero = omega arith
+none-bytes (suc i) = omega arith
+
+more-bytes : (x : ℕ) (s : List ℕ) → x < 256 → Bytes s → Bytes (x ∷ s)
+more-bytes x s h b zero = h
+more-bytes x s h b (suc i) = b i
+
+pub both-bytes : (s t : List ℕ) → Bytes s → Bytes t → Bytes (s ++ t)
+both-bytes [] t b c = c
+both-bytes (x ∷ s) t b c = more-bytes x (s ++ t) (b 0) (both-bytes s t (λ i. b (suc i)) c)
+
+-- a number that fits is written in bytes
+pub num-are-bytes : (k x : ℕ) → x < 256 ^ (2 ^ k) → Bytes (numBytes k x)
+num-are-bytes zero x h = more-bytes x [] h none-bytes
+num-are-bytes (suc k) x h =
+    both-bytes (numBytes k (x % base k)) (numBytes k (x / base k)) (num-are-bytes k (x % base k) (mod-lt x (base-pos k)))
+    (num-are-bytes k (x / base k) (div-lt-iff-lt-mul (base-pos k) .1 (rw (base-suc k) at h)))

@@ -1,4 +1,4 @@
--- Records written and read again, and bytes read and written again.
+-- Records written and read again, and bytes read and written again; what is written is bytes.
 -- Assumes nothing.
 use mathlib.Core.Path.{_≡_, refl, sym, ap, ap₂, _∙_}
 use mathlib.Core.List.{List, [], _∷_, _++_, append-assoc, append-nil, List·Memᴰ·head, List·Memᴰ·tail, List·Memᴰ·not-nil, List·Memᴰ·cases-cons}
@@ -11,7 +11,7 @@ use Rattle.lists.specs.Order.{_∈_}
 use Rattle.records.specs.Bytes.{numBytes, Bytes}
 use Rattle.records.specs.Records.{recordFrom, recordsFrom, recordsOf, recordBytes, bytesOf}
 use Rattle.records.specs.declared.Record.{Record}
-use Rattle.records.proofs.Numbers.{num-bytes, bytes-num, num-lt}
+use Rattle.records.proofs.Numbers.{num-bytes, bytes-num, num-lt, none-bytes, both-bytes, num-are-bytes}
 
 -- each field fits its type
 pub record Fitting (r : Record) : Type 0 where
@@ -114,3 +114,20 @@ unfolding recordsFrom
 read-all-fit s b zero at r i = absurd (List·Memᴰ·not-nil i)
 read-all-fit s b (suc n) at r i =
     ⊎-elim (λ (e : r ≡ recordFrom s at). rw e (read-fits s at b)) (λ j. read-all-fit s b n (at + 16) r j) (List·Memᴰ·cases-cons i)
+
+-- records whose fields fit are written in bytes
+record-are-bytes : {r : Record} → Fitting r → Bytes (recordBytes r)
+record-are-bytes {r} f =
+    let n = numBytes 3 (r .number) in
+    let y = numBytes 2 (r .key) ++ n in
+    let a = numBytes 1 (r .actor) ++ y in
+    let i = numBytes 0 (r .index) ++ a in
+    both-bytes (numBytes 0 (r .kind)) i (num-are-bytes 0 (r .kind) (f .kind))
+    (both-bytes (numBytes 0 (r .index)) a (num-are-bytes 0 (r .index) (f .index))
+    (both-bytes (numBytes 1 (r .actor)) y (num-are-bytes 1 (r .actor) (f .actor))
+    (both-bytes (numBytes 2 (r .key)) n (num-are-bytes 2 (r .key) (f .key)) (num-are-bytes 3 (r .number) (f .number)))))
+
+pub written-bytes : (l : List Record) → ((r : Record) → r ∈ l → Fitting r) → Bytes (bytesOf l)
+unfolding bytesOf
+written-bytes [] f = none-bytes
+written-bytes (r ∷ l) f = both-bytes (recordBytes r) (bytesOf l) (record-are-bytes (f r (List·Memᴰ·head refl))) (written-bytes l (λ x i. f x (List·Memᴰ·tail i)))

@@ -1,10 +1,10 @@
 -- What well-formed records within the limits leave room for: one more of each thing that an image's reader stores.
 -- Assumes nothing.
 use mathlib.Core.Path.{_≡_, refl, ap, sym, _∙_}
-use mathlib.Core.Bool.{Bool, true, false, _&&_}
+use mathlib.Core.Bool.{Bool, true, false, not, _&&_}
 use mathlib.Core.Logic.{⊎-elim}
 use mathlib.Core.List.{List, [], _∷_, _++_, List·Memᴰ·not-nil, List·Memᴰ·cases-cons}
-use Prim.Native.Nat.{ℕ, zero, suc, _+_, _≤_, _<_}
+use Prim.Native.Nat.{ℕ, suc, _+_, _≤_, _<_}
 use native.Mathlib.Omega.{arith}
 use lib.Dec.{eqb, leb}
 use lib.Bits.{bitAnd}
@@ -15,6 +15,7 @@ use Rattle.lists.specs.Sift.{sift, those}
 use Rattle.lists.proofs.Orders.{apart}
 use Rattle.records.specs.declared.Record.{Record}
 use Rattle.records.specs.Kinds.{before, recordOk, fieldsOk, fieldOk, maskOf}
+use Rattle.records.proofs.Rule.{usesIndex, usesActor, usesKey, usesNumber, Row, row-of}
 use Rattle.scan.specs.Each.{eachAfter, countAfter}
 use Rattle.scan.specs.Formed.{follows, wellFormed}
 use Rattle.scan.specs.Limits.{outer, middle, inner, outerLimits, middleLimits, innerLimits, limitAt, sameKind, sameOuter, sameMiddle, fresh, tally, within, room}
@@ -85,25 +86,36 @@ module _ (low high : ℕ) (r : Record) (good : recordOk low high r ≡ true) whe
   unused : (bit x : ℕ) → fieldOk (maskOf (r .kind)) bit x ≡ true → eqb (bitAnd (maskOf (r .kind)) bit) 0 ≡ true → x ≡ 0
   unused bit x e z = eqb-true x 0 (rw z at e)
 
-  module _ (mask : ℕ) (k : maskOf (r .kind) ≡ mask) where
-    pub no-index : eqb (bitAnd mask 1) 0 ≡ true → r .index ≡ 0
-    no-index z = unused 1 (r .index) (both-left (fieldOk (maskOf (r .kind)) 1 (r .index)) _ fields) (rw k z)
+  module _ {kind : ℕ} (k : r .kind ≡ kind) where
+    row : Row kind (maskOf (r .kind))
+    row = rw k (row-of kind)
 
-    pub no-actor : eqb (bitAnd mask 2) 0 ≡ true → r .actor ≡ 0
+    pub no-index : usesIndex kind ≡ false → r .index ≡ 0
+    no-index z = unused 1 (r .index) (both-left (fieldOk (maskOf (r .kind)) 1 (r .index)) _ fields) (row .index ∙ ap not z)
+
+    pub no-actor : usesActor kind ≡ false → r .actor ≡ 0
     no-actor z =
-        unused 2 (r .actor) (both-left (fieldOk (maskOf (r .kind)) 2 (r .actor)) _ (both-right (fieldOk (maskOf (r .kind)) 1 (r .index)) _ fields)) (rw k z)
+        unused 2 (r .actor)
+        (both-left (fieldOk (maskOf (r .kind)) 2 (r .actor)) _ (both-right (fieldOk (maskOf (r .kind)) 1 (r .index)) _ fields)) (row .actor ∙ ap not z)
 
-    pub no-key : eqb (bitAnd mask 4) 0 ≡ true → r .key ≡ 0
+    pub no-key : usesKey kind ≡ false → r .key ≡ 0
     no-key z =
         unused 4 (r .key)
         (both-left (fieldOk (maskOf (r .kind)) 4 (r .key)) _ (both-right (fieldOk (maskOf (r .kind)) 2 (r .actor)) _ (both-right (fieldOk (maskOf (r .kind)) 1 (r .index)) _ fields)))
-        (rw k z)
+        (row .key ∙ ap not z)
 
-    pub no-number : eqb (bitAnd mask 8) 0 ≡ true → r .number ≡ 0
+    pub no-number : usesNumber kind ≡ false → r .number ≡ 0
     no-number z =
         unused 8 (r .number)
         (both-right (fieldOk (maskOf (r .kind)) 4 (r .key)) _ (both-right (fieldOk (maskOf (r .kind)) 2 (r .actor)) _ (both-right (fieldOk (maskOf (r .kind)) 1 (r .index)) _ fields)))
-        (rw k z)
+        (row .number ∙ ap not z)
+
+    -- the number is a counter from 1, except in kinds 3 and 11
+    pub counter-from-one : usesNumber kind ≡ true → (r .kind ≡ 3 → ⊥) → (r .kind ≡ 11 → ⊥) → 0 < r .number
+    unfolding recordOk
+    counter-from-one used three eleven =
+        let c = both-right (fieldsOk (maskOf (r .kind)) r) _ (both-right (leb (r .kind) high) _ (both-right (leb low (r .kind)) _ good)) in
+        ltb-true 0 (r .number) (rw (row .number ∙ ap not used, ne-eqb (r .kind) 3 three, ne-eqb (r .kind) 11 eleven) at c)
 
 -- one record more, in its own groups
 module _ (low high : ℕ) (l : List Record) (r : Record) (w : wellFormed low high (l ++ (r ∷ [])) ≡ true) (h : within (l ++ (r ∷ [])) ≡ true) where
@@ -153,17 +165,9 @@ kind-range low high r good = (
   leb-true (r .kind) high (both-left (leb (r .kind) high) _ (both-right (leb low (r .kind)) _ good)),
 )
 
--- the number of a record is a counter from 1, except in kinds 3 and 11
-pub counter-from-one : (low high : ℕ) (r : Record) → recordOk low high r ≡ true → (mask : ℕ) → maskOf (r .kind) ≡ mask → eqb (bitAnd mask 8) 0 ≡ false
-    → (r .kind ≡ 3 → ⊥) → (r .kind ≡ 11 → ⊥) → 0 < r .number
-unfolding recordOk
-counter-from-one low high r good mask k used three eleven =
-    let c = both-right (fieldsOk (maskOf (r .kind)) r) _ (both-right (leb (r .kind) high) _ (both-right (leb low (r .kind)) _ good)) in
-    ltb-true 0 (r .number) (rw (k, used, ne-eqb (r .kind) 3 three, ne-eqb (r .kind) 11 eleven) at c)
-
 -- keys, in a kind that has nothing else
 pub outer-room : (low high : ℕ) (l : List Record) (r : Record) → wellFormed low high (l ++ (r ∷ [])) ≡ true → within (l ++ (r ∷ [])) ≡ true
-    → (kind : ℕ) → r .kind ≡ kind → (kind ≡ 6 → ⊥) → eqb (bitAnd (maskOf kind) 1) 0 ≡ true → eqb (bitAnd (maskOf kind) 2) 0 ≡ true
+    → (kind : ℕ) → r .kind ≡ kind → (kind ≡ 6 → ⊥) → usesIndex kind ≡ false → usesActor kind ≡ false
     → length (those (λ x. eqb (x .kind) kind) l) < limitAt outerLimits kind
 outer-room low high l r w h kind k plain i a =
     rw (← k) (fewer low high l r w h (sameKind r) outer (limitAt outerLimits (r .kind)) tells (eq-eqb (r .kind) (r .kind) refl) (outer-few low high l r w h))
@@ -174,15 +178,15 @@ outer-room low high l r w h kind k plain i a =
         let kx = eqb-true (x .kind) (r .kind) gx in
         let sx = ks ∙ sym kx in
         let y = sym (outer-key s (λ z. plain (sym k ∙ sym ks ∙ z))) ∙ e ∙ outer-key x (λ z. plain (sym k ∙ sym kx ∙ z)) in
-        let xi = no-index low high x good (maskOf kind) (ap maskOf (kx ∙ k)) i in
-        let xa = no-actor low high x good (maskOf kind) (ap maskOf (kx ∙ k)) a in
+        let xi = no-index low high x good (kx ∙ k) i in
+        let xa = no-actor low high x good (kx ∙ k) a in
         let si = b .index sx y in
         let same : s .index ≡ x .index = omega arith in
         omega (arith, b .actor sx y same)
 
 -- values under a key, or keys under an index: what stands in the second level, in a kind that has no actor
 pub middle-room : (low high : ℕ) (l : List Record) (r : Record) → wellFormed low high (l ++ (r ∷ [])) ≡ true → within (l ++ (r ∷ [])) ≡ true
-    → eqb (bitAnd (maskOf (r .kind)) 2) 0 ≡ true → length (those (sameOuter r) l) < limitAt middleLimits (r .kind)
+    → usesActor (r .kind) ≡ false → length (those (sameOuter r) l) < limitAt middleLimits (r .kind)
 middle-room low high l r w h a =
     fewer low high l r w h (sameOuter r) middle (limitAt middleLimits (r .kind)) tells
     (both (sameKind r r) (eqb (outer r) (outer r)) (eq-eqb (r .kind) (r .kind) refl) (eq-eqb (outer r) (outer r) refl))
@@ -194,7 +198,7 @@ middle-room low high l r w h a =
         let kx = eqb-true (x .kind) (r .kind) (both-left (sameKind r x) (eqb (outer x) (outer r)) gx) in
         let o = eqb-true (outer s) (outer r) (both-right (sameKind r s) (eqb (outer s) (outer r)) gs) ∙ sym (eqb-true (outer x) (outer r) (both-right (sameKind r x) (eqb (outer x) (outer r)) gx)) in
         let sx = ks ∙ sym kx in
-        let xa = no-actor low high x good (maskOf (r .kind)) (ap maskOf kx) a in
+        let xa = no-actor low high x good kx a in
         decide (eqb (x .kind) 6)
         (λ t. let y : s .key ≡ x .key = rw (sx, t) at e in let i : s .index ≡ x .index = rw (sx, t) at o in omega (arith, b .actor sx y i))
         (λ f. let y : s .key ≡ x .key = rw (sx, f) at o in let i : s .index ≡ x .index = rw (sx, f) at e in omega (arith, b .actor sx y i))

@@ -14,7 +14,7 @@ use Rattle.lists.specs.Order.{_∈_}
 use Rattle.lists.specs.First.{some}
 use Rattle.lists.proofs.Orders.{apart}
 use Rattle.records.specs.declared.Record.{Record}
-use Rattle.records.specs.Kinds.{before, recordOk, fieldsOk, counterOk, fieldOk, maskOf}
+use Rattle.records.specs.Kinds.{before, recordOk}
 use Rattle.scan.specs.Each.{every, eachAfter, countAfter}
 use Rattle.scan.specs.Formed.{follows, wellFormed}
 use Rattle.scan.specs.Limits.{outer, middle, inner, outerLimits, middleLimits, innerLimits, limitAt, sameKind, sameOuter, sameMiddle, tally, within, room, tallyOn, tallyTo, withinLimits}
@@ -23,6 +23,7 @@ use Rattle.scan.specs.declared.Scan.{Scan}
 use Rattle.scan.proofs.Eachs.{both-left, both-right, both, decide, every-at, some-of, some-none}
 use Rattle.scan.proofs.Befores.{Before, before-fields}
 use Rattle.scan.proofs.Tallies.{tally-step, tally-new, tally-other, tally-some, tally-none}
+use Rattle.scan.proofs.Rooms
 use Rattle.scan.proofs.Scans.{formed-snoc, within-snoc, outer-on, middle-on, inner-on, last-outer, last-middle, some-by-last, follows-last}
 
 -- each count of the record's own groups
@@ -100,12 +101,7 @@ module _ (low high : ℕ) (l : List Record) (r : Record) (w : wellFormed low hig
 
   -- a waiting key has no actor
   no-actor : r .kind ≡ 6 → r .actor ≡ 0
-  unfolding recordOk
-  no-actor k =
-      let good = both-left (recordOk low high r) (every (λ s. before s r) l) f in
-      let fields = both-left (fieldsOk (maskOf (r .kind)) r) (counterOk (maskOf (r .kind)) r) (both-right (leb (r .kind) high) _ (both-right (leb low (r .kind)) _ good)) in
-      let actor = both-left (fieldOk (maskOf (r .kind)) 2 (r .actor)) _ (both-right (fieldOk (maskOf (r .kind)) 1 (r .index)) _ fields) in
-      eqb-true (r .actor) 0 (rw k at actor)
+  no-actor k = Rooms.no-actor low high r (both-left (recordOk low high r) (every (λ s. before s r) l) f) k refl
 
   module _ (k : r .kind ≡ 6) where
     -- no waiting key before r shares its index and key

@@ -30,7 +30,7 @@ use Rattle.parts.specs.Entries.{cutEntry, listed, removeFrom, removeEntries, cu
 use Rattle.parts.specs.Waits.{waits, clockBefore, unionKeys, uniteAll}
 use Rattle.parts.specs.Valid.{ValidValue, ValidEntry, ValidEntries, ValidWaiting}
 use Rattle.parts.proofs.Pieces.{dots-in}
-use Rattle.parts.proofs.Wholes.{whole-as}
+use Rattle.parts.proofs.Cuts.{whole-as}
 use Rattle.parts.proofs.Held.{valid-none, valid-one}
 use Rattle.map.specs.declared.Map.{Map}
 use Rattle.map.specs.Model.{mapAs}

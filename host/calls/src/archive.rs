@@ -1,4 +1,4 @@
-//! The proved version behind the trait: libcastribba.a, called as castribba.h declares it.
+//! The proved version behind the trait: libcastribba.a and libloader.a, called as their headers declare.
 
 use crate::{Calls, LentClock};
 use castribba::declared;
@@ -85,6 +85,12 @@ impl Calls for Archive {
     }
     fn validate_merge_their_key(&self, map: &[u8], other: &[u8]) -> u64 {
         from_two!(castribba_validate_merge_their_key, map, other)
+    }
+    fn bay(&self, map: &[u8], bay: u32, out: &mut [u8]) -> u64 {
+        from_map!(castribba_bay, map, (bay), out)
+    }
+    fn bays(&self, map: &[u8], out: &mut [u8]) -> u64 {
+        from_map!(castribba_bays, map, (), out)
     }
     fn clock_advance(&self, clock: &mut LentClock, actor: u16, counter: u64) -> u64 {
         let clock: *mut LentClock = clock;

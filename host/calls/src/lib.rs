@@ -1,4 +1,4 @@
-//! The calls of castribba.h as one trait, and each implementation that can stand behind it.
+//! The calls of castribba.h and loader.h as one trait, and each implementation that can stand behind it.
 
 #[cfg(feature = "archive")]
 mod archive;
@@ -27,7 +27,7 @@ pub struct LentClock {
     pub len: usize,
 }
 
-/// One method per call, named as in castribba.h without the prefix.
+/// One method per call, named as in castribba.h and loader.h without the prefix.
 pub trait Calls {
     fn name(&self) -> &'static str;
 
@@ -48,6 +48,8 @@ pub trait Calls {
     fn validate_merge_counter(&self, map: &[u8], other: &[u8]) -> u64;
     fn validate_merge_our_key(&self, map: &[u8], other: &[u8]) -> u64;
     fn validate_merge_their_key(&self, map: &[u8], other: &[u8]) -> u64;
+    fn bay(&self, map: &[u8], bay: u32, out: &mut [u8]) -> u64;
+    fn bays(&self, map: &[u8], out: &mut [u8]) -> u64;
     fn clock_advance(&self, clock: &mut LentClock, actor: u16, counter: u64) -> u64;
 
     /// The bytes of a reader of pieces, which the three calls below are lent. The first is its mark.

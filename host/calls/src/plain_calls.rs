@@ -59,6 +59,12 @@ impl Calls for Plain {
     fn validate_merge_their_key(&self, map: &[u8], other: &[u8]) -> u64 {
         plain::castribba_validate_merge_their_key(map, other)
     }
+    fn bay(&self, map: &[u8], bay: u32, out: &mut [u8]) -> u64 {
+        plain::castribba_bay(map, bay, out)
+    }
+    fn bays(&self, map: &[u8], out: &mut [u8]) -> u64 {
+        plain::castribba_bays(map, out)
+    }
     fn clock_advance(&self, clock: &mut LentClock, actor: u16, counter: u64) -> u64 {
         let dots = clock.dots.map(|dot| plain::Dot { actor: dot.actor, counter: dot.counter });
         let mut own = plain::Clock { dots, len: clock.len };

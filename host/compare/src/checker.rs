@@ -216,25 +216,51 @@ impl<'a> Checker<'a> {
     }
 }
 
-impl Asks for Checker<'_> {
-    /// Compares before it answers.
-    fn ask(&mut self, question: Question) -> Option<Answer> {
-        let full = match oracle_answer(&question) {
+impl Checker<'_> {
+    /// Compares one call with the oracle, in one buffer or several.
+    fn compare(&mut self, question: &Question) -> Option<Answer> {
+        let full = match oracle_answer(question) {
             Ok(full) => full,
             Err(disagreement) => {
-                self.differs(&question, disagreement);
+                self.differs(question, disagreement);
                 return None;
             }
         };
-        self.feed(&question);
         let rooms = if question.writes() { self.rooms(&full) } else { vec![0] };
         for room in rooms {
             let expected = full.in_room(room);
             self.count(question.call, expected.number);
-            if let Some(fault) = self.fault(&question, &expected, room) {
-                self.differs(&question, fault);
+            if let Some(fault) = self.fault(question, &expected, room) {
+                self.differs(question, fault);
             }
         }
+        Some(full)
+    }
+
+    /// The boot loader on the question's map image, now and then: a bay, one that is none, or all.
+    fn boot(&mut self, question: &Question) {
+        let image = &question.images[0];
+        match self.random.below(8) {
+            0 => {
+                let none = *self.random.pick(&[0, 25, 26, 256, 0x0100_0001, u32::MAX]);
+                let any = self.random.between(1, 24) as u32;
+                let key = if self.random.one_in(6) { none } else { any };
+                self.compare(&Question { key, ..Question::of_one(Call::Bay, image) });
+            }
+            1 => {
+                self.compare(&Question::of_one(Call::Bays, image));
+            }
+            _ => {}
+        }
+    }
+}
+
+impl Asks for Checker<'_> {
+    /// Compares before it answers.
+    fn ask(&mut self, question: Question) -> Option<Answer> {
+        let full = self.compare(&question)?;
+        self.feed(&question);
+        self.boot(&question);
         Some(full)
     }
 

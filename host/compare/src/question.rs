@@ -17,13 +17,15 @@ pub enum Call {
     Len,
     ValidateOp,
     ValidateMerge,
+    Bay,
+    Bays,
     ClockAdvance,
     PiecesTake,
     PiecesEnd,
 }
 
 impl Call {
-    pub const ALL: [Call; 13] = [
+    pub const ALL: [Call; 15] = [
         Call::Apply,
         Call::Merge,
         Call::ResetRemove,
@@ -34,13 +36,15 @@ impl Call {
         Call::Len,
         Call::ValidateOp,
         Call::ValidateMerge,
+        Call::Bay,
+        Call::Bays,
         Call::ClockAdvance,
         Call::PiecesTake,
         Call::PiecesEnd,
     ];
 
     /// The largest number that any of them can answer.
-    pub const MOST: u32 = 13;
+    pub const MOST: u32 = 14;
 
     pub fn name(self) -> &'static str {
         match self {
@@ -54,6 +58,8 @@ impl Call {
             Call::Len => "len",
             Call::ValidateOp => "validate_op",
             Call::ValidateMerge => "validate_merge",
+            Call::Bay => "bay",
+            Call::Bays => "bays",
             Call::ClockAdvance => "clock_advance",
             Call::PiecesTake => "pieces_take",
             Call::PiecesEnd => "pieces_end",
@@ -76,6 +82,8 @@ impl Call {
             Call::Len => &[0, 1, 2, 3],
             Call::ValidateOp => &[0, 1, 2, 3, 11],
             Call::ValidateMerge => &[0, 1, 2, 3, 12],
+            Call::Bay => &[0, 1, 2, 3, 10, 14],
+            Call::Bays => &[0, 1, 2, 3, 10],
             Call::ClockAdvance => &[0, 1, 2, 4],
             Call::PiecesTake => &[0, 13],
             Call::PiecesEnd => &[0, 1, 2, 3, 10, 13],
@@ -118,6 +126,8 @@ impl Question {
             Call::Len => expected::len(first),
             Call::ValidateOp => expected::validate_op(first, second),
             Call::ValidateMerge => expected::validate_merge(first, second),
+            Call::Bay => expected::bay(first, self.key),
+            Call::Bays => expected::bays(first),
             Call::ClockAdvance => unreachable!("a lent clock is no image"),
             Call::PiecesTake | Call::PiecesEnd => unreachable!("a reader is no image"),
         })
@@ -150,6 +160,8 @@ impl Question {
                 ];
                 (calls.validate_merge(first, second), carried)
             }
+            Call::Bay => (calls.bay(first, self.key, out), vec![]),
+            Call::Bays => (calls.bays(first, out), vec![]),
             Call::ClockAdvance => unreachable!("a lent clock is no image"),
             Call::PiecesTake | Call::PiecesEnd => unreachable!("a reader is no image"),
         }
@@ -178,7 +190,7 @@ impl fmt::Display for Question {
         write!(f, "{}", self.call.name())?;
         if self.call == Call::Update {
             write!(f, " by actor {} of key {} to {}", self.actor, self.key, self.value)?;
-        } else if matches!(self.call, Call::RmGet | Call::RmReadCtx | Call::Get) {
+        } else if matches!(self.call, Call::RmGet | Call::RmReadCtx | Call::Get | Call::Bay) {
             write!(f, " of key {}", self.key)?;
         }
         for (place, image) in self.images.iter().enumerate() {

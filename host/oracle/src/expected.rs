@@ -1,5 +1,6 @@
 //! What each call of castribba.h must answer, given room enough: number, bytes, numbers carried.
 
+use crate::bays::{report, BAYS};
 use crate::image::{map_image, operation_image, read_clock, read_map, read_operation};
 use crate::model::{Map, Operation};
 use crate::published;
@@ -121,6 +122,25 @@ pub fn validate_merge(map: &[u8], other: &[u8]) -> Answer {
         },
     };
     Answer { number, bytes: vec![], carried }
+}
+
+/// 14 comes after the map's own number.
+pub fn bay(map: &[u8], bay: u32) -> Answer {
+    after_reading(|| {
+        let map = read_map(map)?;
+        if BAYS.contains(&bay) {
+            Ok(written(None, report(&map, bay)))
+        } else {
+            Err(14)
+        }
+    })
+}
+
+pub fn bays(map: &[u8]) -> Answer {
+    after_reading(|| {
+        let map = read_map(map)?;
+        Ok(written(None, BAYS.flat_map(|bay| report(&map, bay)).collect()))
+    })
 }
 
 /// The end of an image that came in pieces: what they are, joined.

@@ -1,5 +1,6 @@
 //! The oracle: what every call must answer, from document 01's image rules and the published crate.
 
+pub mod bays;
 pub mod expected;
 pub mod full;
 pub mod image;

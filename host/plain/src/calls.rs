@@ -4,7 +4,7 @@ use crate::image::read_map_into;
 use crate::{number, read_clock, read_op, write_map, write_op, Clock, Dot, DoubleSpent, Gap, Map};
 
 /// number * 2^32 + length
-fn word(answer: impl FnOnce() -> Result<usize, u32>) -> u64 {
+pub(crate) fn word(answer: impl FnOnce() -> Result<usize, u32>) -> u64 {
     match answer() {
         Ok(length) => length as u64,
         Err(number) => u64::from(number) << 32,

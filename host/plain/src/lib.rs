@@ -4,6 +4,7 @@
 mod calls;
 mod clock;
 mod image;
+mod loader;
 mod map;
 pub mod number;
 mod pieces;
@@ -12,6 +13,7 @@ mod register;
 pub use calls::*;
 pub use clock::{Clock, Dot};
 pub use image::{read_clock, read_map, read_op, write_map, write_op};
+pub use loader::*;
 pub use map::{DoubleSpent, Entry, Gap, Map, Operation, Removal, Waiting};
 pub use pieces::*;
 pub use register::{Register, Value};

@@ -14,3 +14,4 @@ pub const SHORT_BUFFER: u32 = 10;
 pub const SOURCE_ORDER: u32 = 11;
 pub const DOUBLE_SPENT: u32 = 12;
 pub const ENDED: u32 = 13;
+pub const NO_BAY: u32 = 14;

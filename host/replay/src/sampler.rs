@@ -47,6 +47,7 @@ fn place_of(call: Call) -> usize {
         Call::ValidateOp => 10,
         Call::ValidateMerge => 13,
         Call::ClockAdvance => 18,
+        Call::Bay | Call::Bays => unreachable!("nothing asks the loader here"),
         Call::PiecesTake | Call::PiecesEnd => unreachable!("nothing asks for pieces here"),
     }
 }

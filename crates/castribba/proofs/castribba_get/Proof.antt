@@ -1,7 +1,7 @@
 -- `castribba_get` meets its contract: each way out is a law of `Ways`. Assumes nothing.
 use mathlib.Core.Path.{refl, sym, _∙_}
 use Rattle.answers.proofs.Answers.{passes}
-use Rattle.castribba.proofs.Ways.{first-out}
+use Rattle.promises.proofs.Ways.{first-out}
 use borrow.Author.Needs.{needs}
 use Rattle.castribba.proofs.castribba_get.Statement.{statement}
 use Rattle.castribba.proofs.castribba_get.Tie as tie

@@ -2,7 +2,7 @@
 use mathlib.Core.Path.{refl, ap, _∙_}
 use Prim.Native.Nat.{_*_, _^_}
 use Rattle.answers.proofs.Answers.{bare}
-use Rattle.castribba.proofs.Carrying.{number-alone}
+use Rattle.verdicts.proofs.Carrying.{number-alone}
 use borrow.Author.Needs.{needs}
 use Rattle.castribba.proofs.castribba_len.Statement.{statement}
 use Rattle.castribba.proofs.castribba_len.Tie as tie

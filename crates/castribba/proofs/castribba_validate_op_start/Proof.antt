@@ -1,8 +1,8 @@
 -- `castribba_validate_op_start` meets its contract. Assumes nothing.
 use mathlib.Core.Path.{ap, _∙_}
-use Rattle.castribba.specs.declared.OpVerdict.{OpVerdict}
+use Rattle.verdicts.specs.declared.OpVerdict.{OpVerdict}
 use Rattle.map.specs.Asking.{orderStart}
-use Rattle.castribba.proofs.Carrying.{start-carried}
+use Rattle.verdicts.proofs.Carrying.{start-carried}
 use borrow.Author.Needs.{needs}
 use Rattle.castribba.proofs.castribba_validate_op_start.Statement.{statement}
 use Rattle.castribba.proofs.castribba_validate_op_start.Tie as tie

@@ -6,7 +6,7 @@ use Prim.Native.Nat.{_*_}
 use lib.ListN.{length-take}
 use borrow.Author.Needs.{needs}
 use native.Mathlib.Omega.{arith}
-use Rattle.layout.proofs.Loops.{clock-between}
+use Rattle.walks.proofs.Loops.{clock-between}
 use Rattle.layout.proofs.lay_out.Statement.{statement}
 use Rattle.layout.proofs.lay_out.Tie as tie
 

@@ -3,7 +3,7 @@ use Prim.Native.Nat.{_*_, _-_}
 use lib.ListN.{drop, length-take}
 use native.Mathlib.Omega.{arith}
 use borrow.Author.Needs.{needs}
-use Rattle.layout.proofs.Loops.{length-part}
+use Rattle.walks.proofs.Loops.{length-part}
 use Rattle.direct.proofs.Copied.{span-bytes}
 use Rattle.direct.proofs.reading.copy_span.Statement.{statement}
 use Rattle.direct.proofs.reading.copy_span.Tie as tie

@@ -1,0 +1,61 @@
+-- The records of one entry where they lie, and of entries one after the other.
+-- Assumes nothing.
+use mathlib.Core.Path.{_≡_}
+use mathlib.Core.Bool.{false}
+use mathlib.Core.List.{List, _∷_}
+use Prim.Native.Nat.{ℕ, _*_, _≤_, _<_}
+use lib.ListN.{length}
+use Rattle.lists.specs.Order.{_∈_, Ascending, by}
+use Rattle.clock.specs.Dots.{dotLimit, dotsOf, clockOf, isEmpty}
+use Rattle.register.specs.declared.Value.{Value}
+use Rattle.register.specs.Values.{valueLimit}
+use Rattle.parts.specs.declared.Entry.{Entry}
+use Rattle.parts.specs.Model.{dotsIn, valuesIn}
+use Rattle.parts.specs.Valid.{ValidValue}
+use Rattle.records.specs.declared.Record.{Record}
+use Rattle.mapimage.specs.MapImage.{flatFrom, valueRecords, entryRecords}
+use Rattle.walks.specs.Walk.{part}
+use Rattle.walks.specs.declared.Span.{Span}
+use Rattle.keyed.specs.declared.Spans.{Spans}
+use Rattle.keyed.specs.declared.Stop.{Stop}
+
+-- these records stand there, within s
+pub record Holds (s : List ℕ) (l : List Record) (r : Span) : Type 0 where
+  pub order : r .from ≤ r .to
+  pub within : r .to * 16 ≤ length s
+  pub records : part s (r .from) (r .to) ≡ l
+
+-- values within the limits, and where their records and those of their dots stand
+pub record Registered (s : List ℕ) (l : List Value) (values clocks : Span) : Type 0 where
+  pub key : ℕ
+  pub few : length l ≤ valueLimit
+  pub each : (v : Value) → v ∈ l → ValidValue v
+  pub short : (v : Value) → v ∈ l → length (dotsOf (v .clock)) ≤ dotLimit
+  pub third : Holds s (flatFrom (valueRecords 3 key) 0 l) values
+  pub fourth : Holds s (flatFrom (valueRecords 4 key) 0 l) clocks
+
+-- the records of an entry
+pub record EntryLies (s : List ℕ) (e : Entry) (r : Spans) : Type 0 where
+  pub dots : Holds s (entryRecords 2 0 e) (r .dots)
+  pub short : length (dotsIn e) ≤ dotLimit
+  pub register : Registered s (valuesIn e) (r .values) (r .clocks)
+  pub key : register .key ≡ e .key
+
+-- the dots of these entries stand from `at` to `end`, within s
+pub record Owned (s : List ℕ) (at end : ℕ) (l : List Entry) : Type 0 where
+  pub order : at ≤ end
+  pub within : end * 16 ≤ length s
+  pub records : part s at end ≡ flatFrom (entryRecords 2) 0 l
+  pub rising : Ascending (by (λ e. e .key)) l
+  pub some : (e : Entry) → e ∈ l → isEmpty (dotsIn e) ≡ false
+  pub short : (e : Entry) → e ∈ l → length (dotsIn e) ≤ dotLimit
+
+-- the first of them, and where the others' dots begin
+pub record Stops (s : List ℕ) (at end : ℕ) (l : List Entry) (r : Stop) : Type 0 where
+  pub entry : Entry
+  pub more : List Entry
+  pub parts : l ≡ entry ∷ more
+  pub key : r .key ≡ entry .key
+  pub clock : r .clock ≡ clockOf (dotsIn entry)
+  pub onward : at < r .next
+  pub rest : Owned s (r .next) end more

@@ -1,0 +1,5 @@
+pub mod United
+pub mod Ties
+pub mod LaterKept
+pub mod OneKey
+pub mod Examples

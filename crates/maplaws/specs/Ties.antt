@@ -1,0 +1,33 @@
+-- The tie-break of a reset: what becomes of waiting removals whose clocks are cut to the same clock.
+-- Assumes nothing.
+use mathlib.Core.Path.{_≡_}
+use mathlib.Core.Bool.{false}
+use mathlib.Core.List.{List, [], _∷_}
+use Prim.Native.Nat.{ℕ}
+use Rattle.lists.specs.Fold.{fold}
+use Rattle.lists.specs.Sift.{sift}
+use Rattle.lists.specs.Weave.{weave}
+use Rattle.lists.specs.Order.{_∈_}
+use Rattle.clock.specs.declared.Dot.{Dot}
+use Rattle.clock.specs.Dots.{isEmpty, cutDots}
+use Rattle.parts.specs.declared.Removal.{Removal}
+use Rattle.parts.specs.Model.{underOf, listedIn}
+use Rattle.parts.specs.Waits.{removalBefore, cutRemoval, remains}
+use Rattle.maplaws.specs.Among.{OneOf, Under, Lists, Exactly}
+
+-- the removals that wait before a reset by c, and after it
+pub record TieBreak (c : List Dot) (before after : List Removal) : Type 0 where
+  -- a key is listed under a waiting clock exactly when one of the removals whose cut clock is that one listed it
+  pub listed : (clock : List Dot) → isEmpty clock ≡ false → (key : ℕ)
+      → Exactly (OneOf after (Lists clock key)) (OneOf before (λ r. (cutDots c (underOf r) ≡ clock) × (key ∈ listedIn r)))
+  -- a clock waits exactly when one of the removals was cut to it, also where none listed a key
+  pub waits : (clock : List Dot) → isEmpty clock ≡ false
+      → Exactly (OneOf after (Under clock)) (OneOf before (λ r. cutDots c (underOf r) ≡ clock))
+  -- "drop waiting removals whose clocks are emptied"
+  pub emptied : (r : Removal) → r ∈ after → isEmpty (underOf r) ≡ false
+  -- "united": one removal for each clock
+  pub one : (r s : Removal) → r ∈ after → s ∈ after → underOf r ≡ underOf s → r ≡ s
+
+-- a tie-break that lets a withdrawn image come back: of two whose clocks became equal, the later one's keys replace the earlier one's
+unfoldable pub laterKept : List Dot → List Removal → List Removal
+laterKept c l = fold (λ w r. weave removalBefore (λ x. x) (λ x. x) (λ x y. y) w (r ∷ [])) [] (sift remains (cutRemoval c) l)

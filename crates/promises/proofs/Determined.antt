@@ -1,0 +1,67 @@
+-- Any two results that meet the contract of a public call are identical: one law, at every call.
+-- Assumes nothing.
+use mathlib.Core.Path.{_≡_}
+use mathlib.Core.List.{List}
+use Prim.Native.Nat.{ℕ}
+use Rattle.clock.specs.declared.Clock.{Clock}
+use Rattle.answers.proofs.Answers.{same, Same, same-answer}
+use Rattle.delivery.proofs.Whole.{SameEnd, same-end}
+use Rattle.promises.specs.Promises.{ApplyPromise, MergePromise, ResetRemovePromise, UpdatePromise, RmGetPromise, RmReadCtxPromise, GetPromise, LenPromise, LenCountPromise, ValidateOpPromise, ValidateOpStartPromise, ValidateOpEndPromise, ValidateMergePromise, ValidateMergeActorPromise, ValidateMergeCounterPromise, ValidateMergeOurKeyPromise, ValidateMergeTheirKeyPromise, ClockAdvancePromise, PiecesBeginPromise, PiecesTakePromise, PiecesEndPromise}
+
+-- a call with an output, one with a number alone, and one that leaves something lent beside its number
+abbrev Written : (List ℕ → List ℕ → ℕ → Type 0) → Type 0
+Written Promise = (out d e : List ℕ) (r s : ℕ) → Promise out d r → Promise out e s → Same d e r s
+
+abbrev Numbered : (ℕ → Type 0) → Type 0
+Numbered Promise = (r s : ℕ) → Promise r → Promise s → r ≡ s
+
+abbrev Lent : {A : Type 0} → (A → ℕ → Type 0) → Type 0
+Lent {A} Promise = (x y : A) (r s : ℕ) → Promise x r → Promise y s → (r ≡ s) × (x ≡ y)
+
+pub record Determined : Type 0 where
+  pub apply : (map op : List ℕ) → Written (ApplyPromise map op)
+  pub merge : (map other : List ℕ) → Written (MergePromise map other)
+  pub reset-remove : (map clock : List ℕ) → Written (ResetRemovePromise map clock)
+  pub update : (map : List ℕ) (actor key value : ℕ) → Written (UpdatePromise map actor key value)
+  pub rm-get : (map : List ℕ) (key : ℕ) → Written (RmGetPromise map key)
+  pub rm-read-ctx : (map : List ℕ) (key : ℕ) → Written (RmReadCtxPromise map key)
+  pub get : (map : List ℕ) (key : ℕ) → Written (GetPromise map key)
+  pub len : (map : List ℕ) → Numbered (LenPromise map)
+  pub len-count : (map : List ℕ) → Numbered (LenCountPromise map)
+  pub validate-op : (map op : List ℕ) → Numbered (ValidateOpPromise map op)
+  pub validate-op-start : (map op : List ℕ) → Numbered (ValidateOpStartPromise map op)
+  pub validate-op-end : (map op : List ℕ) → Numbered (ValidateOpEndPromise map op)
+  pub validate-merge : (map other : List ℕ) → Numbered (ValidateMergePromise map other)
+  pub validate-merge-actor : (map other : List ℕ) → Numbered (ValidateMergeActorPromise map other)
+  pub validate-merge-counter : (map other : List ℕ) → Numbered (ValidateMergeCounterPromise map other)
+  pub validate-merge-our-key : (map other : List ℕ) → Numbered (ValidateMergeOurKeyPromise map other)
+  pub validate-merge-their-key : (map other : List ℕ) → Numbered (ValidateMergeTheirKeyPromise map other)
+  pub clock-advance : (clock : Clock) (actor counter : ℕ) → Lent (ClockAdvancePromise clock actor counter)
+  pub pieces-begin : (reader : List ℕ) → Lent (PiecesBeginPromise reader)
+  pub pieces-take : (reader piece : List ℕ) → Lent (PiecesTakePromise reader piece)
+  pub pieces-end : (reader out v w d e : List ℕ) (r s : ℕ) → PiecesEndPromise reader out v d r → PiecesEndPromise reader out w e s → SameEnd v w d e r s
+
+pub determined : Determined
+determined = record {
+  apply = λ map op out d e r s p q. same-answer p q;
+  merge = λ map other out d e r s p q. same-answer p q;
+  reset-remove = λ map clock out d e r s p q. same-answer p q;
+  update = λ map actor key value out d e r s p q. same-answer p q;
+  rm-get = λ map key out d e r s p q. same-answer p q;
+  rm-read-ctx = λ map key out d e r s p q. same-answer p q;
+  get = λ map key out d e r s p q. same-answer p q;
+  len = λ map r s p q. same p q;
+  len-count = λ map r s p q. same p q;
+  validate-op = λ map op r s p q. same p q;
+  validate-op-start = λ map op r s p q. same p q;
+  validate-op-end = λ map op r s p q. same p q;
+  validate-merge = λ map other r s p q. same p q;
+  validate-merge-actor = λ map other r s p q. same p q;
+  validate-merge-counter = λ map other r s p q. same p q;
+  validate-merge-our-key = λ map other r s p q. same p q;
+  validate-merge-their-key = λ map other r s p q. same p q;
+  clock-advance = λ clock actor counter x y r s p q. (same (p .0) (q .0), same (p .1) (q .1));
+  pieces-begin = λ reader x y r s p q. (same (p .0) (q .0), same (p .1) (q .1));
+  pieces-take = λ reader piece x y r s p q. (same (p .0) (q .0), same (p .1) (q .1));
+  pieces-end = λ reader out v w d e r s p q. same-end p q;
+}

@@ -1,0 +1,84 @@
+-- The contract of each call of castribba.h: the code cites it, and `Determined` takes it.
+-- Assumes nothing.
+use mathlib.Core.Path.{_≡_}
+use mathlib.Core.List.{List, []}
+use Prim.Native.Nat.{ℕ}
+use Rattle.clock.specs.declared.Clock.{Clock}
+use Rattle.map.specs.Asking.{orderStart, orderEnd}
+use Rattle.answers.specs.Answer.{Answered, wordOf, carriedOf}
+use Rattle.advance.specs.Advancing.{advancedOf}
+use Rattle.mailbox.specs.Machine.{begun, takeWord, takeIn}
+use Rattle.delivery.specs.Delivery.{Ended}
+use Rattle.promises.specs.Calls.{applyAnswer, mergeAnswer, resetAnswer, updateAnswer, rmGetAnswer, rmReadCtxAnswer, getAnswer, lenAnswer, countOf, orderOf, orderAnswer, spentOf, spentAnswer, spentActor, spentCounter, spentOurs, spentTheirs}
+
+-- calls with an output: of what they are given and the output at entry, the output at exit and the word
+module _ (map other entry exit : List ℕ) (word : ℕ) where
+  abbrev pub ApplyPromise : Type 0
+  ApplyPromise = Answered (applyAnswer map other) entry exit word
+
+  abbrev pub MergePromise : Type 0
+  MergePromise = Answered (mergeAnswer map other) entry exit word
+
+  abbrev pub ResetRemovePromise : Type 0
+  ResetRemovePromise = Answered (resetAnswer map other) entry exit word
+
+abbrev pub UpdatePromise : List ℕ → ℕ → ℕ → ℕ → List ℕ → List ℕ → ℕ → Type 0
+UpdatePromise map actor key value entry exit word = Answered (updateAnswer map actor key value) entry exit word
+
+module _ (map : List ℕ) (key : ℕ) (entry exit : List ℕ) (word : ℕ) where
+  abbrev pub RmGetPromise : Type 0
+  RmGetPromise = Answered (rmGetAnswer map key) entry exit word
+
+  abbrev pub RmReadCtxPromise : Type 0
+  RmReadCtxPromise = Answered (rmReadCtxAnswer map key) entry exit word
+
+  abbrev pub GetPromise : Type 0
+  GetPromise = Answered (getAnswer map key) entry exit word
+
+-- calls that answer a number alone
+module _ (map : List ℕ) (word : ℕ) where
+  abbrev pub LenPromise : Type 0
+  LenPromise = word ≡ wordOf (lenAnswer map) []
+
+  abbrev pub LenCountPromise : Type 0
+  LenCountPromise = word ≡ carriedOf 0 (lenAnswer map) (countOf map)
+
+module _ (map op : List ℕ) (word : ℕ) where
+  abbrev pub ValidateOpPromise : Type 0
+  ValidateOpPromise = word ≡ wordOf (orderAnswer map op) []
+
+  abbrev pub ValidateOpStartPromise : Type 0
+  ValidateOpStartPromise = word ≡ carriedOf 11 (orderAnswer map op) (orderStart (orderOf map op))
+
+  abbrev pub ValidateOpEndPromise : Type 0
+  ValidateOpEndPromise = word ≡ carriedOf 11 (orderAnswer map op) (orderEnd (orderOf map op))
+
+module _ (map other : List ℕ) (word : ℕ) where
+  abbrev pub ValidateMergePromise : Type 0
+  ValidateMergePromise = word ≡ wordOf (spentAnswer map other) []
+
+  abbrev pub ValidateMergeActorPromise : Type 0
+  ValidateMergeActorPromise = word ≡ carriedOf 12 (spentAnswer map other) (spentActor (spentOf map other))
+
+  abbrev pub ValidateMergeCounterPromise : Type 0
+  ValidateMergeCounterPromise = word ≡ carriedOf 12 (spentAnswer map other) (spentCounter (spentOf map other))
+
+  abbrev pub ValidateMergeOurKeyPromise : Type 0
+  ValidateMergeOurKeyPromise = word ≡ carriedOf 12 (spentAnswer map other) (spentOurs (spentOf map other))
+
+  abbrev pub ValidateMergeTheirKeyPromise : Type 0
+  ValidateMergeTheirKeyPromise = word ≡ carriedOf 12 (spentAnswer map other) (spentTheirs (spentOf map other))
+
+-- the lent clock, at entry and at exit
+abbrev pub ClockAdvancePromise : Clock → ℕ → ℕ → Clock → ℕ → Type 0
+ClockAdvancePromise entry actor counter exit word = (word ≡ advancedOf entry actor counter .word) × (exit ≡ advancedOf entry actor counter .clock)
+
+-- the lent reader of a map that comes in pieces, at entry and at exit
+abbrev pub PiecesBeginPromise : List ℕ → List ℕ → ℕ → Type 0
+PiecesBeginPromise entry exit word = (word ≡ 0) × (exit ≡ begun entry)
+
+abbrev pub PiecesTakePromise : List ℕ → List ℕ → List ℕ → ℕ → Type 0
+PiecesTakePromise entry piece exit word = (word ≡ takeWord entry) × (exit ≡ takeIn entry piece)
+
+abbrev pub PiecesEndPromise : List ℕ → List ℕ → List ℕ → List ℕ → ℕ → Type 0
+PiecesEndPromise reader entry left exit word = Ended reader entry left exit word

@@ -1,0 +1,4 @@
+pub mod Fitting
+pub mod Images
+pub mod Goods
+pub mod Back

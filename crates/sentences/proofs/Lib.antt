@@ -1,0 +1,4 @@
+pub mod Holding
+pub mod Needing
+pub mod Ops
+pub mod Three

@@ -1,0 +1,26 @@
+-- What a validation says of two images: its number, and what it found where both passed.
+-- Assumes nothing.
+use Prim.Native.Nat.{ℕ}
+use mathlib.Core.Bool.{cond}
+use mathlib.Core.List.{List, [], _∷_}
+use lib.Dec.{eqb}
+use Rattle.map.specs.declared.Order.the-variants.{Fits}
+use Rattle.map.specs.declared.Spent.the-variants.{Once}
+use Rattle.opimage.specs.OpImage.{readOp}
+use Rattle.maprecords.specs.Related.{readMap}
+use Rattle.answers.specs.Answer.{firstOf, numberOf}
+use Rattle.promises.specs.Calls.{orderOf, orderAnswer, spentOf, spentAnswer}
+use Rattle.verdicts.specs.declared.OpVerdict.{OpVerdict}
+use Rattle.verdicts.specs.declared.MergeVerdict.{MergeVerdict}
+
+abbrev pub opVerdict : List ℕ → List ℕ → OpVerdict
+opVerdict map op = record {
+  number = numberOf (orderAnswer map op) [];
+  order = cond (eqb (firstOf (readMap map .number ∷ readOp op .number ∷ [])) 0) (orderOf map op) Fits;
+}
+
+abbrev pub mergeVerdict : List ℕ → List ℕ → MergeVerdict
+mergeVerdict map other = record {
+  number = numberOf (spentAnswer map other) [];
+  spent = cond (eqb (firstOf (readMap map .number ∷ readMap other .number ∷ [])) 0) (spentOf map other) Once;
+}
