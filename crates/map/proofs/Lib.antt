@@ -1,4 +1,3 @@
-pub mod Examples
 pub mod Removals
 pub mod Kept
 pub mod Uncovered

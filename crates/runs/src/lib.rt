@@ -24,7 +24,9 @@ pub fn clock_of(run: &[u8]) -> Clock
             actor: r.actor,
             counter: r.number,
         };
-        clock = clock.push(d);
+        let k = clock.len;
+        clock.dots[k] = d;
+        clock.len = k + 1;
     }
     clock
 }

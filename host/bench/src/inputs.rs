@@ -1,8 +1,8 @@
-//! Full maps and what is done with them.
+//! Full maps, smaller ones, and what is done with them.
 
-use oracle::full::{full_clock, full_map};
+use oracle::full::{busy_map, full_clock, full_map, map_of, Sizes};
 use oracle::image::{clock_image, map_image, operation_image, LONGEST_MAP};
-use oracle::model::{Clock, Operation};
+use oracle::model::{Clock, Map, Operation};
 
 pub enum Work {
     Apply {
@@ -48,28 +48,67 @@ pub struct Task {
     pub of_image: bool,
 }
 
+/// Half of every limit.
+const HALF: Sizes = Sizes { actors: 4, entries: 8, values: 2, waiting: 4, keys: 8 };
+/// What most maps are like: two bays that two parties have set.
+const SMALL: Sizes = Sizes { actors: 2, entries: 2, values: 1, waiting: 0, keys: 0 };
+
+/// An actor's next update of a key, which has seen all of the map.
+fn next_update(map: &Map, actor: u16, key: u32) -> Vec<u8> {
+    let counter = map.clock[&actor] + 1;
+    let mut put_clock = map.clock.clone();
+    put_clock.insert(actor, counter);
+    operation_image(&Operation::Update { actor, counter, key, put_clock, put_value: 5 })
+}
+
 pub fn tasks() -> Vec<Task> {
     let map = full_map(|_| false);
     let image = map_image(&map);
     assert_eq!(image.len(), LONGEST_MAP);
     let newer_half = map_image(&full_map(|key| key % 2 == 1));
 
-    let mut put_clock = map.clock.clone();
-    put_clock.insert(ACTOR, 1001);
-    let update =
-        Operation::Update { actor: ACTOR, counter: 1001, key: KEY, put_clock, put_value: 5 };
+    let update = next_update(&map, ACTOR, KEY);
     let removal = Operation::Removal { clock: map.clock.clone(), keys: [KEY].into() };
     let reset = full_clock(|actor| if actor % 2 == 1 { 90 } else { 1 });
 
     let none = clock_image(&Clock::new());
+    let busy = map_image(&busy_map());
+    let half = map_of(&HALF, |_| false);
+    let small = map_of(&SMALL, |_| false);
 
     let task = |name, work| Task { name, map: image.clone(), work, of_image: false };
     let of_image = |name, work| Task { of_image: true, ..task(name, work) };
+    let of_map = |name, map: &Map, work| Task { name, map: map_image(map), work, of_image: false };
     vec![
-        task("apply an update of one entry", Work::Apply { op: operation_image(&update) }),
+        task("apply an update of one entry", Work::Apply { op: update.clone() }),
         task("apply a removal of one entry", Work::Apply { op: operation_image(&removal) }),
         task("merge with an equal map", Work::Merge { other: image.clone() }),
         task("merge with a map of which half is newer", Work::Merge { other: newer_half }),
+        of_map(
+            "merge with an equal map, every removal lists every key",
+            &busy_map(),
+            Work::Merge { other: busy },
+        ),
+        of_map(
+            "half of every limit: merge with an equal map",
+            &half,
+            Work::Merge { other: map_image(&half) },
+        ),
+        of_map(
+            "half of every limit: apply an update",
+            &half,
+            Work::Apply { op: next_update(&half, ACTOR, KEY) },
+        ),
+        of_map(
+            "two entries: merge with an equal map",
+            &small,
+            Work::Merge { other: map_image(&small) },
+        ),
+        of_map(
+            "two entries: apply an update",
+            &small,
+            Work::Apply { op: next_update(&small, 1, 2) },
+        ),
         task("reset_remove", Work::ResetRemove { clock: clock_image(&reset) }),
         of_image("read: len", Work::Len),
         of_image(
@@ -88,7 +127,7 @@ pub fn tasks() -> Vec<Task> {
         task("rm_get", Work::Ask(Question::RmGet)),
         task("rm_read_ctx", Work::Ask(Question::RmReadCtx)),
         task("get", Work::Ask(Question::Get)),
-        task("validate_op", Work::Ask(Question::ValidateOp { op: operation_image(&update) })),
+        task("validate_op", Work::Ask(Question::ValidateOp { op: update })),
         task(
             "validate_merge with an equal map",
             Work::Ask(Question::ValidateMerge { other: image.clone() }),

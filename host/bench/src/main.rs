@@ -1,4 +1,4 @@
-//! Times the calls on full maps: bench [ROUNDS] prints a table of medians,
+//! Times the calls on full and smaller maps: bench [ROUNDS] prints a table of medians,
 //! with their spread, and how many times as long the first subject takes.
 
 mod inputs;
@@ -7,19 +7,40 @@ mod subjects;
 use calls::LONGEST_MAP;
 use inputs::Task;
 use std::hint::black_box;
-use std::time::{Duration, Instant};
+use std::time::Duration;
 use subjects::Subject;
 
 /// Long enough that the clock's own grain does not show.
 const SAMPLE: Duration = Duration::from_millis(2);
 const DEFAULT_ROUNDS: usize = 41;
 
+/// As C's `struct timespec` has it on 64-bit Linux.
+#[repr(C)]
+struct Taken {
+    seconds: i64,
+    nanoseconds: i64,
+}
+
+const THREAD_TIME: i32 = 3; // CLOCK_THREAD_CPUTIME_ID
+
+extern "C" {
+    fn clock_gettime(which: i32, taken: *mut Taken) -> i32;
+}
+
+/// The processor's time for this thread so far: what else the machine runs does not count.
+fn thread_time() -> Duration {
+    let mut taken = Taken { seconds: 0, nanoseconds: 0 };
+    // SAFETY: it writes one `timespec`, and keeps nothing
+    assert_eq!(unsafe { clock_gettime(THREAD_TIME, &mut taken) }, 0);
+    Duration::new(taken.seconds as u64, taken.nanoseconds as u32)
+}
+
 /// Nanoseconds for one run of the task, over a batch of prepared inputs.
 fn sample(subject: &dyn Subject, task: &Task, batch: usize) -> f64 {
     let mut prepared = subject.prepare(task, batch);
-    let start = Instant::now();
+    let start = thread_time();
     prepared.run();
-    let taken = start.elapsed();
+    let taken = thread_time() - start;
     black_box(&mut prepared);
     taken.as_nanos() as f64 / batch as f64
 }
@@ -49,7 +70,8 @@ fn main() {
         std::env::args().nth(1).and_then(|text| text.parse().ok()).unwrap_or(DEFAULT_ROUNDS);
     let every = subjects::all();
     let first = every[0].name();
-    println!("Median (least to most) of {rounds} rounds; the longest map, {LONGEST_MAP} bytes.\n");
+    println!("Median (least to most) of {rounds} rounds; the longest map, {LONGEST_MAP} bytes,");
+    println!("where a task names no other.\n");
     println!("| task | subject | microseconds | nanoseconds a record | {first}: so many times |");
     println!("|---|---|---|---|---|");
     for task in inputs::tasks() {

@@ -1,34 +1,68 @@
-//! The longest map: every limit met at once.
+//! Maps by their sizes: the longest, with every limit met at once, and shorter ones.
 
 use crate::model::{Clock, Entry, Map};
 
-const ACTORS: std::ops::RangeInclusive<u16> = 1..=8;
+/// How many dots each clock has, entries a map, values an entry, removals wait, keys each of them.
+pub struct Sizes {
+    pub actors: u16,
+    pub entries: u32,
+    pub values: u16,
+    pub waiting: u64,
+    pub keys: u32,
+}
+
+const FULL: Sizes = Sizes { actors: 8, entries: 16, values: 4, waiting: 8, keys: 16 };
+
+fn clock_of(actors: u16, counter: impl Fn(u16) -> u64) -> Clock {
+    (1..=actors).map(|actor| (actor, counter(actor))).collect()
+}
 
 /// A clock of all eight actors.
 pub fn full_clock(counter: impl Fn(u16) -> u64) -> Clock {
-    ACTORS.map(|actor| (actor, counter(actor))).collect()
+    clock_of(FULL.actors, counter)
 }
 
-/// An entry of eight dots with four concurrent values of eight dots each, all from `base` on.
-fn full_entry(base: u64) -> Entry {
-    let values = (1..=4)
+/// An entry with concurrent values, all dots from `base` on.
+fn entry_of(sizes: &Sizes, base: u64) -> Entry {
+    let values = (1..=sizes.values)
         .map(|place| {
-            (full_clock(|actor| base + u64::from(actor == place)), base + u64::from(place))
+            let clock = clock_of(sizes.actors, |actor| base + u64::from(actor == place));
+            (clock, base + u64::from(place))
         })
         .collect();
-    Entry { clock: full_clock(|actor| base + u64::from(actor)), values }
+    Entry { clock: clock_of(sizes.actors, |actor| base + u64::from(actor)), values }
 }
 
-/// Sixteen full entries and eight full waiting removals of keys that are not there. The entries
-/// whose keys `newer` picks were written later than those of a map that picks none.
-pub fn full_map(newer: impl Fn(u32) -> bool) -> Map {
+/// Entries from key 1 on, and waiting removals of keys that are not there. The entries whose keys
+/// `newer` picks were written later than those of a map that picks none.
+pub fn map_of(sizes: &Sizes, newer: impl Fn(u32) -> bool) -> Map {
     let base = |key: u32| u64::from(key) * 10 + if newer(key) { 1000 } else { 0 };
-    let seen = if (1..=16).any(&newer) { 2000 } else { 1000 };
+    let seen = if (1..=sizes.entries).any(&newer) { 2000 } else { 1000 };
     Map {
-        clock: full_clock(|_| seen),
-        entries: (1..=16).map(|key| (key, full_entry(base(key)))).collect(),
-        waiting: (1..=8)
-            .map(|place| (full_clock(|_| 3000 + place), (101..=116).collect()))
+        clock: clock_of(sizes.actors, |_| seen),
+        entries: (1..=sizes.entries).map(|key| (key, entry_of(sizes, base(key)))).collect(),
+        waiting: (1..=sizes.waiting)
+            .map(|place| {
+                let clock = clock_of(sizes.actors, |_| 3000 + place);
+                (clock, (101..=100 + sizes.keys).collect())
+            })
             .collect(),
     }
+}
+
+/// Sixteen full entries and eight full waiting removals.
+pub fn full_map(newer: impl Fn(u32) -> bool) -> Map {
+    map_of(&FULL, newer)
+}
+
+/// A full map whose removals each list all of its keys, and have seen the last actor's dots alone:
+/// every removal cuts every clock, and seven dots of eight are left.
+pub fn busy_map() -> Map {
+    let waiting = (1..=FULL.waiting)
+        .map(|place| {
+            let clock = full_clock(|actor| if actor == FULL.actors { 3000 + place } else { place });
+            (clock, (1..=FULL.keys).collect())
+        })
+        .collect();
+    Map { waiting, ..full_map(|_| false) }
 }

@@ -1,11 +1,15 @@
--- `clock_of` meets its contract: the loop pushes a record's dot a turn. Assumes nothing.
+-- `clock_of` meets its contract: the loop adds a record's dot a turn, in place. Assumes nothing.
 use mathlib.Core.Path.{_≡_, ap, sym, _∙_}
-use mathlib.Core.List.{[], _∷_, _++_, map}
-use Prim.Native.Nat.{_/_, _≤_, _-_}
+use mathlib.Core.List.{List, [], _∷_, _++_, map}
+use Prim.Native.Nat.{ℕ, _/_, _≤_, _<_, _-_}
 use lib.ListN.{length, length-map}
 use native.Mathlib.Omega.{arith}
 use borrow.Author.Needs.{needs}
-use Rattle.clock.specs.Dots.{clockOf}
+use Rattle.lists.proofs.Pads.{length-pad}
+use Rattle.clock.specs.declared.Clock.{Clock}
+use Rattle.clock.specs.declared.Dot.{Dot}
+use Rattle.clock.specs.Dots.{dotLimit, noDot, clockOf}
+use Rattle.clock.proofs.Packs.{pushed}
 use Rattle.records.specs.Records.{recordsFrom}
 use Rattle.records.proofs.Joined.{length-records}
 use Rattle.clockimage.specs.Image.{dotOf}
@@ -13,30 +17,52 @@ use Rattle.runs.proofs.Growing.{dots-none, dots-next}
 use Rattle.runs.proofs.clock_of.Statement.{statement}
 use Rattle.runs.proofs.clock_of.Tie as tie
 
+-- the dots of the first i records, of at most n, are i
+dots-count : (s : List ℕ) (i n : ℕ) → i < n → n ≤ dotLimit → length (map dotOf (recordsFrom s 0 i)) < dotLimit
+dots-count s i n h k = omega (arith, length-map (recordsFrom s 0 i) dotOf, length-records s 0 i)
+
+-- there is room for one more
+room : {c : Clock} (l : List Dot) → c ≡ clockOf l → length l < dotLimit → (c .len < 8) × (length (c .dots) ≡ 8)
+room l e h = (omega (arith, ap (λ (x : Clock). x .len) e), ap (λ (x : Clock). length (x .dots)) e ∙ length-pad noDot dotLimit l (omega arith))
+
 abbrev Inv-loop : tie.InvT-loop
-Inv-loop run n clock₀ i₀ clock i = (i ≤ n) × (clock ≡ clockOf (map dotOf (recordsFrom run 0 i)))
+Inv-loop run n clock₀ i₀ clock i = ((i ≤ n) × (n ≤ dotLimit)) × (clock ≡ clockOf (map dotOf (recordsFrom run 0 i)))
 
 abbrev μ-loop : tie.MeasureT-loop
 μ-loop run n clock₀ i₀ clock i = n - i
 
 loop-holds : tie.Need-loop-holds Inv-loop μ-loop
-loop-holds c = (search needs, c .new .ensures ∙ ap clockOf (sym (dots-none _)))
+loop-holds c = ((omega arith, omega arith), c .new .ensures ∙ ap clockOf (sym (dots-none _)))
 
-push-requires : tie.Need-push-requires Inv-loop μ-loop
-push-requires c κs =
+mul-d : tie.Need-mul-d Inv-loop μ-loop
+mul-d c =
     let t = c .before .before in
     let s = t .before .before .before .args .run .now in
-    let e = ap (λ k. k .len) (t .loop .inv .1) in
-    omega (arith, e, length-map (recordsFrom s 0 (t .loop .i)) dotOf, length-records s 0 (t .loop .i))
+    let r = room _ (t .loop .inv .1) (dots-count s (t .loop .i) (length s / 16) (omega arith) (omega arith)) in
+    omega arith
+
+element-set-from-d : tie.Need-element-set-from-d Inv-loop μ-loop
+element-set-from-d c =
+    let t = c .before .before in
+    let s = t .before .before .before .args .run .now in
+    let r = room _ (t .loop .inv .1) (dots-count s (t .loop .i) (length s / 16) (omega arith) (omega arith)) in
+    omega arith
+
+add-clock : tie.Need-add-clock Inv-loop μ-loop
+add-clock c =
+    let t = c .before .before in
+    let s = t .before .before .before .args .run .now in
+    let r = room _ (t .loop .inv .1) (dots-count s (t .loop .i) (length s / 16) (omega arith) (omega arith)) in
+    omega arith
 
 loop-again : tie.Need-loop-again Inv-loop μ-loop
 loop-again c =
-    let t = c .before .before .before in
+    let t = c .before .before in
     let s = t .before .before .before .args .run .now in
     let i = t .loop .i in (
-      search needs,
-      c .push .ensures _ (t .loop .inv .1)
-          ∙ ap clockOf (ap (λ r. map dotOf (recordsFrom s 0 i) ++ (dotOf r ∷ [])) (c .before .read-record .ensures) ∙ sym (dots-next s i)),
+      (omega arith, omega arith),
+      pushed (map dotOf (recordsFrom s 0 i)) _ (t .loop .inv .1) (dots-count s i (length s / 16) (omega arith) (omega arith))
+          ∙ ap clockOf (ap (λ r. map dotOf (recordsFrom s 0 i) ++ (dotOf r ∷ [])) (c .read-record .ensures) ∙ sym (dots-next s i)),
     )
 
 returns : tie.Need-returns Inv-loop μ-loop
@@ -56,7 +82,9 @@ clock-of-spec =
     (λ c. search needs)
     (λ c κs. search needs)
     (λ c. search needs)
-    push-requires
+    mul-d
+    element-set-from-d
+    add-clock
     (λ c. search needs)
     loop-again
     returns)

@@ -1,0 +1,4 @@
+pub mod Seeks
+pub mod Meets
+pub mod Counters
+pub mod Walked

@@ -1,0 +1,4 @@
+pub mod Picks
+pub mod Dots
+pub mod Marking
+pub mod Cutting
