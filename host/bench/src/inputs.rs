@@ -30,6 +30,8 @@ pub enum Question {
     ValidateMerge {
         other: Vec<u8>,
     },
+    Bay,
+    Bays,
     /// The map's image comes in pieces, and is written at the end.
     Pieces {
         length: usize,
@@ -132,5 +134,7 @@ pub fn tasks() -> Vec<Task> {
             "validate_merge with an equal map",
             Work::Ask(Question::ValidateMerge { other: image.clone() }),
         ),
+        task("the loader: bay", Work::Ask(Question::Bay)),
+        task("the loader: bays", Work::Ask(Question::Bays)),
     ]
 }

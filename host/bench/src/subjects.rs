@@ -50,6 +50,8 @@ fn expected_answer(task: &Task) -> expected::Answer {
         Work::Ask(Question::Get) => expected::get(&task.map, KEY),
         Work::Ask(Question::ValidateOp { op }) => expected::validate_op(&task.map, op),
         Work::Ask(Question::ValidateMerge { other }) => expected::validate_merge(&task.map, other),
+        Work::Ask(Question::Bay) => expected::bay(&task.map, KEY),
+        Work::Ask(Question::Bays) => expected::bays(&task.map),
         Work::Ask(Question::Pieces { .. }) => expected::delivered(&task.map),
     }
 }
@@ -84,6 +86,8 @@ impl<C: Calls> ByByte<C> {
             Work::Ask(Question::Get) => self.0.get(&task.map, KEY, out),
             Work::Ask(Question::ValidateOp { op }) => self.0.validate_op(&task.map, op),
             Work::Ask(Question::ValidateMerge { other }) => self.0.validate_merge(&task.map, other),
+            Work::Ask(Question::Bay) => self.0.bay(&task.map, KEY, out),
+            Work::Ask(Question::Bays) => self.0.bays(&task.map, out),
             Work::Ask(Question::Pieces { length }) => {
                 self.0.pieces_begin(reader);
                 for piece in task.map.chunks(*length) {
