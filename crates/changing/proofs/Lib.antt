@@ -1,0 +1,5 @@
+pub mod Numbers
+pub mod Drafts
+pub mod Starts
+pub mod Results
+pub mod Waits
