@@ -23,7 +23,7 @@ use Rattle.clock.specs.Lawful.{Lawful}
 use Rattle.clock.proofs.Packs.{dots-of}
 use Rattle.register.specs.declared.Value.{Value}
 use Rattle.parts.specs.declared.Entry.{Entry}
-use Rattle.parts.specs.Model.{dotsIn as entryDots, valuesIn}
+use Rattle.parts.specs.Model.{entryLimit, dotsIn as entryDots, valuesIn}
 use Rattle.parts.specs.Valid.{ValidValue, ValidEntry, ValidEntries}
 use Rattle.parts.proofs.Pieces.{dots-in, values-in}
 use Rattle.parts.proofs.Kept.{valid-as}
@@ -55,7 +55,7 @@ last-after (x ∷ l) r s (next f a) i =
 record KeysGood (l : List Record) : Type 0 where
   from : (k : ℕ) → k ∈ entryKeys l → (s : Record) × (s ∈ l) × ((s .kind ≡ 2) × (s .key ≡ k))
   rising : Ascending (by (λ k. k)) (entryKeys l)
-  count : length (entryKeys l) ≤ 16
+  count : length (entryKeys l) ≤ entryLimit
 
 no-keys : entryKeys [] ≡ []
 unfolding entryKeys fold
@@ -114,7 +114,7 @@ flipped true e = sym e
 flipped false e = refl
 
 module _ (l : List Record) (z : scanNumber 1 6 l ≡ 0) where
-  pub keys-count : length (entryKeys l) ≤ 16
+  pub keys-count : length (entryKeys l) ≤ entryLimit
   keys-count = keys-good l z .count
 
   -- dots of an entry, of a value
@@ -203,5 +203,5 @@ module _ (l : List Record) (z : scanNumber 1 6 l ≡ 0) where
     pub entries-fit : (e : Entry) → e ∈ entriesFor l → EntryFits e
     entries-fit e i = let m = Memᴰ·of-map (entryIn l) (entryKeys l) i in rw (← m .2) (entry-fits (m .0) (m .1) (whole-at (m .0) (m .1)))
 
-    pub entries-count : length (entriesFor l) ≤ 16
+    pub entries-count : length (entriesFor l) ≤ entryLimit
     entries-count = let h = keys-count in omega (arith, length-map (entryKeys l) (entryIn l))

@@ -2,7 +2,7 @@
 -- Assumes nothing.
 use mathlib.Core.Path.{_≡_, refl, ap, _∙_}
 use mathlib.Core.Bool.{Bool, true}
-use mathlib.Core.List.{List, [], _∷_, _++_, map}
+use mathlib.Core.List.{List, [], _∷_, _++_}
 use Prim.Native.Nat.{ℕ, _+_, _≤_, _<_}
 use native.Mathlib.Omega.{arith}
 use lib.Dec.{eqb}
@@ -10,6 +10,9 @@ use lib.ListN.{length, length-map}
 use borrow.Author.Tests.{eqb-true}
 use Rattle.lists.specs.Sift.{sift, those}
 use Rattle.lists.proofs.Pads.{length-snoc}
+use Rattle.clock.specs.Dots.{dotLimit}
+use Rattle.register.specs.Values.{valueLimit}
+use Rattle.parts.specs.Model.{keyLimit}
 use Rattle.records.specs.declared.Record.{Record}
 use Rattle.scan.specs.Scanned.{scanNumber}
 use Rattle.scan.proofs.Eachs.{decide, both-left, both-right}
@@ -39,27 +42,27 @@ module _ (low high : ℕ) (test : Record → Bool) (limit : ℕ)
 pub is-kind : (kind : ℕ) (r : Record) → isKind kind r ≡ true → r .kind ≡ kind
 is-kind kind r t = eqb-true (r .kind) kind t
 
-pub clock-few : (l : List Record) → scanNumber 1 6 l ≡ 0 → length (clockIn l) ≤ 8
-clock-few = few-dots 1 6 (isKind 1) 8 (λ l r z t. let h = dots-room 1 6 l r z 1 (is-kind 1 r t) (λ e. omega arith) refl refl in omega (arith, length-map (those (isKind 1) l) dotOf))
+pub clock-few : (l : List Record) → scanNumber 1 6 l ≡ 0 → length (clockIn l) ≤ dotLimit
+clock-few = few-dots 1 6 (isKind 1) dotLimit (λ l r z t. let h = dots-room 1 6 l r z 1 (is-kind 1 r t) (λ e. omega arith) refl refl in omega (arith, length-map (those (isKind 1) l) dotOf))
 
 module _ (key : ℕ) where
   pub at-key : (kind : ℕ) (r : Record) → underKey kind key r ≡ true → (r .kind ≡ kind) × (r .key ≡ key)
   at-key kind r t = (is-kind kind r (both-left (isKind kind r) (eqb (r .key) key) t), eqb-true (r .key) key (both-right (isKind kind r) (eqb (r .key) key) t))
 
-  pub entry-dots-few : (l : List Record) → scanNumber 1 6 l ≡ 0 → length (dotsIn (underKey 2 key) l) ≤ 8
-  entry-dots-few = few-dots 1 6 (underKey 2 key) 8 (λ l r z t. let k = at-key 2 r t in
+  pub entry-dots-few : (l : List Record) → scanNumber 1 6 l ≡ 0 → length (dotsIn (underKey 2 key) l) ≤ dotLimit
+  entry-dots-few = few-dots 1 6 (underKey 2 key) dotLimit (λ l r z t. let k = at-key 2 r t in
       let h = entry-dots-room l r z (k .0) in let e = ap (λ q. length (dotsIn (underKey 2 q) l)) (k .1) in omega (arith, length-map (those (underKey 2 key) l) dotOf))
 
-  pub values-few : (l : List Record) → scanNumber 1 6 l ≡ 0 → length (those (underKey 3 key) l) ≤ 4
-  values-few = few 1 6 (underKey 3 key) 4 (λ l r z t. let k = at-key 3 r t in
+  pub values-few : (l : List Record) → scanNumber 1 6 l ≡ 0 → length (those (underKey 3 key) l) ≤ valueLimit
+  values-few = few 1 6 (underKey 3 key) valueLimit (λ l r z t. let k = at-key 3 r t in
       let h = values-room l r z (k .0) in let e = ap (λ q. length (those (underKey 3 q) l)) (k .1) in omega arith)
 
   module _ (index : ℕ) where
     pub at-both : (r : Record) → underBoth 4 key index r ≡ true → ((r .kind ≡ 4) × (r .key ≡ key)) × (r .index ≡ index)
     at-both r t = (at-key 4 r (both-left (underKey 4 key r) (eqb (r .index) index) t), eqb-true (r .index) index (both-right (underKey 4 key r) (eqb (r .index) index) t))
 
-    pub value-dots-few : (l : List Record) → scanNumber 1 6 l ≡ 0 → length (dotsIn (underBoth 4 key index) l) ≤ 8
-    value-dots-few = few-dots 1 6 (underBoth 4 key index) 8 (λ l r z t. let k = at-both r t in
+    pub value-dots-few : (l : List Record) → scanNumber 1 6 l ≡ 0 → length (dotsIn (underBoth 4 key index) l) ≤ dotLimit
+    value-dots-few = few-dots 1 6 (underBoth 4 key index) dotLimit (λ l r z t. let k = at-both r t in
         let h = value-dots-room l r z (k .0 .0) in
         let e = ap (λ q. length (dotsIn (underBoth 4 q (r .index)) l)) (k .0 .1) ∙ ap (λ q. length (dotsIn (underBoth 4 key q) l)) (k .1) in
         omega (arith, length-map (those (underBoth 4 key index) l) dotOf))
@@ -68,10 +71,10 @@ module _ (index : ℕ) where
   pub at-index : (kind : ℕ) (r : Record) → underIndex kind index r ≡ true → (r .kind ≡ kind) × (r .index ≡ index)
   at-index kind r t = (is-kind kind r (both-left (isKind kind r) (eqb (r .index) index) t), eqb-true (r .index) index (both-right (isKind kind r) (eqb (r .index) index) t))
 
-  pub waiting-dots-few : (l : List Record) → scanNumber 1 6 l ≡ 0 → length (dotsIn (underIndex 5 index) l) ≤ 8
-  waiting-dots-few = few-dots 1 6 (underIndex 5 index) 8 (λ l r z t. let k = at-index 5 r t in
+  pub waiting-dots-few : (l : List Record) → scanNumber 1 6 l ≡ 0 → length (dotsIn (underIndex 5 index) l) ≤ dotLimit
+  waiting-dots-few = few-dots 1 6 (underIndex 5 index) dotLimit (λ l r z t. let k = at-index 5 r t in
       let h = waiting-dots-room l r z (k .0) in let e = ap (λ q. length (dotsIn (underIndex 5 q) l)) (k .1) in omega (arith, length-map (those (underIndex 5 index) l) dotOf))
 
-  pub waiting-keys-few : (l : List Record) → scanNumber 1 6 l ≡ 0 → length (those (underIndex 6 index) l) ≤ 16
-  waiting-keys-few = few 1 6 (underIndex 6 index) 16 (λ l r z t. let k = at-index 6 r t in
+  pub waiting-keys-few : (l : List Record) → scanNumber 1 6 l ≡ 0 → length (those (underIndex 6 index) l) ≤ keyLimit
+  waiting-keys-few = few 1 6 (underIndex 6 index) keyLimit (λ l r z t. let k = at-index 6 r t in
       let h = waiting-keys-room l r z (k .0) in let e = ap (λ q. length (those (underIndex 6 q) l)) (k .1) in omega arith)

@@ -13,9 +13,10 @@ use Rattle.lists.specs.Order.{_∈_, Ascending, nil, by}
 use Rattle.lists.specs.Fold.{fold}
 use Rattle.lists.specs.Sift.{sift, those}
 use Rattle.lists.proofs.Orders.{apart}
-use Rattle.clock.specs.Dots.{clockOf}
+use Rattle.clock.specs.Dots.{dotLimit, clockOf}
 use Rattle.clock.specs.Lawful.{Lawful}
 use Rattle.clock.proofs.Packs.{dots-of}
+use Rattle.parts.specs.Model.{keyLimit}
 use Rattle.map.specs.Valid.{RemovalWithin, UpdateWithin, OpWithin}
 use Rattle.records.specs.declared.Record.{Record}
 use Rattle.records.specs.Records.{recordsOf}
@@ -61,14 +62,14 @@ module _ (l : List Record) (z : scanNumber 7 12 l ≡ 0) where
       keys-rise 7 12 l z (isKind 9) 9 0
       (λ x i t. let k = is-kind 9 x t in let g = fine 7 12 l z x i in record { kind-is = k; index-is = no-index 7 12 x g k refl; no-actor = no-actor 7 12 x g k refl })
 
-  dots-few : (kind : ℕ) → (kind ≡ 6 → ⊥) → usesIndex kind ≡ false → usesKey kind ≡ false → limitAt innerLimits kind ≡ 8
-      → length (dotsIn (isKind kind) l) ≤ 8
+  dots-few : (kind : ℕ) → (kind ≡ 6 → ⊥) → usesIndex kind ≡ false → usesKey kind ≡ false → limitAt innerLimits kind ≡ dotLimit
+      → length (dotsIn (isKind kind) l) ≤ dotLimit
   dots-few kind six a b e =
-      few-dots 7 12 (isKind kind) 8 (λ m r y t. let h = dots-room 7 12 m r y kind (is-kind kind r t) six a b in omega (arith, length-map (those (isKind kind) m) dotOf)) l z
+      few-dots 7 12 (isKind kind) dotLimit (λ m r y t. let h = dots-room 7 12 m r y kind (is-kind kind r t) six a b in omega (arith, length-map (those (isKind kind) m) dotOf)) l z
 
-  keys-few : length (keysIn (isKind 9) l) ≤ 16
+  keys-few : length (keysIn (isKind 9) l) ≤ keyLimit
   keys-few =
-      let h = few 7 12 (isKind 9) 16 (λ m r y t. let g = scan-good 7 12 _ y in outer-room 7 12 m r (g .0) (g .1) 9 (is-kind 9 r t) (λ e. omega arith) refl refl) l z in
+      let h = few 7 12 (isKind 9) keyLimit (λ m r y t. let g = scan-good 7 12 _ y in outer-room 7 12 m r (g .0) (g .1) 9 (is-kind 9 r t) (λ e. omega arith) refl refl) l z in
       omega (arith, length-map (those (isKind 9) l) (λ r. r .key))
 
   removal : RemovalWithin (removalIn l)

@@ -19,7 +19,7 @@ use Rattle.clock.specs.Dots.{isEmpty}
 use Rattle.clock.specs.Lawful.{Lawful}
 use Rattle.clock.proofs.Packs.{dots-of}
 use Rattle.parts.specs.declared.Removal.{Removal}
-use Rattle.parts.specs.Model.{underOf, listedIn, removalAs}
+use Rattle.parts.specs.Model.{waitingLimit, keyLimit, underOf, listedIn, removalAs}
 use Rattle.parts.specs.Waits.{removalBefore}
 use Rattle.parts.specs.Valid.{ValidRemoval, ValidWaiting}
 use Rattle.parts.proofs.Clocks.{removal-strict, removal-steady}
@@ -46,7 +46,7 @@ pub under-as : (c : List Rattle.clock.specs.declared.Dot.Dot) (k : List ℕ) �
 under-as c k = dots-of c refl
 
 pub listed-as : (c : List Rattle.clock.specs.declared.Dot.Dot) (k : List ℕ) → listedIn (removalAs c k) ≡ k
-listed-as c k = Rattle.lists.proofs.Pads.take-pad 0 16 k
+listed-as c k = Rattle.lists.proofs.Pads.take-pad 0 keyLimit k
 
 pub removal-as : (c : List Rattle.clock.specs.declared.Dot.Dot) (k : List ℕ) → Lawful c → Ascending (by (λ x. x)) k → ValidRemoval (removalAs c k)
 removal-as c k h a = record {
@@ -62,7 +62,7 @@ count-more l r = fold-append _ 0 l (r ∷ [])
 
 record CountGood (l : List Record) : Type 0 where
   held : (i : ℕ) → i < waitingCount l → (s : Record) × (s ∈ l) × ((s .kind ≡ 5) × (s .index ≡ i))
-  few : waitingCount l ≤ 8
+  few : waitingCount l ≤ waitingLimit
 
 count-none : waitingCount [] ≡ 0
 unfolding waitingCount fold
@@ -154,5 +154,5 @@ module _ (l : List Record) (z : scanNumber 1 6 l ≡ 0) (p : each placed l ≡ t
   pub waiting-fit : (r : Removal) → r ∈ waitingFor l → RemovalFits r
   waiting-fit r i = let m = Memᴰ·of-map (removalIn l) (below (waitingCount l)) i in rw (← m .2) (removal-fits (m .0))
 
-  pub waiting-few : length (waitingFor l) ≤ 8
+  pub waiting-few : length (waitingFor l) ≤ waitingLimit
   waiting-few = let h = count-good l z p .few in omega (arith, length-map (below (waitingCount l)) (removalIn l), length-below (waitingCount l))

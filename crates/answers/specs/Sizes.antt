@@ -1,13 +1,14 @@
 -- How many records the image of a map has.
 -- Assumes nothing.
-use Prim.Native.Nat.{ℕ, _+_}
+use Prim.Native.Nat.{_*_, ℕ, _+_}
 use mathlib.Core.List.{List, [], _∷_}
 use lib.ListN.{length}
-use Rattle.clock.specs.Dots.{dotsOf}
+use Rattle.clock.specs.Dots.{dotLimit, dotsOf}
+use Rattle.register.specs.Values.{valueLimit}
 use Rattle.register.specs.declared.Value.{Value}
 use Rattle.parts.specs.declared.Entry.{Entry}
 use Rattle.parts.specs.declared.Removal.{Removal}
-use Rattle.parts.specs.Model.{dotsIn, valuesIn, underOf, listedIn}
+use Rattle.parts.specs.Model.{entryLimit, waitingLimit, keyLimit, dotsIn, valuesIn, underOf, listedIn}
 use Rattle.map.specs.declared.Map.{Map}
 use Rattle.map.specs.Model.{seenBy, entriesIn, waitingIn}
 
@@ -24,6 +25,25 @@ entrySize e = length (dotsIn e) + totalOf valueSize (valuesIn e)
 
 abbrev pub removalSize : Removal → ℕ
 removalSize r = length (underOf r) + length (listedIn r)
+
+-- the most records of each within the limits: of a value, a register, an entry, all entries, a removal, all that wait
+abbrev pub valueMost : ℕ
+valueMost = 1 + dotLimit
+
+abbrev pub registerMost : ℕ
+registerMost = valueLimit * valueMost
+
+abbrev pub entryMost : ℕ
+entryMost = dotLimit + registerMost
+
+abbrev pub entriesMost : ℕ
+entriesMost = entryLimit * entryMost
+
+abbrev pub removalMost : ℕ
+removalMost = dotLimit + keyLimit
+
+abbrev pub waitingMost : ℕ
+waitingMost = waitingLimit * removalMost
 
 unfoldable pub mapSize : Map → ℕ
 mapSize m = length (seenBy m) + (totalOf entrySize (entriesIn m) + totalOf removalSize (waitingIn m))

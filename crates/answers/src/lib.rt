@@ -6,10 +6,10 @@ ghost use Rattle.register.specs.Values.{valuesOf};
 ghost use Rattle.parts.specs.Model.{waitingLimit, entriesOf, waitingOf};
 ghost use Rattle.map.specs.Model.{waitingIn};
 ghost use Rattle.map.specs.Valid.{Valid};
-ghost use Rattle.opimage.specs.OpImage.{opImage};
-ghost use Rattle.mapimage.specs.MapImage.{mapImage};
+ghost use Rattle.opimage.specs.OpImage.{opLongest, opImage};
+ghost use Rattle.mapimage.specs.MapImage.{mapLongest, mapImage};
 ghost use Rattle.answers.specs.Answer.{Answered};
-ghost use Rattle.answers.specs.Sizes.{totalOf, valueSize, entrySize, removalSize, mapSize};
+ghost use Rattle.answers.specs.Sizes.{totalOf, valueSize, entrySize, removalSize, registerMost, entriesMost, waitingMost, mapSize};
 use map::Map;
 use map::Op;
 use parts::Entries;
@@ -24,7 +24,7 @@ pub fn word(number: u8) -> u64
 }
 
 pub fn count_values(register: Register) -> usize
-    ensures { λ r. ⌜ (r ≡ totalOf valueSize (valuesOf register)) × (r ≤ 36) ⌝ }
+    ensures { λ r. ⌜ (r ≡ totalOf valueSize (valuesOf register)) × (r ≤ registerMost) ⌝ }
 {
     let n = register.size();
     let mut total: usize = 0;
@@ -39,7 +39,7 @@ pub fn count_values(register: Register) -> usize
 }
 
 fn count_entries(entries: Entries) -> usize
-    ensures { λ r. ⌜ (r ≡ totalOf entrySize (entriesOf entries)) × (r ≤ 704) ⌝ }
+    ensures { λ r. ⌜ (r ≡ totalOf entrySize (entriesOf entries)) × (r ≤ entriesMost) ⌝ }
 {
     let n = entries.size();
     let mut total: usize = 0;
@@ -55,7 +55,7 @@ fn count_entries(entries: Entries) -> usize
 }
 
 fn count_waiting(waiting: Waiting) -> usize
-    ensures { λ r. ⌜ (r ≡ totalOf removalSize (waitingOf waiting)) × ((r ≤ 192) × (length (waitingOf waiting) ≤ waitingLimit)) ⌝ }
+    ensures { λ r. ⌜ (r ≡ totalOf removalSize (waitingOf waiting)) × ((r ≤ waitingMost) × (length (waitingOf waiting) ≤ waitingLimit)) ⌝ }
 {
     let n = waiting.size();
     let mut total: usize = 0;
@@ -72,7 +72,7 @@ fn count_waiting(waiting: Waiting) -> usize
 
 // The length of a map's image.
 pub fn map_length(map: Map) -> usize
-    ensures { λ r. ⌜ (r ≡ mapSize map * 16) × ((r ≤ 14464) × (length (waitingIn map) ≤ waitingLimit)) ⌝ }
+    ensures { λ r. ⌜ (r ≡ mapSize map * 16) × ((r ≤ mapLongest) × (length (waitingIn map) ≤ waitingLimit)) ⌝ }
 {
     let clock = map.clock;
     let entries = map.entries;
@@ -82,7 +82,7 @@ pub fn map_length(map: Map) -> usize
 
 // The length of an operation's image.
 pub fn op_length(op: Op) -> usize
-    ensures { λ r. ⌜ (r ≡ length (opImage op)) × (r ≤ 400) ⌝ }
+    ensures { λ r. ⌜ (r ≡ length (opImage op)) × (r ≤ opLongest) ⌝ }
 {
     if op.up {
         let update = op.update;

@@ -1,7 +1,7 @@
 // The calls of castribba.h, on images and numbers.
 ghost use Rattle.promises.specs.Promises.{ApplyPromise, MergePromise, ResetRemovePromise, UpdatePromise, RmGetPromise, RmReadCtxPromise, GetPromise, LenPromise, LenCountPromise, ValidateOpPromise, ValidateOpStartPromise, ValidateOpEndPromise, ValidateMergePromise, ValidateMergeActorPromise, ValidateMergeCounterPromise, ValidateMergeOurKeyPromise, ValidateMergeTheirKeyPromise, ClockAdvancePromise, PiecesBeginPromise, PiecesTakePromise, PiecesEndPromise};
 use clock::Clock;
-use mailbox::READER;
+use memory::READER;
 
 #[no_mangle]
 pub extern "C" fn castribba_apply(map: &[u8], op: &[u8], out: &mut [u8]) -> u64

@@ -3,10 +3,10 @@
 use mathlib.Core.Path.{_≡_, refl}
 use Prim.Native.Nat.{_*_}
 use lib.ListN.{length, replicate}
-use Rattle.clock.specs.Dots.{noDot}
+use Rattle.clock.specs.Dots.{dotLimit, noDot}
 use Rattle.clockimage.specs.ClockImage.{clockLongest, clockRecords}
 
-full-longest : length (clockRecords (replicate 8 noDot)) * 16 ≡ clockLongest
+full-longest : length (clockRecords (replicate dotLimit noDot)) * 16 ≡ clockLongest
 full-longest = refl
 
 longest : clockLongest ≡ 128

@@ -17,7 +17,7 @@ use records::Record;
 use scan::Scan;
 
 // The longest image of a clock.
-pub const CLOCK_LONGEST: usize = 128;
+pub const CLOCK_LONGEST: usize = DOTS * 16;
 
 // What an image was read as: a number of document 01, and the clock, which is empty where the number is not 0.
 pub struct ReadClock {

@@ -11,7 +11,7 @@ use borrow.Author.Tests.{ltb-true, ltb-false}
 use Rattle.scan.proofs.Eachs.{decide}
 use Rattle.parts.specs.Waits.{removalBefore}
 use Rattle.maprecords.specs.Related.{ascend}
-use Rattle.mailbox.specs.Memory.{removalAt, waitingCountAt, waitingAt}
+use Rattle.memory.specs.Memory.{removalAt, waitingCountAt, waitingAt}
 use Rattle.delivery.proofs.Views.{waiting-left, waiting-end}
 
 -- the pairs before place k have passed

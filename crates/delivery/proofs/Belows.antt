@@ -9,7 +9,7 @@ use lib.ListN.{drop}
 use lib.Seq.{drop-cons}
 use Rattle.lists.proofs.Rests.{drop-end}
 use Rattle.maprecords.specs.Reading.{below}
-use Rattle.mailbox.proofs.Views.{below-more, length-of, below-at}
+use Rattle.memory.proofs.Views.{below-more, length-of, below-at}
 
 module _ {A : Type 0} (f : ℕ → A) where
   pub made-none : map f (below 0) ≡ []

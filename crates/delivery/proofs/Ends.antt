@@ -14,7 +14,7 @@ use Rattle.records.specs.Records.{Wrote}
 use Rattle.answers.specs.Answer.{firstOf, numberOf}
 use Rattle.answers.proofs.Answers.{number-first, number-second, number-short, number-done, refuses, writes}
 use Rattle.mapimage.specs.MapImage.{mapLongest}
-use Rattle.mailbox.specs.Memory.{openPlace, lengthPlace}
+use Rattle.memory.specs.Memory.{openPlace, lengthPlace}
 use Rattle.delivery.specs.Delivery.{lengthNumber, scannedAt, relatedAt, endNumber, imageAt, closedNumber, endAnswer, endedBy, Ended}
 
 -- the number, by the first that is not 0

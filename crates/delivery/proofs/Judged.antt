@@ -24,8 +24,9 @@ use Rattle.maprecords.specs.Related.{refusedMap, judgedMap, readMap}
 use Rattle.mapreader.specs.SoFar.{MapSoFar, relatedSoFar}
 use Rattle.mapreader.proofs.Readers.{judged-number, judged-map}
 use Rattle.answers.specs.Answer.{firstOf}
-use Rattle.mailbox.specs.Memory.{lengthPlace, lostPlace, clockPlace, dotsAt, entriesAt, waitingAt}
-use Rattle.mailbox.specs.Held.{readerAt, Came}
+use Rattle.memory.specs.Memory.{lengthPlace, lostPlace, clockPlace, dotsAt, entriesAt, waitingAt}
+use Rattle.memory.specs.Reader.{readerAt}
+use Rattle.mailbox.specs.Held.{Came}
 use Rattle.delivery.specs.Delivery.{scannedAt, relatedAt, endNumber, imageAt}
 
 scan-most : (l : List Record) → scanNumber 1 6 l ≤ 2

@@ -13,7 +13,7 @@ use Rattle.mapimage.specs.MapImage.{waitingDots, waitingKeys, recordsIn}
 use Rattle.answers.specs.Sizes.{totalOf, entrySize}
 use Rattle.answers.proofs.Totals.{length-flat}
 use Rattle.answers.proofs.Lengths.{in-entries}
-use Rattle.mailbox.specs.Memory.{clockPlace, countAt, dotsAt, entriesAt, waitingAt}
+use Rattle.memory.specs.Memory.{clockPlace, countAt, dotsAt, entriesAt, waitingAt}
 use Rattle.delivery.specs.Delivery.{imageAt}
 use Rattle.delivery.proofs.Views.{length-dots}
 

@@ -8,9 +8,9 @@ use Rattle.lists.proofs.Pads.{take-pad}
 use Rattle.clock.specs.Dots.{dotLimit, noDot}
 use Rattle.parts.specs.Model.{keyLimit, underOf}
 use Rattle.mapimage.specs.MapImage.{keyNumber, keyNumbers}
-use Rattle.mailbox.specs.Memory.{keysPlace, keyPlace, removalPlace, countAt, dotsAt, entryAt, entryCount, entriesAt, listedAt, removalAt, waitingCountAt, waitingAt}
+use Rattle.memory.specs.Memory.{keysPlace, keyPlace, removalPlace, countAt, dotsAt, entryAt, entryCount, entriesAt, listedAt, removalAt, waitingCountAt, waitingAt}
 use Rattle.records.specs.Bytes.{numAt}
-use Rattle.mailbox.proofs.Views.{length-of}
+use Rattle.memory.proofs.Views.{length-of}
 use Rattle.delivery.proofs.Belows.{left-on, left-end}
 
 module _ (w : List ℕ) where

@@ -11,7 +11,7 @@ use Rattle.scan.specs.Each.{every}
 use Rattle.mapimage.specs.MapImage.{mapLongest, recordsIn}
 use Rattle.maprecords.specs.Related.{entryWhole, ascend}
 use Rattle.answers.specs.Answer.{Answer, firstOf, numberOf, Answered}
-use Rattle.mailbox.specs.Memory.{openPlace, lengthPlace, numberPlace, lostPlace, clockPlace, dotsAt, entriesAt, waitingAt}
+use Rattle.memory.specs.Memory.{openPlace, lengthPlace, numberPlace, lostPlace, clockPlace, dotsAt, entriesAt, waitingAt}
 
 -- "length above longest is 2 at once", then a bad length is 1
 abbrev pub lengthNumber : ℕ → ℕ

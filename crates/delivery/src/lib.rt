@@ -4,7 +4,7 @@ ghost use mathlib.Core.Bool.{true};
 ghost use Prim.Native.Nat.{_+_, _*_, _^_, _≤_, _<_, min};
 ghost use lib.Dec.{ltb};
 ghost use lib.ListN.{length};
-ghost use Rattle.clock.specs.Dots.{clockOf};
+ghost use Rattle.clock.specs.Dots.{dotLimit, clockOf};
 ghost use Rattle.register.specs.Values.{registerOf};
 ghost use Rattle.parts.specs.Model.{entryLimit, waitingLimit, underOf};
 ghost use Rattle.records.specs.Records.{bytesOf, Wrote};
@@ -12,28 +12,28 @@ ghost use Rattle.scan.specs.Each.{every};
 ghost use Rattle.mapimage.specs.Sorted.{leastFrom};
 ghost use Rattle.mapimage.specs.MapImage.{flatFrom, entryRecords, waitingDots, keyNumbers, waitingKeys};
 ghost use Rattle.maprecords.specs.Related.{entryWhole, ascend};
-ghost use Rattle.answers.specs.Sizes.{totalOf, entrySize};
-ghost use Rattle.mailbox.specs.Memory.{readerRoom, dotRoom, clockRoom, valueRoom, clockPlace, dotAt, dotsAt, valueAt, valuesAt, entryAt, entriesAt, removalAt, waitingAt};
+ghost use Rattle.answers.specs.Sizes.{entriesMost, totalOf, entrySize};
+ghost use Rattle.memory.specs.Memory.{readerRoom, dotRoom, clockRoom, valueRoom, clockPlace, dotAt, dotsAt, valueAt, valuesAt, entryAt, entriesAt, removalAt, waitingAt};
 ghost use Rattle.delivery.specs.Delivery.{relatedAt, endNumber, imageAt, Ended};
 use clock::Clock;
 use clock::DOTS;
 use clock::Dot;
-use mailbox::CLOCK;
-use mailbox::CLOCK_ROOM;
-use mailbox::DOT_ROOM;
-use mailbox::ENTRY_COUNT;
-use mailbox::ENTRY_PLACE;
-use mailbox::ENTRY_ROOM;
-use mailbox::LENGTH;
-use mailbox::LOST;
-use mailbox::NUMBER;
-use mailbox::OPEN;
-use mailbox::READER;
-use mailbox::REMOVAL_PLACE;
-use mailbox::REMOVAL_ROOM;
-use mailbox::VALUE_ROOM;
-use mailbox::WAITING_COUNT;
 use mapimage::NO_KEY;
+use memory::CLOCK;
+use memory::CLOCK_ROOM;
+use memory::DOT_ROOM;
+use memory::ENTRY_COUNT;
+use memory::ENTRY_PLACE;
+use memory::ENTRY_ROOM;
+use memory::LENGTH;
+use memory::LOST;
+use memory::NUMBER;
+use memory::OPEN;
+use memory::READER;
+use memory::REMOVAL_PLACE;
+use memory::REMOVAL_ROOM;
+use memory::VALUE_ROOM;
+use memory::WAITING_COUNT;
 use parts::ENTRIES;
 use parts::Entry;
 use parts::KEYS;
@@ -56,7 +56,7 @@ fn clock_at(mem: &[u8; READER], at: usize) -> Clock
     requires { ⌜ at + clockRoom ≤ readerRoom ⌝ }
     ensures { λ r. ⌜ r ≡ clockOf (dotsAt (now (mem .entry)) at) ⌝ }
 {
-    let n = mailbox::count(mem, at, DOTS);
+    let n = memory::count(mem, at, DOTS);
     let mut clock = Clock::new();
     let mut i: usize = 0;
     while i < n {
@@ -81,7 +81,7 @@ fn register_at(mem: &[u8; READER], j: usize) -> Register
     ensures { λ r. ⌜ r ≡ registerOf (valuesAt (now (mem .entry)) j) ⌝ }
 {
     let at = ENTRY_PLACE + j * ENTRY_ROOM + 4 + CLOCK_ROOM;
-    let n = mailbox::count(mem, at, VALUES);
+    let n = memory::count(mem, at, VALUES);
     let mut register = Register::new();
     let mut i: usize = 0;
     while i < n {
@@ -112,7 +112,7 @@ fn entries_whole(mem: &[u8; READER]) -> bool
     ensures { λ b. ⌜ b ≡ every (entryWhole (dotsAt (now (mem .entry)) clockPlace)) (entriesAt (now (mem .entry))) ⌝ }
 {
     let clock = clock_at(mem, CLOCK);
-    let n = mailbox::count(mem, ENTRY_COUNT, ENTRIES);
+    let n = memory::count(mem, ENTRY_COUNT, ENTRIES);
     let mut j: usize = 0;
     while j < n {
         let e = entry_at(mem, j);
@@ -128,7 +128,7 @@ fn entries_whole(mem: &[u8; READER]) -> bool
 fn waiting_ascends(mem: &[u8; READER]) -> bool
     ensures { λ b. ⌜ b ≡ ascend (waitingAt (now (mem .entry))) ⌝ }
 {
-    let n = mailbox::count(mem, WAITING_COUNT, WAITING);
+    let n = memory::count(mem, WAITING_COUNT, WAITING);
     let mut k: usize = 1;
     while k < n {
         let before = clock_at(mem, REMOVAL_PLACE + (k - 1) * REMOVAL_ROOM);
@@ -172,9 +172,9 @@ fn number_of(mem: &[u8; READER]) -> u8
 
 // How many records the entries have.
 fn count_entries(mem: &[u8; READER]) -> usize
-    ensures { λ r. ⌜ (r ≡ totalOf entrySize (entriesAt (now (mem .entry)))) × (r ≤ 704) ⌝ }
+    ensures { λ r. ⌜ (r ≡ totalOf entrySize (entriesAt (now (mem .entry)))) × (r ≤ entriesMost) ⌝ }
 {
-    let n = mailbox::count(mem, ENTRY_COUNT, ENTRIES);
+    let n = memory::count(mem, ENTRY_COUNT, ENTRIES);
     let mut total: usize = 0;
     let mut j: usize = 0;
     while j < n {
@@ -189,13 +189,13 @@ fn count_entries(mem: &[u8; READER]) -> usize
 
 // How many dots the waiting removals have.
 fn count_waiting(mem: &[u8; READER]) -> usize
-    ensures { λ r. ⌜ (r ≡ totalOf (λ x. length (underOf x)) (waitingAt (now (mem .entry)))) × (r ≤ 64) ⌝ }
+    ensures { λ r. ⌜ (r ≡ totalOf (λ x. length (underOf x)) (waitingAt (now (mem .entry)))) × (r ≤ waitingLimit * dotLimit) ⌝ }
 {
-    let n = mailbox::count(mem, WAITING_COUNT, WAITING);
+    let n = memory::count(mem, WAITING_COUNT, WAITING);
     let mut total: usize = 0;
     let mut k: usize = 0;
     while k < n {
-        let dots = mailbox::count(mem, REMOVAL_PLACE + k * REMOVAL_ROOM, DOTS);
+        let dots = memory::count(mem, REMOVAL_PLACE + k * REMOVAL_ROOM, DOTS);
         k += 1;
         total += dots;
     }
@@ -209,7 +209,7 @@ fn least_in(mem: &[u8; READER], k: usize, low: u64, m: u64) -> u64
         × (every (λ x. ltb x (2 ^ 40)) (keyNumbers k (removalAt (now (mem .entry)) k)) ≡ true) ⌝ }
 {
     let at = REMOVAL_PLACE + k * REMOVAL_ROOM + CLOCK_ROOM;
-    let n = mailbox::count(mem, at, KEYS);
+    let n = memory::count(mem, at, KEYS);
     let index = k as u8;
     let mut best = m;
     let mut i: usize = 0;
@@ -226,7 +226,7 @@ fn least(mem: &[u8; READER], low: u64) -> u64
     ensures { λ r. ⌜ (r ≡ leastFrom low (2 ^ 40) (flatFrom keyNumbers 0 (waitingAt (now (mem .entry)))))
         × (every (λ x. ltb x (2 ^ 40)) (flatFrom keyNumbers 0 (waitingAt (now (mem .entry)))) ≡ true) ⌝ }
 {
-    let n = mailbox::count(mem, WAITING_COUNT, WAITING);
+    let n = memory::count(mem, WAITING_COUNT, WAITING);
     let mut best = NO_KEY;
     let mut k: usize = 0;
     while k < n {
@@ -252,7 +252,7 @@ fn count_keys(mem: &[u8; READER]) -> usize
 fn image_length(mem: &[u8; READER]) -> usize
     ensures { λ r. ⌜ r ≡ length (imageAt (now (mem .entry))) ⌝ }
 {
-    let dots = mailbox::count(mem, CLOCK, DOTS);
+    let dots = memory::count(mem, CLOCK, DOTS);
     (dots + (count_entries(mem) + (count_waiting(mem) + count_keys(mem)))) * 16
 }
 
@@ -260,7 +260,7 @@ fn write_entries(mem: &[u8; READER], kind: u8, out: &mut [u8], at: usize) -> usi
     requires { ⌜ at + length (flatFrom (entryRecords kind) 0 (entriesAt (now mem))) * 16 ≤ length (now out) ⌝ }
     ensures { λ next. ⌜ Wrote at (bytesOf (flatFrom (entryRecords kind) 0 (entriesAt (now (mem .entry))))) (now (out .entry)) (now (out .exit)) next ⌝ }
 {
-    let n = mailbox::count(mem, ENTRY_COUNT, ENTRIES);
+    let n = memory::count(mem, ENTRY_COUNT, ENTRIES);
     let mut next = at;
     let mut j: usize = 0;
     while j < n {
@@ -275,7 +275,7 @@ fn write_waiting(mem: &[u8; READER], out: &mut [u8], at: usize) -> usize
     requires { ⌜ at + length (flatFrom waitingDots 0 (waitingAt (now mem))) * 16 ≤ length (now out) ⌝ }
     ensures { λ next. ⌜ Wrote at (bytesOf (flatFrom waitingDots 0 (waitingAt (now (mem .entry))))) (now (out .entry)) (now (out .exit)) next ⌝ }
 {
-    let n = mailbox::count(mem, WAITING_COUNT, WAITING);
+    let n = memory::count(mem, WAITING_COUNT, WAITING);
     let mut next = at;
     let mut k: usize = 0;
     while k < n {

@@ -10,7 +10,7 @@ use Rattle.parts.specs.Entries.{entryAt}
 use Rattle.parts.proofs.Pieces.{entries-of, waiting-of}
 use Rattle.map.specs.declared.Map.{Map}
 use Rattle.map.specs.Model.{seenBy, entriesIn}
-use Rattle.map.specs.Asking.{readKey}
+use Rattle.asking.specs.Asking.{readKey}
 use Rattle.records.specs.Bytes.{Bytes}
 use Rattle.records.specs.Records.{bytesOf}
 use Rattle.records.specs.declared.Record.{Record}

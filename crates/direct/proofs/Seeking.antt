@@ -6,11 +6,11 @@ use mathlib.Core.List.{List}
 use Prim.Native.Nat.{ℕ, _≤_}
 use Rattle.parts.specs.declared.Entry.{Entry}
 use Rattle.map.specs.declared.Map.{Map}
-use Rattle.map.specs.declared.Spent.{Spent}
-use Rattle.map.specs.declared.Spent.the-variants.{Once}
+use Rattle.asking.specs.declared.CvRDTValidation.{CvRDTValidation}
+use Rattle.asking.specs.declared.CvRDTValidation.the-variants.{Once}
 use Rattle.map.specs.Model.{entriesIn}
-use Rattle.map.specs.Asking.{isTwice, firstSpent}
-use Rattle.map.proofs.Askings.{or-this, or-next}
+use Rattle.asking.specs.Asking.{isTwice, firstSpent}
+use Rattle.asking.proofs.Askings.{or-this, or-next}
 use Rattle.walks.specs.declared.Layout.{Layout}
 use Rattle.keyed.specs.declared.Stop.{Stop}
 use Rattle.layout.specs.Whole.{Lies}
@@ -18,17 +18,17 @@ use Rattle.keyed.specs.Keyed.{Owned, Stops}
 use Rattle.keyed.proofs.Walks.{owned-all, owned-end}
 
 -- the dots of the rest stand from `at` to `end`, and before them nothing was spent twice
-pub record Seeking (f : Entry → Spent) (all : List Entry) (s : List ℕ) (end at : ℕ) : Type 0 where
+pub record Seeking (f : Entry → CvRDTValidation) (all : List Entry) (s : List ℕ) (end at : ℕ) : Type 0 where
   pub rest : List Entry
   pub owned : Owned s at end rest
   pub left : firstSpent f all ≡ firstSpent f rest
 
-module _ {f : Entry → Spent} {s : List ℕ} where
+module _ {f : Entry → CvRDTValidation} {s : List ℕ} where
   pub seek-start : {m : Map} {l : Layout} → Lies s m l → Seeking f (entriesIn m) s (l .third) (l .second)
   seek-start h = record { rest = _; owned = owned-all h; left = refl }
 
   module _ {all : List Entry} {end at : ℕ} (g : Seeking f all s end at) where
-    module _ {r : Stop} (stops : (l : List Entry) → Owned s at end l → Stops s at end l r) (p : Spent) (e : p ≡ f (stops (g .rest) (g .owned) .entry)) where
+    module _ {r : Stop} (stops : (l : List Entry) → Owned s at end l → Stops s at end l r) (p : CvRDTValidation) (e : p ≡ f (stops (g .rest) (g .owned) .entry)) where
       pub seek-here : isTwice p ≡ true → p ≡ firstSpent f all
       unfolding firstSpent
       seek-here t = sym (g .left ∙ ap (firstSpent f) (stops (g .rest) (g .owned) .parts) ∙ rw (← e) (or-this p _ t))

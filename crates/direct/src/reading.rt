@@ -2,7 +2,7 @@
 ghost use mathlib.Core.Path.{_≡_};
 ghost use Prim.Native.Nat.{_+_, _*_, _-_, _≤_};
 ghost use lib.ListN.{length};
-ghost use Rattle.map.specs.Asking.{readKey};
+ghost use Rattle.asking.specs.Asking.{readKey};
 ghost use Rattle.records.specs.Records.{bytesOf, Wrote};
 ghost use Rattle.mapimage.specs.MapImage.{mapImage};
 ghost use Rattle.maprecords.specs.Related.{readMap};

@@ -11,7 +11,7 @@ ghost use Rattle.parts.specs.declared.Entry.{Entry};
 ghost use Rattle.parts.specs.Model.{valuesIn};
 ghost use Rattle.parts.specs.Entries.{entryAt};
 ghost use Rattle.map.specs.Model.{entriesIn};
-ghost use Rattle.map.specs.Asking.{clockAt};
+ghost use Rattle.asking.specs.Asking.{clockAt};
 ghost use Rattle.mapimage.specs.MapImage.{flatFrom, entryRecords};
 ghost use Rattle.maprecords.specs.Related.{readMap};
 ghost use Rattle.walks.specs.Walk.{part};

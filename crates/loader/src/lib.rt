@@ -1,6 +1,6 @@
 // The boot loader's choice: for a bay, the smallest of the values that no other has overwritten, as a report of eleven bytes.
 ghost use mathlib.Core.Path.{_≡_};
-ghost use Prim.Native.Nat.{_+_, _≤_};
+ghost use Prim.Native.Nat.{_*_, _+_, _≤_};
 ghost use lib.ListN.{length};
 ghost use Rattle.lists.specs.First.{some};
 ghost use Rattle.register.specs.Values.{valuesOf};
@@ -19,7 +19,7 @@ pub const BAYS: u32 = 24;
 // The bytes of a report, and of the reports of all bays.
 pub const REPORT: usize = 11;
 
-pub const REPORTS: usize = 264;
+pub const REPORTS: usize = BAYS as usize * REPORT;
 
 // How many values remained, whether they differ, whether there is one, and the one taken.
 pub struct Report {
@@ -105,12 +105,12 @@ fn write_report(out: &mut [u8], at: usize, r: Report) -> usize
     records::put8(out, at + 1, flag(r.differ));
     records::put8(out, at + 2, flag(r.found));
     records::put64(out, at + 3, r.value);
-    at + 11
+    at + REPORT
 }
 
 // Writes the reports of all bays.
 fn write_reports(map: &[u8], l: Layout, out: &mut [u8]) -> usize
-    requires { ⌜ Lies (now map) (readMap (now map) .map) l × (264 ≤ length (now out)) ⌝ }
+    requires { ⌜ Lies (now map) (readMap (now map) .map) l × (bayCount * 11 ≤ length (now out)) ⌝ }
     ensures { λ next. ⌜ Wrote 0 (reportsAfter (readMap (now (map .entry)) .map) 0 bayCount) (now (out .entry)) (now (out .exit)) next ⌝ }
 {
     let mut next: usize = 0;

@@ -19,12 +19,14 @@ use Rattle.scan.proofs.Scanning.{scanned-none, under-none}
 use Rattle.clockimage.proofs.Dots.{map-snoc}
 use Rattle.maprecords.specs.Reading.{below, entryKeys, waitingCount}
 use Rattle.mapreader.specs.SoFar.{MapSoFar}
-use Rattle.mailbox.specs.Memory.{readerRoom, openPlace, lengthPlace, numberPlace, anyPlace, lastPlace, countsPlace, underPlace, lostPlace, entriesPlace, waitsPlace, clockPlace, scanAt, keyAt, entryAt, entriesAt, removalAt, waitingAt}
-use Rattle.mailbox.specs.Machine.{put, zeros, begun}
-use Rattle.mailbox.specs.Held.{keysIn, underAt, readerAt, Came}
-use Rattle.mailbox.proofs.Regions.{num-like, same-num, Touched, below-touched, touched-put, put-read, touched-placed, placed-within}
-use Rattle.mailbox.proofs.Views.{below-same}
-use Rattle.mailbox.proofs.Puts.{no-dots}
+use Rattle.memory.specs.Memory.{readerRoom, openPlace, lengthPlace, numberPlace, anyPlace, lastPlace, countsPlace, underPlace, lostPlace, entriesPlace, waitsPlace, clockPlace, scanAt, keyAt, entryAt, entriesAt, removalAt, waitingAt}
+use Rattle.memory.specs.Putting.{put}
+use Rattle.mailbox.specs.Machine.{zeros, begun}
+use Rattle.memory.specs.Reader.{keysIn, underAt, readerAt}
+use Rattle.mailbox.specs.Held.{Came}
+use Rattle.memory.proofs.Regions.{num-like, same-num, Touched, below-touched, touched-put, put-read, touched-placed, placed-within}
+use Rattle.memory.proofs.Views.{below-same}
+use Rattle.memory.proofs.Puts.{no-dots}
 
 -- a number in no bytes
 num-none : (k p : ℕ) → numAt k p [] ≡ 0

@@ -23,13 +23,15 @@ use Rattle.mapimage.specs.MapImage.{mapLongest}
 use Rattle.mapreader.specs.SoFar.{MapSoFar}
 use Rattle.mapreader.proofs.SoFar.{Growable}
 use Rattle.mapreader.proofs.Readers as readers
-use Rattle.mailbox.specs.Memory.{readerRoom, openPlace, lengthPlace, heldPlace, numberPlace, lostPlace, entriesPlace, waitsPlace, clockPlace, entryRoom, removalRoom, entryPlace, removalPlace, scanAt}
-use Rattle.mailbox.specs.Machine.{put, recordPut, recordIn, byteIn, pieceIn}
-use Rattle.mailbox.specs.Held.{underAt, readerAt, lengthTo, Came}
-use Rattle.mailbox.proofs.Regions.{num-like, Same, same-part, same-num, Touched, touched-then, touched-wide, below-touched, above-touched, touched-put, put-read}
-use Rattle.mailbox.proofs.Views.{same-dots, same-entries, same-waiting}
-use Rattle.mailbox.proofs.Scans.{scan-same, under-same, scanned, next, next-touched, number-now, scan-now, under-now}
-use Rattle.mailbox.proofs.Holding.{same-keys, mapRoom, record-grown}
+use Rattle.memory.specs.Memory.{readerRoom, openPlace, lengthPlace, heldPlace, numberPlace, lostPlace, entriesPlace, waitsPlace, clockPlace, entryRoom, removalRoom, entryPlace, removalPlace, scanAt}
+use Rattle.memory.specs.Putting.{put, recordPut}
+use Rattle.mailbox.specs.Machine.{recordIn, byteIn, pieceIn}
+use Rattle.memory.specs.Reader.{underAt, readerAt}
+use Rattle.mailbox.specs.Held.{lengthTo, Came}
+use Rattle.memory.proofs.Regions.{num-like, Same, same-part, same-num, Touched, touched-then, touched-wide, below-touched, above-touched, touched-put, put-read}
+use Rattle.memory.proofs.Views.{same-dots, same-entries, same-waiting}
+use Rattle.memory.proofs.Scans.{scan-same, under-same, scanned, next, next-touched, number-now, scan-now, under-now}
+use Rattle.memory.proofs.Holding.{same-keys, mapRoom, record-grown}
 
 -- the parts of the map depend on the bytes where they stand
 record PartsSame (u v : List ℕ) : Type 0 where

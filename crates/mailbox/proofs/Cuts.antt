@@ -10,10 +10,10 @@ use Rattle.lists.specs.Order.{_∈_}
 use Rattle.lists.specs.Fold.{fold}
 use Rattle.lists.proofs.Folds.{fold-append}
 use Rattle.records.specs.Bytes.{numAt, Bytes}
-use Rattle.mailbox.specs.Memory.{readerRoom, openPlace}
+use Rattle.memory.specs.Memory.{readerRoom, openPlace}
 use Rattle.mailbox.specs.Machine.{byteIn, pieceIn, begun, takeIn, takeWord}
 use Rattle.mailbox.specs.Held.{Came, joined}
-use Rattle.mailbox.proofs.Regions.{bytes-append}
+use Rattle.memory.proofs.Regions.{bytes-append}
 use Rattle.mailbox.proofs.Coming.{came-piece}
 use Rattle.mailbox.proofs.Begins.{came-none}
 

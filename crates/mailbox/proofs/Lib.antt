@@ -1,9 +1,3 @@
-pub mod Looking
-pub mod Regions
-pub mod Views
-pub mod Puts
-pub mod Scans
-pub mod Holding
 pub mod Coming
 pub mod Begins
 pub mod Cuts

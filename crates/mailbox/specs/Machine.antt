@@ -3,97 +3,16 @@
 use mathlib.Core.Bool.{Bool, cond, _&&_}
 use mathlib.Core.List.{List}
 use Prim.Native.Nat.{ℕ, _+_, _*_, _%_, _^_}
-use lib.Dec.{eqb, ltb, leb}
+use lib.Dec.{eqb, leb}
 use lib.ListN.{replicate}
-use Rattle.lists.specs.First.{firstIn}
 use Rattle.lists.specs.Fold.{fold}
-use Rattle.clock.specs.Dots.{dotLimit}
-use Rattle.register.specs.Values.{valueLimit}
-use Rattle.parts.specs.Model.{entryLimit, waitingLimit, keyLimit}
 use Rattle.records.specs.declared.Record.{Record}
-use Rattle.records.specs.Bytes.{numAt, numBytes, placed}
-use Rattle.records.specs.Records.{recordFrom, recordBytes}
-use Rattle.scan.specs.declared.Scan.{Scan}
+use Rattle.records.specs.Bytes.{numAt, placed}
+use Rattle.records.specs.Records.{recordFrom}
 use Rattle.scan.specs.Scanned.{scanOn}
 use Rattle.mapimage.specs.MapImage.{mapLongest}
-use Rattle.maprecords.specs.Reading.{below}
-use Rattle.mailbox.specs.Memory.{openPlace, lengthPlace, heldPlace, numberPlace, anyPlace, lastPlace, countsPlace, underPlace, lostPlace, entriesPlace, waitsPlace, dotRoom, clockPlace, entryPlace, ownPlace, valuesPlace, valuePlace, removalPlace, keysPlace, keyPlace, keyAt, entryCount, waitingCountAt, scanAt}
-
--- a number of 2 ^ k bytes in place
-abbrev pub put : ℕ → ℕ → ℕ → List ℕ → List ℕ
-put k at x w = placed at (numBytes k x) w
-
--- a dot behind the last of a clock, where there is room
-unfoldable pub dotPut : ℕ → Record → List ℕ → List ℕ
-dotPut at r w =
-    let n = numAt 0 at w in
-    let dot = at + 1 + n * dotRoom in
-    cond (ltb n dotLimit) (put 0 at (n + 1) (put 3 (dot + 2) (r .number) (put 1 dot (r .actor) w))) w
-
--- a record did not find what it needs
-unfoldable pub lose : List ℕ → List ℕ
-lose w = put 0 lostPlace 1 w
-
--- an entry with its first dot, behind the last
-unfoldable pub entryBegun : ℕ → Record → List ℕ → List ℕ
-entryBegun j r w = put 0 entriesPlace (j + 1) (put 0 (valuesPlace j) 0 (dotPut (ownPlace j) r (put 0 (ownPlace j) 0 (put 2 (entryPlace j) (r .key) w))))
-
--- a value of an entry, where it is the next; a dot of a value, where that is there
-unfoldable pub valuePut : ℕ → Record → List ℕ → List ℕ
-valuePut j r w =
-    let k = numAt 0 (valuesPlace j) w in
-    cond (eqb k (r .index) && ltb k valueLimit)
-    (put 0 (valuesPlace j) (k + 1) (put 0 (valuePlace j k + 8) 0 (put 3 (valuePlace j k) (r .number) w))) (lose w)
-
-unfoldable pub valueDotPut : ℕ → Record → List ℕ → List ℕ
-valueDotPut j r w =
-    cond (ltb (r .index) (numAt 0 (valuesPlace j) w) && ltb (r .index) valueLimit) (dotPut (valuePlace j (r .index) + 8) r w) (lose w)
-
--- the first entry of a key, or how many there are
-unfoldable pub placeOf : List ℕ → ℕ → ℕ
-placeOf w key = firstIn (λ j. eqb (keyAt w j) key) (λ j. j) (entryCount w) (below (entryCount w))
-
--- a record of the entry at a place
-unfoldable pub knownPut : ℕ → Record → List ℕ → List ℕ
-knownPut j r w = cond (eqb (r .kind) 2) (dotPut (ownPlace j) r w) (cond (eqb (r .kind) 3) (valuePut j r w) (valueDotPut j r w))
-
-unfoldable pub entryPut : Record → List ℕ → List ℕ
-entryPut r w =
-    let n = entryCount w in
-    let j = placeOf w (r .key) in
-    cond (ltb j n) (knownPut j r w) (cond (eqb (r .kind) 2 && ltb n entryLimit) (entryBegun n r w) (lose w))
-
--- a waiting removal with its first dot; a key of one
-unfoldable pub removalBegun : ℕ → Record → List ℕ → List ℕ
-removalBegun k r w = put 0 waitsPlace (k + 1) (put 0 (keysPlace k) 0 (dotPut (removalPlace k) r (put 0 (removalPlace k) 0 w)))
-
-unfoldable pub keyPut : ℕ → Record → List ℕ → List ℕ
-keyPut k r w =
-    let n = numAt 0 (keysPlace k) w in
-    cond (ltb n keyLimit) (put 0 (keysPlace k) (n + 1) (put 2 (keyPlace k n) (r .key) w)) w
-
-unfoldable pub waitingPut : ℕ → Record → List ℕ → List ℕ
-waitingPut k r w =
-    let n = waitingCountAt w in
-    cond (ltb k n) (cond (eqb (r .kind) 5) (dotPut (removalPlace k) r w) (keyPut k r w))
-    (cond (eqb (r .kind) 5 && (eqb k n && ltb k waitingLimit)) (removalBegun k r w) (lose w))
-
--- a record where it belongs
-unfoldable pub recordPut : Record → List ℕ → List ℕ
-recordPut r w = cond (eqb (r .kind) 1) (dotPut clockPlace r w) (cond (ltb (r .kind) 5) (entryPut r w) (waitingPut (r .index) r w))
-
--- the scan's numbers
-abbrev pub flagOf : Bool → ℕ
-flagOf b = cond b 1 0
-
-unfoldable pub scanPut : Scan → List ℕ → List ℕ
-scanPut s w =
-    put 1 (countsPlace + 4) (s .inner % 2 ^ 16) (put 1 (countsPlace + 2) (s .middle % 2 ^ 16) (put 1 countsPlace (s .outer % 2 ^ 16)
-    (placed lastPlace (recordBytes (s .last)) (put 0 anyPlace (flagOf (s .any)) (put 0 numberPlace (s .number) w)))))
-
--- the waiting keys under an index, with a record of a kind
-abbrev pub underOn : ℕ → ℕ → ℕ
-underOn n kind = cond (eqb kind 6 && ltb n 255) (n + 1) n
+use Rattle.memory.specs.Memory.{openPlace, lengthPlace, heldPlace, underPlace, lostPlace, clockPlace, scanAt}
+use Rattle.memory.specs.Putting.{put, recordPut, scanPut, underOn}
 
 -- a whole record
 unfoldable pub recordIn : List ℕ → Record → List ℕ

@@ -12,7 +12,7 @@ use Rattle.maprecords.specs.Related.{readMap}
 use Rattle.oneimage.proofs.Rewritten.{writes-read}
 use Rattle.answers.specs.Answer.{numberOf, wordOf, outOf, Answered}
 use Rattle.answers.proofs.Answers.{number-done, Same, same-answer}
-use Rattle.mailbox.specs.Memory.{openPlace}
+use Rattle.memory.specs.Memory.{openPlace}
 use Rattle.mailbox.specs.Machine.{takeWord, takeIn}
 use Rattle.mailbox.specs.Held.{Came, joined}
 use Rattle.mailbox.proofs.Coming.{came-piece}

@@ -6,7 +6,7 @@ use Prim.Native.Nat.{ℕ}
 use lib.ListN.{length}
 use Rattle.lists.specs.Order.{_∈_}
 use Rattle.records.specs.Bytes.{Bytes}
-use Rattle.mailbox.specs.Memory.{readerRoom}
+use Rattle.memory.specs.Memory.{readerRoom}
 use Rattle.promises.specs.Promises.{PiecesBeginPromise, PiecesTakePromise, PiecesEndPromise}
 
 -- pieces are taken one after the other: the memory before, the pieces, the words, the memory behind

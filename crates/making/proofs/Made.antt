@@ -14,11 +14,11 @@ use Rattle.parts.specs.Model.{keysAs, noUpdate}
 use Rattle.map.specs.Model.{seenBy}
 use Rattle.map.specs.declared.Map.{Map}
 use Rattle.map.specs.declared.Op.{Op}
-use Rattle.map.specs.declared.Made.{Made}
+use Rattle.asking.specs.declared.Made.{Made}
 use Rattle.map.specs.Judging.{exceeding}
-use Rattle.map.specs.declared.AddCtx.{AddCtx}
-use Rattle.map.specs.Contexts.{dotAfter, addContext}
-use Rattle.map.specs.Asking.{updateUnder, makeUpdate, removalOp}
+use Rattle.asking.specs.declared.AddCtx.{AddCtx}
+use Rattle.asking.specs.Contexts.{dotAfter, addContext}
+use Rattle.asking.specs.Asking.{updateUnder, makeUpdate, removalOp}
 use Rattle.map.specs.Valid.{Within}
 
 -- a removal of one key under a clock

@@ -1,7 +1,6 @@
 // The three calls that make an operation: an update, and a removal of one key.
 ghost use Rattle.promises.specs.Promises.{UpdatePromise, RmGetPromise, RmReadCtxPromise};
-use map::Op;
-use map::ReadCtx;
+use asking::ReadCtx;
 
 pub fn update(map: &[u8], actor: u16, key: u32, value: u64, out: &mut [u8]) -> u64
     ensures { λ r. ⌜ UpdatePromise (now (map .entry)) actor key value (now (out .entry)) (now (out .exit)) r ⌝ }
@@ -28,7 +27,7 @@ pub fn rm_get(map: &[u8], key: u32, out: &mut [u8]) -> u64
         return answers::word(l.number);
     }
     let held = keyed::clock_at(map, l.layout, key);
-    answers::give_op(0, Op::rm(held, key), out)
+    answers::give_op(0, asking::rm(held, key), out)
 }
 
 pub fn rm_read_ctx(map: &[u8], key: u32, out: &mut [u8]) -> u64
@@ -38,5 +37,5 @@ pub fn rm_read_ctx(map: &[u8], key: u32, out: &mut [u8]) -> u64
     if l.number != 0 {
         return answers::word(l.number);
     }
-    answers::give_op(0, Op::rm(l.clock, key), out)
+    answers::give_op(0, asking::rm(l.clock, key), out)
 }

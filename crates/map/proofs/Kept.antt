@@ -3,9 +3,7 @@
 use mathlib.Core.Path.{_≡_, refl, ap, sym, _∙_}
 use mathlib.Core.Bool.{Bool, true, false, cond}
 use mathlib.Core.List.{List, []}
-use Prim.Native.Nat.{ℕ}
-use lib.Dec.{leb, eqb}
-use Rattle.lists.specs.Sift.{those}
+use lib.Dec.{leb}
 use Rattle.lists.specs.Fold.{fold}
 use Rattle.lists.specs.Order.{_∈_}
 use Rattle.lists.proofs.Pads.{take-pad}
@@ -33,7 +31,6 @@ use Rattle.map.specs.Updating.{update}
 use Rattle.map.specs.Applying.{apply}
 use Rattle.map.specs.Merging.{merge}
 use Rattle.map.specs.Resetting.{reset}
-use Rattle.map.specs.Asking.{readKey}
 use Rattle.map.specs.Valid.{Valid, ValidUpdate, ValidOp}
 use Rattle.map.proofs.Removals.{remove-as}
 
@@ -183,10 +180,3 @@ pub valid-reset : {m : Map} → Valid m → (c : List Dot) → Valid (reset m c)
 unfolding reset
 valid-reset {m} v c =
     valid-as (lawful-cut c (v .clock)) (Listed.valid-resets (v .entries) (v .clock) c) (valid-reset-waiting (v .waiting) c)
-
-pub valid-read : {m : Map} → Valid m → (k : ℕ) → Valid (readKey m k)
-unfolding readKey
-valid-read {m} v k =
-    let l = those (λ e. eqb (e .key) k) (entriesIn m) in
-    let e : readKey m k ≡ mapAs (seenBy m) l [] = λ i. record { clock = v .laid i .clock; entries = entriesAs l; waiting = waitingAs [] } in
-    rw e (valid-as (v .clock) (Listed.valid-those (v .entries) (λ e. eqb (e .key) k)) valid-none)

@@ -7,4 +7,3 @@ pub mod Orders
 pub mod Accepts
 pub mod Verdicts
 pub mod Outcomes
-pub mod Askings

@@ -4,12 +4,11 @@ use mathlib.Core.Path.{_≡_, refl}
 use mathlib.Core.Bool.{Bool, true, false, cond}
 use mathlib.Core.List.{List, [], List·Memᴰ·not-nil}
 use Prim.Native.Nat.{ℕ}
-use lib.Dec.{leb, eqb}
-use Rattle.lists.specs.Sift.{sift, those}
+use lib.Dec.{leb}
+use Rattle.lists.specs.Sift.{sift}
 use Rattle.lists.specs.Fold.{fold}
 use Rattle.lists.specs.Order.{_∈_}
 use Rattle.lists.proofs.Pads.{take-pad}
-use Rattle.lists.proofs.Those.{those-means}
 use Rattle.lists.proofs.Sides.{fold-keeps}
 use Rattle.clock.specs.declared.Dot.{Dot}
 use Rattle.clock.specs.Dots.{dotLimit, noDot, counterIn, cutDots, joinDots, addDot}
@@ -34,7 +33,6 @@ use Rattle.map.specs.Updating.{update}
 use Rattle.map.specs.Applying.{apply}
 use Rattle.map.specs.Merging.{merge}
 use Rattle.map.specs.Resetting.{reset}
-use Rattle.map.specs.Asking.{readKey}
 use Rattle.map.specs.Valid.{Valid, ValidUpdate, ValidOp}
 use Rattle.map.proofs.Kept.{Under, under-own, seen-of, heldAfter, remove-laid, under-remove, cleared, valid-cleared, updated, valid-updated, mingled, under-mingled, merged, valid-merged}
 
@@ -86,16 +84,6 @@ module _ {K : ℕ → Type 0} {C : List Dot → Type 0} {Q : Value → Type 0} {
 module _ {C : List Dot → Type 0} {E : Entry → Type 0} {R : Removal → Type 0} where
   pub each-as : (c : List Dot) (l : List Entry) (w : List Removal) → C c → ((e : Entry) → e ∈ l → E e) → ((r : Removal) → r ∈ w → R r) → Each C E R (mapAs c l w)
   each-as c l w p f g = record { clock = rw (seen-of c l w) p; entries = rw (entries-of l) f; waiting = rw (waiting-of w) g }
-
-  pub each-read : {m : Map} → Each C E R m → (k : ℕ) → Each C E R (readKey m k)
-  unfolding readKey
-  each-read {m} s k =
-      let p : Entry → Bool = λ e. eqb (e .key) k in
-      record {
-        clock = s .clock;
-        entries = λ e i. s .entries e (those-means p (entriesIn m) (rw (entries-of (those p (entriesIn m))) at i) .0);
-        waiting = λ r i. absurd (List·Memᴰ·not-nil i);
-      }
 
 module _ {C : List Dot → Type 0} {E : Entry → Type 0} {R : Removal → Type 0} (k : Rules C E R) where
   from-kept : (r : Removal) (e : Entry) → E e → E (removeFrom r e)

@@ -5,6 +5,4 @@ pub mod Applying
 pub mod Merging
 pub mod Resetting
 pub mod Judging
-pub mod Asking
 pub mod Valid
-pub mod Contexts

@@ -10,18 +10,26 @@ ghost use Rattle.parts.specs.Model.{entriesOf, waitingOf};
 ghost use Rattle.records.specs.Records.{bytesOf, Wrote};
 ghost use Rattle.mapimage.specs.Sorted.{lesser, leastFrom};
 ghost use Rattle.mapimage.specs.MapImage.{flatFrom, valueRecords, entryRecords, waitingDots, keyNumber, keyNumbers, waitingKeys, mapImage};
+use clock::DOTS;
 use map::Map;
+use parts::ENTRIES;
 use parts::Entries;
 use parts::Entry;
+use parts::KEYS;
 use parts::Keys;
 use parts::Removal;
+use parts::WAITING;
 use parts::Waiting;
 use records::Record;
 use register::Register;
+use register::VALUES;
 use register::Value;
 
 // The longest image of a map.
-pub const MAP_LONGEST: usize = 14464;
+pub const MAP_LONGEST: usize = (DOTS
+    + ENTRIES * (DOTS + VALUES * (1 + DOTS))
+    + WAITING * (DOTS + KEYS))
+    * 16;
 
 // Above every number of a waiting key.
 pub const NO_KEY: u64 = 0x100_0000_0000;

@@ -16,13 +16,13 @@ use Rattle.parts.specs.declared.Removal.{Removal}
 use Rattle.parts.specs.Model.{entryAs}
 use Rattle.parts.specs.Entries.{alone, keepDots, together, mergeEntries}
 use Rattle.map.specs.declared.Map.{Map}
-use Rattle.map.specs.declared.Order.{Order}
-use Rattle.map.specs.declared.Order.the-variants.{Missing}
+use Rattle.asking.specs.declared.CmRDTValidation.{CmRDTValidation}
+use Rattle.asking.specs.declared.CmRDTValidation.the-variants.{Missing}
 use Rattle.map.specs.Model.{mapAs}
 use Rattle.map.specs.Removing.{remove, afresh}
 use Rattle.map.specs.Updating.{update}
 use Rattle.map.specs.Merging.{merge}
-use Rattle.map.specs.Asking.{clockAt, following, validateUpdate, validateOp, orderNumber, orderStart, orderEnd}
+use Rattle.asking.specs.Asking.{clockAt, following, validateUpdate, validateOp, orderNumber, orderStart, orderEnd}
 
 -- actor : counter
 abbrev pub dot : ℕ → ℕ → Dot
@@ -40,7 +40,7 @@ abbrev both : List Dot → List Value → Map
 both c l = mapAs (dot 1 1 ∷ dot 2 1 ∷ []) (entryAs 5 c l ∷ []) []
 
 -- (1,2) on key 6, whatever is put and whatever stands in the unused half
-abbrev asked : Value → Removal → Order
+abbrev asked : Value → Removal → CmRDTValidation
 asked put unused = validateOp M (record { up = true; removal = unused; update = record { dot = dot 1 2; key = 6; put = put } })
 
 pub record Wider : Type 0 where

@@ -15,7 +15,7 @@ use Rattle.register.specs.Values.{yields, outdone, remaining, putValues, cutVal
 use Rattle.parts.specs.declared.Entry.{Entry}
 use Rattle.parts.specs.declared.Update.{Update}
 use Rattle.map.specs.declared.Map.{Map}
-use Rattle.map.specs.declared.Order.the-variants.{Missing}
+use Rattle.asking.specs.declared.CmRDTValidation.the-variants.{Missing}
 use Rattle.parts.specs.Model.{entryAs, removalAs}
 use Rattle.map.specs.Model.{mapAs, noMap}
 use Rattle.parts.specs.Entries.{cutEntry, listed, removeFrom, removeEntries, putEntry, entryAt, putEntries, cutAlone, alone, keepDots, mergeBoth, together, mergeEntries}
@@ -25,8 +25,8 @@ use Rattle.map.specs.Updating.{update}
 use Rattle.map.specs.Merging.{merge}
 use Rattle.map.specs.Resetting.{reset}
 use Rattle.map.specs.Judging.{overDots, overEntries, overValues, overWaiting, overKeys, overNumber, judged}
-use Rattle.map.specs.Contexts.{addContext}
-use Rattle.map.specs.Asking.{clockAt, following, validateUpdate, updateUnder, makeUpdate, noOp}
+use Rattle.asking.specs.Contexts.{addContext}
+use Rattle.asking.specs.Asking.{clockAt, following, validateUpdate, updateUnder, makeUpdate, noOp}
 
 -- actor : counter
 abbrev dot : ℕ → ℕ → Dot

@@ -16,7 +16,7 @@ use Rattle.scan.specs.Scanned.{Scanned, CountsUnder, Under, scanNumber}
 use Rattle.scan.proofs.Eachs.{decide, both-left, both-right, each-snoc}
 use Rattle.scan.proofs.Scanning.{counts-under, under-more, scan-before, scan-last}
 use Rattle.clock.specs.declared.Clock.{Clock}
-use Rattle.clock.specs.Dots.{dotsOf, clockOf}
+use Rattle.clock.specs.Dots.{dotLimit, dotsOf, clockOf}
 use Rattle.parts.specs.declared.Entries.{Entries}
 use Rattle.parts.specs.declared.Waiting.{Waiting}
 use Prim.Native.Nat.{ℕ, _+_, _%_, _≤_, _<_}
@@ -112,7 +112,7 @@ module _ (l : List Record) (r : Record) where
     pub waiting-so-far : WaitingSoFar l (s .waiting) r
     waiting-so-far = record { held = g .parts .waiting; placed = g .placed; good = good-now }
 
-    pub clock-room : r .kind ≡ 1 → length (clockIn l) < 8
+    pub clock-room : r .kind ≡ 1 → length (clockIn l) < dotLimit
     clock-room k = dots-room 1 6 l r good-now 1 k (λ b. omega arith) refl refl
 
     -- what `place` has looked through

@@ -1,6 +1,6 @@
 -- The entry in hand, brought and changed: what each way to add a record to the entries needs, and gives.
 -- Assumes nothing.
-use mathlib.Core.Path.{_≡_, refl, ap, ap₂, sym, _∙_}
+use mathlib.Core.Path.{_≡_, ap, ap₂, sym, _∙_}
 use mathlib.Core.Bool.{true, false}
 use mathlib.Core.List.{List, [], _∷_, _++_, map}
 use Prim.Native.Nat.{ℕ, _+_, _≤_, _<_}
@@ -39,7 +39,7 @@ use Rattle.maprecords.proofs.Keys.{length-places, get-places, get-map}
 use Rattle.mapreader.proofs.SoFar.{handed, EntriesNow}
 use Rattle.maprecords.proofs.Packs.{get-pad, pad-longer, entry-read, entry-changed, value-read, value-changed}
 use Rattle.maprecords.proofs.Entries.{keys-more, keys-same, entry-other, entries-same, dot-entry, value-entry, value-dot-entry}
-use Rattle.maprecords.proofs.Counts.{by-records, kinds-ascend, keys-counted, entry-dots-room, values-room, value-dots-room, entries-room}
+use Rattle.maprecords.proofs.Counts.{by-records, kinds-ascend, keys-counted, values-room, entries-room}
 use Rattle.maprecords.proofs.Finding.{same-length, in-entries, entry-at, key-known, entries-changed, fits-at, fits-none}
 
 -- a new entry behind the last
@@ -64,12 +64,12 @@ entries-new l r z k f =
     no-value x i = let h = kinds-ascend l r z x i in rw (ne-eqb (x .kind) 3 (λ e. omega arith))
 
 -- a key has no more values than there is room for
-values-most : (key : ℕ) (l : List Record) → scanNumber 1 6 l ≡ 0 → length (Rattle.lists.specs.Sift.those (underKey 3 key) l) ≤ 4
+values-most : (key : ℕ) (l : List Record) → scanNumber 1 6 l ≡ 0 → length (Rattle.lists.specs.Sift.those (underKey 3 key) l) ≤ valueLimit
 unfolding Rattle.lists.specs.Sift.sift
-values-most key l = by-records (λ m. scanNumber 1 6 m ≡ 0 → length (Rattle.lists.specs.Sift.those (underKey 3 key) m) ≤ 4) (λ z. omega arith) more l
+values-most key l = by-records (λ m. scanNumber 1 6 m ≡ 0 → length (Rattle.lists.specs.Sift.those (underKey 3 key) m) ≤ valueLimit) (λ z. omega arith) more l
   where
-    more : (m : List Record) (r : Record) → (scanNumber 1 6 m ≡ 0 → length (Rattle.lists.specs.Sift.those (underKey 3 key) m) ≤ 4)
-        → scanNumber 1 6 (m ++ (r ∷ [])) ≡ 0 → length (Rattle.lists.specs.Sift.those (underKey 3 key) (m ++ (r ∷ []))) ≤ 4
+    more : (m : List Record) (r : Record) → (scanNumber 1 6 m ≡ 0 → length (Rattle.lists.specs.Sift.those (underKey 3 key) m) ≤ valueLimit)
+        → scanNumber 1 6 (m ++ (r ∷ [])) ≡ 0 → length (Rattle.lists.specs.Sift.those (underKey 3 key) (m ++ (r ∷ []))) ≤ valueLimit
     more m r h z =
         decide (underKey 3 key r)
         (λ t. let k = eqb-true (r .key) key (both-right (isKind 3 r) (eqb (r .key) key) t) in
@@ -123,7 +123,7 @@ module _ (l : List Record) (r : Record) where
 
     -- an entry that is new
     module _ (new : some (λ x. eqb x (r .key)) (entryKeys l) ≡ false) (good : scanNumber 1 6 (l ++ (r ∷ [])) ≡ 0) (k : r .kind ≡ 2) where
-      pub new-room : entries .len < 16
+      pub new-room : entries .len < entryLimit
       new-room = omega (arith, count, entries-room l r good k new)
 
       pub new-now : {clock : Clock} {empty : Register} → clock ≡ clockOf (dotOf r ∷ []) → empty ≡ registerOf []
@@ -189,7 +189,7 @@ module _ (l : List Record) (r : Record) where
       pub value-misfit : r .kind ≡ 3 → (register .len ≡ r .index → ⊥) → (ks : List ℕ) (es : Entries) → EntriesNow l r true ks es
       value-misfit k n = missed (value-fits k ∙ ne-eqb _ _ n)
 
-      pub values-few : scanNumber 1 6 (l ++ (r ∷ [])) ≡ 0 → r .kind ≡ 3 → register .len < 4
+      pub values-few : scanNumber 1 6 (l ++ (r ∷ [])) ≡ 0 → r .kind ≡ 3 → register .len < valueLimit
       values-few good k = omega (arith, ap (λ z. z .len) register-is ∙ length-places (valueIn l (r .key)) 0 (Rattle.lists.specs.Sift.those (underKey 3 (r .key)) l), values-room l r good k)
 
       pub value-now : scanNumber 1 6 (l ++ (r ∷ [])) ≡ 0 → r .kind ≡ 3 → register .len ≡ r .index → {blank : Clock} → blank ≡ clockOf []
@@ -215,7 +215,7 @@ module _ (l : List Record) (r : Record) where
         in-values : r .index < length (valuesUnder l (r .key))
         in-values = omega (arith, ap (λ z. z .len) register-is)
 
-        pub in-register : scanNumber 1 6 (l ++ (r ∷ [])) ≡ 0 → r .index < 4
+        pub in-register : scanNumber 1 6 (l ++ (r ∷ [])) ≡ 0 → r .index < valueLimit
         in-register good = omega (arith, in-values, length-places (valueIn l (r .key)) 0 (Rattle.lists.specs.Sift.those (underKey 3 (r .key)) l), values-most (r .key) l (scan-before 1 6 l r good))
 
         value-is : getD (register .values) (r .index) d ≡ getD (valuesUnder l (r .key)) (r .index) noValue

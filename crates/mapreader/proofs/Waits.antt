@@ -17,7 +17,7 @@ use Rattle.lists.proofs.Orders.{apart}
 use Rattle.lists.proofs.Those.{those-none}
 use Rattle.parts.specs.declared.Removal.{Removal}
 use Rattle.parts.specs.declared.Waiting.{Waiting}
-use Rattle.parts.specs.Model.{noRemoval, removalAs, waitingAs}
+use Rattle.parts.specs.Model.{waitingLimit, keyLimit, noRemoval, removalAs, waitingAs}
 use Rattle.records.specs.declared.Record.{Record}
 use Rattle.records.specs.Kinds.{recordOk}
 use Rattle.scan.specs.Each.{each}
@@ -105,7 +105,7 @@ waits-counted l = by-records (λ m. each placed m ≡ true → wellFormed 1 6 m 
         (λ f. let e = count-same m r (eqb-false (r .kind) 5 f) in omega arith)
 
 -- a new waiting clock
-pub waits-room : (l : List Record) (r : Record) → each placed l ≡ true → scanNumber 1 6 (l ++ (r ∷ [])) ≡ 0 → r .kind ≡ 5 → r .index ≡ waitingCount l → waitingCount l < 8
+pub waits-room : (l : List Record) (r : Record) → each placed l ≡ true → scanNumber 1 6 (l ++ (r ∷ [])) ≡ 0 → r .kind ≡ 5 → r .index ≡ waitingCount l → waitingCount l < waitingLimit
 waits-room l r p z k i =
     let g = scan-good 1 6 (l ++ (r ∷ [])) z in
     let w = both-left (wellFormed 1 6 l) (follows 1 6 l r) (sym (formed-snoc 1 6 l r) ∙ g .0) in
@@ -118,11 +118,11 @@ waits-room l r p z k i =
     omega arith
 
 -- they are few
-waits-most : (l : List Record) → each placed l ≡ true → scanNumber 1 6 l ≡ 0 → waitingCount l ≤ 8
+waits-most : (l : List Record) → each placed l ≡ true → scanNumber 1 6 l ≡ 0 → waitingCount l ≤ waitingLimit
 unfolding waitingCount fold
-waits-most l = by-records (λ m. each placed m ≡ true → scanNumber 1 6 m ≡ 0 → waitingCount m ≤ 8) (λ p z. omega arith) more l
+waits-most l = by-records (λ m. each placed m ≡ true → scanNumber 1 6 m ≡ 0 → waitingCount m ≤ waitingLimit) (λ p z. omega arith) more l
   where
-    more : (m : List Record) (r : Record) → (each placed m ≡ true → scanNumber 1 6 m ≡ 0 → waitingCount m ≤ 8) → each placed (m ++ (r ∷ [])) ≡ true → scanNumber 1 6 (m ++ (r ∷ [])) ≡ 0 → waitingCount (m ++ (r ∷ [])) ≤ 8
+    more : (m : List Record) (r : Record) → (each placed m ≡ true → scanNumber 1 6 m ≡ 0 → waitingCount m ≤ waitingLimit) → each placed (m ++ (r ∷ [])) ≡ true → scanNumber 1 6 (m ++ (r ∷ [])) ≡ 0 → waitingCount (m ++ (r ∷ [])) ≤ waitingLimit
     more m r h p z =
         let pm = sym (each-snoc placed m r) ∙ p in
         let before = both-left (each placed m) (placed m r) pm in
@@ -137,7 +137,7 @@ waits-most l = by-records (λ m. each placed m ≡ true → scanNumber 1 6 m ≡
         let i = leb-true (r .index) (waitingCount m) (rw t at fit) in omega arith))
         (λ f. let e = count-same m r (eqb-false (r .kind) 5 f) in omega arith)
 
-pub removal-keys-few : (l : List Record) (r : Record) → scanNumber 1 6 (l ++ (r ∷ [])) ≡ 0 → r .kind ≡ 6 → length (map (λ x. x .key) (those (underIndex 6 (r .index)) l)) < 16
+pub removal-keys-few : (l : List Record) (r : Record) → scanNumber 1 6 (l ++ (r ∷ [])) ≡ 0 → r .kind ≡ 6 → length (map (λ x. x .key) (those (underIndex 6 (r .index)) l)) < keyLimit
 removal-keys-few l r good k = rw (length-map (those (underIndex 6 (r .index)) l) (λ (x : Record). x .key)) (waiting-keys-room l r good k)
 
 -- a test of another kind, or of another index
@@ -261,10 +261,10 @@ module _ (l : List Record) (r : Record) (waiting : Waiting) (s : WaitingSoFar l 
         let fit = fits-key k ∙ lt-ltb _ _ known in
         record { lost = rw fit; held = λ _. q ∙ ap waitingAs (ap (set (waitingFor l) (r .index)) (sym (key-removal l r k)) ∙ waiting-changed l r known (count-same l r (λ e. omega arith))) }
 
-  pub few-waiting : waiting .len ≤ 8
+  pub few-waiting : waiting .len ≤ waitingLimit
   few-waiting = omega (arith, how-many, waits-most l (s .placed) (scan-before 1 6 l r (s .good)))
 
-  pub new-waiting-room : r .kind ≡ 5 → r .index ≡ waiting .len → waiting .len < 8
+  pub new-waiting-room : r .kind ≡ 5 → r .index ≡ waiting .len → waiting .len < waitingLimit
   new-waiting-room k i = let n = how-many in omega (arith, waits-room l r (s .placed) (s .good) k (i ∙ n))
 
   -- a removal behind the last

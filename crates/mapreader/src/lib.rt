@@ -40,13 +40,13 @@ pub struct MapReader {
     // a record did not find what it needs
     pub lost: bool,
     pub clock: Clock,
-    pub keys: [u32; 16],
+    pub keys: [u32; ENTRIES],
     pub waiting: Waiting,
     pub entries: Entries,
 }
 
 // The place of a key among the first n, or n where it is not there. Records of one entry stand together: `last` is tried first.
-fn place(keys: [u32; 16], n: usize, last: usize, key: u32) -> usize
+fn place(keys: [u32; ENTRIES], n: usize, last: usize, key: u32) -> usize
     requires { ⌜ last < entryLimit ⌝ }
     ensures { λ r. ⌜ (r < n → (r < entryLimit) × (getD keys r 0 ≡ key)) × (n ≤ r → some (λ k. eqb k key) (take n keys) ≡ false) ⌝ }
 {
@@ -163,7 +163,7 @@ impl MapReader {
         let waiting = Waiting::new();
         let none = Entry::new(0);
         let entries = Entries {
-            items: [none; 16],
+            items: [none; ENTRIES],
             len: 0,
         };
         MapReader {
@@ -171,7 +171,7 @@ impl MapReader {
             under: [0u8; 256],
             lost: false,
             clock,
-            keys: [0u32; 16],
+            keys: [0u32; ENTRIES],
             waiting,
             entries,
         }
@@ -331,7 +331,7 @@ impl MapReader {
             clock = Clock::new();
             waiting = Waiting::new();
             let none = Entry::new(0);
-            let items = [none; 16];
+            let items = [none; ENTRIES];
             entries = Entries { items, len: 0 };
         }
         let map = Map {

@@ -15,6 +15,9 @@ use Rattle.lists.specs.First.{some}
 use Rattle.lists.specs.Fold.{fold}
 use Rattle.lists.proofs.Orders.{apart}
 use Rattle.lists.proofs.Those.{those-same}
+use Rattle.clock.specs.Dots.{dotLimit}
+use Rattle.register.specs.Values.{valueLimit}
+use Rattle.parts.specs.Model.{entryLimit, keyLimit}
 use Rattle.records.specs.declared.Record.{Record}
 use Rattle.records.specs.Kinds.{before, recordOk}
 use Rattle.scan.specs.Formed.{follows, wellFormed}
@@ -64,7 +67,7 @@ module _ (l : List Record) (r : Record) (z : scanNumber 1 6 (l ++ (r ∷ [])) �
       before-fields (every-at (λ x. before x r) l s (both-right (recordOk 1 6 r) _ f) i) .kind
 
   -- entry dots
-  pub entry-dots-room : r .kind ≡ 2 → length (dotsIn (underKey 2 (r .key)) l) < 8
+  pub entry-dots-room : r .kind ≡ 2 → length (dotsIn (underKey 2 (r .key)) l) < dotLimit
   entry-dots-room k =
       rw (length-map (those (underKey 2 (r .key)) l) dotOf, those-same (underKey 2 (r .key)) (sameMiddle r) l same)
       (let b = inner-room 1 6 l r formed few (λ e. omega arith) in let e = ap (limitAt innerLimits) k in omega arith)
@@ -81,7 +84,7 @@ module _ (l : List Record) (r : Record) (z : scanNumber 1 6 (l ++ (r ∷ [])) �
           both (isKind 2 x) (eqb (x .key) (r .key)) (eq-eqb (x .kind) 2 (h .kind ∙ k)) (eq-eqb (x .key) (r .key) (h .key)))
 
   -- values
-  pub values-room : r .kind ≡ 3 → length (those (underKey 3 (r .key)) l) < 4
+  pub values-room : r .kind ≡ 3 → length (those (underKey 3 (r .key)) l) < valueLimit
   values-room k =
       rw (those-same (underKey 3 (r .key)) (sameOuter r) l same)
       (let b = middle-room 1 6 l r formed few (ap usesActor k) in let e = ap (limitAt middleLimits) k in omega arith)
@@ -93,7 +96,7 @@ module _ (l : List Record) (r : Record) (z : scanNumber 1 6 (l ++ (r ∷ [])) �
           (λ t. let h = alike r x (λ e. omega arith) t in both (isKind 3 x) (eqb (x .key) (r .key)) (eq-eqb (x .kind) 3 (h .kind ∙ k)) (eq-eqb (x .key) (r .key) (h .key)))
 
   -- value dots
-  pub value-dots-room : r .kind ≡ 4 → length (dotsIn (underBoth 4 (r .key) (r .index)) l) < 8
+  pub value-dots-room : r .kind ≡ 4 → length (dotsIn (underBoth 4 (r .key) (r .index)) l) < dotLimit
   value-dots-room k =
       rw (length-map (those (underBoth 4 (r .key) (r .index)) l) dotOf, those-same (underBoth 4 (r .key) (r .index)) (sameMiddle r) l same)
       (let b = inner-room 1 6 l r formed few (λ e. omega arith) in let e = ap (limitAt innerLimits) k in omega arith)
@@ -109,7 +112,7 @@ module _ (l : List Record) (r : Record) (z : scanNumber 1 6 (l ++ (r ∷ [])) �
           (eq-eqb (x .index) (r .index) (alike-index r x (λ e. omega arith) t)))
 
   -- waiting dots
-  pub waiting-dots-room : r .kind ≡ 5 → length (dotsIn (underIndex 5 (r .index)) l) < 8
+  pub waiting-dots-room : r .kind ≡ 5 → length (dotsIn (underIndex 5 (r .index)) l) < dotLimit
   waiting-dots-room k =
       rw (length-map (those (underIndex 5 (r .index)) l) dotOf, those-same (underIndex 5 (r .index)) (sameMiddle r) l same)
       (let b = inner-room 1 6 l r formed few (λ e. omega arith) in let e = ap (limitAt innerLimits) k in omega arith)
@@ -126,7 +129,7 @@ module _ (l : List Record) (r : Record) (z : scanNumber 1 6 (l ++ (r ∷ [])) �
           both (isKind 5 x) (eqb (x .index) (r .index)) (eq-eqb (x .kind) 5 (h .kind ∙ k)) (eq-eqb (x .index) (r .index) (alike-index r x (λ e. omega arith) t)))
 
   -- waiting keys
-  pub waiting-keys-room : r .kind ≡ 6 → length (those (underIndex 6 (r .index)) l) < 16
+  pub waiting-keys-room : r .kind ≡ 6 → length (those (underIndex 6 (r .index)) l) < keyLimit
   waiting-keys-room k =
       rw (those-same (underIndex 6 (r .index)) (sameOuter r) l same)
       (let b = middle-room 1 6 l r formed few (ap usesActor k) in let e = ap (limitAt middleLimits) k in omega arith)
@@ -198,7 +201,7 @@ keys-counted l = by-records KeysCounted (record { few = omega arith; all = λ s 
             (λ n. n)
 
 -- a new entry
-pub entries-room : (l : List Record) (r : Record) → scanNumber 1 6 (l ++ (r ∷ [])) ≡ 0 → r .kind ≡ 2 → some (λ x. eqb x (r .key)) (entryKeys l) ≡ false → length (entryKeys l) < 16
+pub entries-room : (l : List Record) (r : Record) → scanNumber 1 6 (l ++ (r ∷ [])) ≡ 0 → r .kind ≡ 2 → some (λ x. eqb x (r .key)) (entryKeys l) ≡ false → length (entryKeys l) < entryLimit
 entries-room l r z k f =
     let b = outer-few 1 6 l r (formed l r z) (few l r z) in
     let e = ap (limitAt outerLimits) k in

@@ -10,7 +10,8 @@ use Rattle.lists.specs.Fold.{fold}
 use Rattle.lists.specs.First.{firstIn}
 use Rattle.clock.specs.declared.Dot.{Dot}
 use Rattle.clock.specs.Dots.{clockOf, isEmpty, counterIn, covers}
-use Rattle.parts.specs.Model.{entryAs, removalAs}
+use Rattle.register.specs.Values.{valueLimit}
+use Rattle.parts.specs.Model.{entryLimit, waitingLimit, keyLimit, entryAs, removalAs}
 use Rattle.map.specs.declared.Map.{Map}
 use Rattle.map.specs.Model.{mapAs, noMap}
 use Rattle.records.specs.declared.Record.{Record}
@@ -65,8 +66,8 @@ dots n = map (λ a. dot a (n + 1)) (below 8)
 full : Map
 unfolding below dots
 full =
-    mapAs (dots 9) (map (λ k. entryAs k (dots 0) (map (λ v. record { clock = clockOf (dots v); value = v }) (below 4))) (below 16))
-    (map (λ i. removalAs (dots i) (below 16)) (below 8))
+    mapAs (dots 9) (map (λ k. entryAs k (dots 0) (map (λ v. record { clock = clockOf (dots v); value = v }) (below valueLimit))) (below entryLimit))
+    (map (λ i. removalAs (dots i) (below keyLimit)) (below waitingLimit))
 
 full-longest : length (mapRecords full) * 16 ≡ mapLongest
 unfolding full dots below dot flatFrom inOrder insert fold pad

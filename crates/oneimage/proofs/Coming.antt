@@ -14,7 +14,7 @@ use Rattle.clock.proofs.Packs.{dots-of}
 use Rattle.register.specs.declared.Value.{Value}
 use Rattle.parts.specs.declared.Entry.{Entry}
 use Rattle.parts.specs.declared.Removal.{Removal}
-use Rattle.parts.specs.Model.{dotsIn as entryDots, valuesIn, underOf, listedIn}
+use Rattle.parts.specs.Model.{waitingLimit, dotsIn as entryDots, valuesIn, underOf, listedIn}
 use Rattle.parts.proofs.Pieces.{dots-in, values-in}
 use Rattle.records.specs.declared.Record.{Record}
 use Rattle.scan.specs.Each.{each}
@@ -32,7 +32,7 @@ use Rattle.oneimage.proofs.Made.{of-place, number-place}
 use Rattle.oneimage.proofs.Placing.{place-index}
 use Rattle.oneimage.proofs.Remade.{dot-remade, clock-fields, entry-fields, value-dot-fields, waiting-fields, value-remade, key-remade}
 
-module _ (l : List Record) (z : scanNumber 1 6 l ≡ 0) (p : each placed l ≡ true) (few : waitingCount l ≤ 8) where
+module _ (l : List Record) (z : scanNumber 1 6 l ≡ 0) (p : each placed l ≡ true) (few : waitingCount l ≤ waitingLimit) where
   -- a dot of a group comes from a record of the group
   dot-comes : (test : Record → Bool) {kind key index : ℕ} → ((x : Record) → x ∈ l → test x ≡ true → Fields kind key index x) → (d : Dot) → d ∈ dotsIn test l → dotRecord kind index key d ∈ l
   dot-comes test {kind} {key} {index} f d i =

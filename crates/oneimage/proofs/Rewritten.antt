@@ -9,6 +9,7 @@ use lib.Dec.{eqb}
 use lib.ListN.{length-map}
 use borrow.Author.Tests.{eqb-true, eqb-false}
 use Rattle.lists.proofs.Orders.{same-members}
+use Rattle.parts.specs.Model.{waitingLimit}
 use Rattle.parts.proofs.Pieces.{entries-of, waiting-of}
 use Rattle.map.proofs.Kept.{seen-of}
 use Rattle.records.specs.declared.Record.{Record}
@@ -42,7 +43,7 @@ unfolding related
 records-rewritten l z t =
     let p = both-left (each placed l) _ t in
     let rise = both-right (every (entryWhole (clockIn l)) (entriesFor l)) (ascend (waitingFor l)) (both-right (each placed l) _ t) in
-    let few : waitingCount l ≤ 8 = omega (arith, waiting-few l z p rise, length-map (below (waitingCount l)) (removalIn l), length-below (waitingCount l)) in
+    let few : waitingCount l ≤ waitingLimit = omega (arith, waiting-few l z p rise, length-map (below (waitingCount l)) (removalIn l), length-below (waitingCount l)) in
     same-members before-strict (mapRecords (mapIn l)) l (records-ascend (related-within l z t)) (rises 1 6 l z)
     (λ r i. comes-from l z p few r (stands-part (clockIn l) (entriesFor l) (waitingFor l) r (rw (parts l) at i)))
     (λ r i. rw (parts l) (part-stands (clockIn l) (entriesFor l) (waitingFor l) (stands-again l z p few r i)))

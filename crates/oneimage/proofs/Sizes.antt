@@ -13,7 +13,7 @@ use Rattle.map.specs.Model.{entriesIn, waitingIn}
 use Rattle.map.specs.Valid.{Within}
 use Rattle.map.proofs.Accepts.{fits-means}
 use Rattle.mapimage.specs.MapImage.{mapLongest, mapImage}
-use Rattle.answers.specs.Sizes.{totalOf, valueSize, entrySize, removalSize, mapSize}
+use Rattle.answers.specs.Sizes.{valueMost, entryMost, removalMost, totalOf, valueSize, entrySize, removalSize, mapSize}
 use Rattle.answers.proofs.Lengths.{length-image}
 
 total-most : {A : Type 0} (size : A → ℕ) (b : ℕ) (l : List A) → ((x : A) → x ∈ l → size x ≤ b) → totalOf size l ≤ length l * b
@@ -31,6 +31,6 @@ image-most {m} h =
       f .clock,
       f .count,
       f .number,
-      total-most entrySize 44 (entriesIn m) (λ e i. omega (arith, f .entries e i .dots, f .entries e i .count, total-most valueSize 9 (valuesIn e) (λ v j. omega (arith, f .entries e i .each v j)))),
-      total-most removalSize 24 (waitingIn m) (λ r i. omega (arith, f .waiting r i .dots, f .waiting r i .keys)),
+      total-most entrySize entryMost (entriesIn m) (λ e i. omega (arith, f .entries e i .dots, f .entries e i .count, total-most valueSize valueMost (valuesIn e) (λ v j. omega (arith, f .entries e i .each v j)))),
+      total-most removalSize removalMost (waitingIn m) (λ r i. omega (arith, f .waiting r i .dots, f .waiting r i .keys)),
     )

@@ -13,7 +13,7 @@ use Rattle.lists.specs.Sift.{those}
 use Rattle.lists.proofs.Those.{those-holds}
 use Rattle.clock.specs.declared.Dot.{Dot}
 use Rattle.clock.proofs.Packs.{dots-of}
-use Rattle.parts.specs.Model.{valuesIn}
+use Rattle.parts.specs.Model.{waitingLimit, valuesIn}
 use Rattle.parts.proofs.Pieces.{dots-in, values-in}
 use Rattle.records.specs.declared.Record.{Record}
 use Rattle.records.specs.Kinds.{recordOk}
@@ -32,7 +32,7 @@ use Rattle.oneimage.proofs.Made.{place-of, place-number}
 use Rattle.oneimage.proofs.Placing.{settled, value-place}
 use Rattle.oneimage.proofs.Remade.{dot-remade, clock-fields, entry-fields, value-dot-fields, waiting-fields, value-remade, key-remade}
 
-module _ (l : List Record) (z : scanNumber 1 6 l ≡ 0) (p : each placed l ≡ true) (few : waitingCount l ≤ 8) (r : Record) (i : r ∈ l) where
+module _ (l : List Record) (z : scanNumber 1 6 l ≡ 0) (p : each placed l ≡ true) (few : waitingCount l ≤ waitingLimit) (r : Record) (i : r ∈ l) where
   abbrev Again : Type 0
   Again = Part (clockIn l) (entriesFor l) (waitingFor l) r
 

@@ -10,8 +10,10 @@ ghost use Rattle.records.specs.Records.{bytesOf, Wrote};
 ghost use Rattle.opimage.specs.OpImage.{keyRecord, removalRecords, updateRecords, opImage, removes, updates, judgedOp, refusedOp, readOp, OpParts, OpSoFar};
 ghost use Rattle.scan.specs.Scanned.{Scanned};
 use clock::Clock;
+use clock::DOTS;
 use clock::Dot;
 use map::Op;
+use parts::KEYS;
 use parts::Keys;
 use parts::Removal;
 use parts::Update;
@@ -20,7 +22,7 @@ use register::Value;
 use scan::Scan;
 
 // The longest image of an operation.
-pub const OP_LONGEST: usize = 400;
+pub const OP_LONGEST: usize = (1 + DOTS + KEYS) * 16;
 
 // What an image was read as: a number of document 01, and the operation, which is the empty removal where the number is not 0.
 pub struct ReadOp {

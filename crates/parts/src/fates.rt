@@ -1,8 +1,8 @@
 // What becomes of an entry, and of all entries, in the order of their keys.
 ghost use mathlib.Core.Path.{_≡_};
 ghost use mathlib.Core.Bool.{true};
-ghost use mathlib.Core.List.{List, [], _∷_, _++_, map};
-ghost use Prim.Native.Nat.{_≤_, _<_, _+_};
+ghost use mathlib.Core.List.{List, [], _∷_, _++_};
+ghost use Prim.Native.Nat.{_*_, _≤_, _<_, _+_};
 ghost use lib.Dec.{eqb};
 ghost use lib.ListN.{length};
 ghost use Rattle.lists.specs.Sift.{sift, those};
@@ -350,7 +350,7 @@ impl Finished {
 
     // One entry more behind the last, unless its clock is empty.
     pub fn add(self, h: Hand) -> Finished
-        requires { ⌜ self .count ≤ 63 ⌝ }
+        requires { ⌜ self .count < 4 * entryLimit ⌝ }
         ensures { λ r. ⌜ (r .count ≤ self .count + 1) × ((l : List Entry) (e : Entry) → Laid e → Finishes l self → h ≡ handOf e → Finishes (l ++ those stays (e ∷ [])) r) ⌝ }
     {
         if h.clock.is_empty() {
@@ -368,7 +368,7 @@ impl Finished {
 
     // The entries on one side of a key, each with every waiting removal, behind the last.
     pub fn side(self, from: Entries, key: u32, below: bool, waiting: Waiting) -> Finished
-        requires { ⌜ self .count ≤ 32 ⌝ }
+        requires { ⌜ self .count ≤ 2 * entryLimit ⌝ }
         ensures { λ r. ⌜ (r .count ≤ self .count + entryLimit) × ((l : List Entry) → ((e : Entry) → e ∈ entriesOf from → Laid e) → Finishes l self → Finishes (l ++ sift stays (run (waitingOf waiting)) (those (aside below key) (entriesOf from))) r) ⌝ }
     {
         let n = from.size();

@@ -1,7 +1,7 @@
 // Removals that wait, ascending by clock.
 ghost use mathlib.Core.Path.{_≡_};
 ghost use mathlib.Core.List.{List, [], _∷_, _++_, map};
-ghost use Prim.Native.Nat.{_≤_, _<_, _+_};
+ghost use Prim.Native.Nat.{_*_, _-_, _≤_, _<_, _+_};
 ghost use lib.ListN.{length, drop};
 ghost use Rattle.lists.specs.Sift.{those};
 ghost use Rattle.clock.specs.Dots.{dotsOf};
@@ -190,7 +190,7 @@ impl Gathered {
 
     // One removal more behind the last, with keys that may be over the limit.
     fn add(self, clock: Clock, united: United) -> Gathered
-        requires { ⌜ Numbered self 63 ⌝ }
+        requires { ⌜ Numbered self (8 * waitingLimit - 1) ⌝ }
         ensures { λ o. ⌜ Numbered o (self .count + 1) × ((l : List Removal) (r : Removal) → self ≡ gathered l → clock ≡ r .clock → r .keys ≡ keysAs (listedIn r) → united ≡ keysFit (listedIn r) → o ≡ gathered (l ++ (r ∷ []))) ⌝ }
     {
         let long = self.long | united.over;
@@ -216,7 +216,7 @@ impl Gathered {
 
     // One removal more behind the last.
     fn keep(self, r: Removal) -> Gathered
-        requires { ⌜ Numbered self 63 ⌝ }
+        requires { ⌜ Numbered self (8 * waitingLimit - 1) ⌝ }
         ensures { λ o. ⌜ Numbered o (self .count + 1) × ((l : List Removal) → self ≡ gathered l → r .keys ≡ keysAs (listedIn r) → o ≡ gathered (l ++ (r ∷ []))) ⌝ }
     {
         let keys = r.keys;
@@ -226,7 +226,7 @@ impl Gathered {
 
     // The removals from place `at` on, behind the last.
     fn trail(self, from: Waiting, at: usize) -> Gathered
-        requires { ⌜ Numbered self 48 ⌝ }
+        requires { ⌜ Numbered self (6 * waitingLimit) ⌝ }
         ensures { λ o. ⌜ Numbered o (self .count + waitingLimit) × ((l : List Removal) → ((r : Removal) → r ∈ waitingOf from → r .keys ≡ keysAs (listedIn r)) → self ≡ gathered l → o ≡ gathered (l ++ map (λ r. r) (drop at (waitingOf from)))) ⌝ }
     {
         let n = from.size();

@@ -4,7 +4,7 @@ use mathlib.Core.Path.{_≡_, refl}
 use mathlib.Core.List.{List}
 use Prim.Native.Nat.{ℕ, _*_, _^_}
 use Rattle.map.specs.declared.Judged.{Judged}
-use Rattle.map.specs.declared.Made.{Made}
+use Rattle.asking.specs.declared.Made.{Made}
 use Rattle.opimage.specs.OpImage.{opImage}
 use Rattle.mapimage.specs.MapImage.{mapImage}
 use Rattle.answers.specs.Answer.{Answer, Answered}

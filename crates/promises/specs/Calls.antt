@@ -4,16 +4,16 @@ use Prim.Native.Nat.{ℕ}
 use mathlib.Core.List.{List, []}
 use Rattle.clock.specs.Dots.{dotsOf}
 use Rattle.map.specs.declared.Judged.{Judged}
-use Rattle.map.specs.declared.Made.{Made}
-use Rattle.map.specs.declared.Order.{Order}
-use Rattle.map.specs.declared.Spent.{Spent}
-use Rattle.map.specs.declared.Spent.the-variants.{Once, Twice}
+use Rattle.asking.specs.declared.Made.{Made}
+use Rattle.asking.specs.declared.CmRDTValidation.{CmRDTValidation}
+use Rattle.asking.specs.declared.CvRDTValidation.{CvRDTValidation}
+use Rattle.asking.specs.declared.CvRDTValidation.the-variants.{Once, Twice}
 use Rattle.map.specs.Model.{seenBy}
 use Rattle.map.specs.Applying.{apply}
 use Rattle.map.specs.Merging.{merge}
 use Rattle.map.specs.Resetting.{reset}
 use Rattle.map.specs.Judging.{judged}
-use Rattle.map.specs.Asking.{validateOp, orderNumber, validateMerge, spentNumber, makeUpdate, removalOp, clockAt, readKey, count}
+use Rattle.asking.specs.Asking.{validateOp, orderNumber, validateMerge, spentNumber, makeUpdate, removalOp, clockAt, readKey, count}
 use Rattle.clockimage.specs.ClockImage.{readClock}
 use Rattle.opimage.specs.OpImage.{readOp, opImage}
 use Rattle.mapimage.specs.MapImage.{mapImage}
@@ -61,32 +61,32 @@ abbrev pub countOf : List ℕ → ℕ
 countOf map = count (readMap map .map)
 
 -- validating an operation
-abbrev pub orderOf : List ℕ → List ℕ → Order
+abbrev pub orderOf : List ℕ → List ℕ → CmRDTValidation
 orderOf map op = validateOp (readMap map .map) (readOp op .op)
 
 abbrev pub orderAnswer : List ℕ → List ℕ → Answer
 orderAnswer map op = bareAnswer (readMap map .number) (readOp op .number) (orderNumber (orderOf map op))
 
 -- validating a merge
-abbrev pub spentOf : List ℕ → List ℕ → Spent
+abbrev pub spentOf : List ℕ → List ℕ → CvRDTValidation
 spentOf map other = validateMerge (readMap map .map) (readMap other .map)
 
 abbrev pub spentAnswer : List ℕ → List ℕ → Answer
 spentAnswer map other = bareAnswer (readMap map .number) (readMap other .number) (spentNumber (spentOf map other))
 
 -- "12 with dot and both keys"
-abbrev pub spentActor : Spent → ℕ
+abbrev pub spentActor : CvRDTValidation → ℕ
 spentActor Once = 0
 spentActor (Twice d k h) = d .actor
 
-abbrev pub spentCounter : Spent → ℕ
+abbrev pub spentCounter : CvRDTValidation → ℕ
 spentCounter Once = 0
 spentCounter (Twice d k h) = d .counter
 
-abbrev pub spentOurs : Spent → ℕ
+abbrev pub spentOurs : CvRDTValidation → ℕ
 spentOurs Once = 0
 spentOurs (Twice d k h) = k
 
-abbrev pub spentTheirs : Spent → ℕ
+abbrev pub spentTheirs : CvRDTValidation → ℕ
 spentTheirs Once = 0
 spentTheirs (Twice d k h) = h

@@ -4,7 +4,7 @@ use mathlib.Core.Path.{_≡_}
 use mathlib.Core.List.{List, []}
 use Prim.Native.Nat.{ℕ}
 use Rattle.clock.specs.declared.Clock.{Clock}
-use Rattle.map.specs.Asking.{orderStart, orderEnd}
+use Rattle.asking.specs.Asking.{orderStart, orderEnd}
 use Rattle.answers.specs.Answer.{Answered, wordOf, carriedOf}
 use Rattle.advance.specs.Advancing.{advancedOf}
 use Rattle.mailbox.specs.Machine.{begun, takeWord, takeIn}

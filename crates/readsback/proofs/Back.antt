@@ -10,7 +10,7 @@ use lib.Dec.{eqb}
 use lib.ListN.{length, take, drop}
 use lib.Seq.{take-at}
 use Rattle.map.specs.declared.Map.{Map}
-use Rattle.map.specs.declared.Made.{Made}
+use Rattle.asking.specs.declared.Made.{Made}
 use Rattle.map.specs.Judging.{overNumber, judged}
 use Rattle.records.specs.Bytes.{Bytes}
 use Rattle.scan.proofs.Eachs.{decide}

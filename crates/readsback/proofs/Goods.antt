@@ -29,18 +29,18 @@ use Rattle.map.specs.Applying.{apply}
 use Rattle.map.specs.Merging.{merge}
 use Rattle.map.specs.Resetting.{reset}
 use Rattle.map.specs.Judging.{exceeding, overNumber}
-use Rattle.map.specs.Contexts.{dotAfter, addContext}
-use Rattle.map.specs.Asking.{updateOp, updateUnder, makeUpdate, removalOp, clockAt, readKey}
+use Rattle.asking.specs.Contexts.{dotAfter, addContext}
+use Rattle.asking.specs.Asking.{updateOp, updateUnder, makeUpdate, removalOp, clockAt, readKey}
 use Rattle.map.specs.Valid.{ValidOp, OpWithin}
 use Rattle.map.proofs.Accepts.{fits-means, fits-holds}
-use Rattle.map.proofs.Askings.{clock-at}
-use Rattle.map.proofs.Kept.{valid-apply, valid-merge, valid-reset, valid-read}
+use Rattle.asking.proofs.Askings.{clock-at, valid-read, each-read}
+use Rattle.map.proofs.Kept.{valid-apply, valid-merge, valid-reset}
 use Rattle.accepted.proofs.Waited.{removal-as}
 use Rattle.scan.proofs.Eachs.{decide}
 use Rattle.clockimage.specs.Image.{DotFits}
 use Rattle.oneimage.specs.Narrow.{NarrowUpdate, NarrowOp}
 use Rattle.oneimage.specs.One.{GoodMap, GoodOp}
-use Rattle.map.proofs.Preserved.{each-read, each-apply, each-merge, each-reset}
+use Rattle.map.proofs.Preserved.{each-apply, each-merge, each-reset}
 use Rattle.readsback.proofs.Fitting.{FittingClock, clock-add, rules, taken-op, each-fits, fits-each}
 
 valid-op : {op : Op} → OpWithin op → ValidOp op

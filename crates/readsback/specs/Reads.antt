@@ -11,7 +11,7 @@ use Rattle.map.specs.Model.{seenBy}
 use Rattle.map.specs.Applying.{apply}
 use Rattle.map.specs.Merging.{merge}
 use Rattle.map.specs.Resetting.{reset}
-use Rattle.map.specs.Asking.{makeUpdate, removalOp, clockAt, readKey}
+use Rattle.asking.specs.Asking.{makeUpdate, removalOp, clockAt, readKey}
 use Rattle.records.specs.Bytes.{Bytes}
 use Rattle.clockimage.specs.ClockImage.{readClock}
 use Rattle.opimage.specs.OpImage.{readOp}

@@ -1,4 +1,3 @@
 pub mod Packs
 pub mod Kept
 pub mod Cuts
-pub mod Equality

@@ -1,13 +1,12 @@
 -- Registers, in the words and order of 01 "Register": an ordered list of values, of any length, each under a clock.
 -- Assumes nothing.
-use mathlib.Core.Bool.{Bool, true, false, not, _&&_, cond}
+use mathlib.Core.Bool.{Bool, true, false, not, cond}
 use mathlib.Core.List.{List, [], _∷_, _++_, map}
-use Prim.Native.Nat.{ℕ}
-use lib.Dec.{eqb}
+use Prim.Native.Nat.{_*_, ℕ}
 use lib.ListN.{length, take}
 use Rattle.lists.specs.Pad.{pad}
 use Rattle.lists.specs.Sift.{sift, those}
-use Rattle.lists.specs.First.{some, none}
+use Rattle.lists.specs.First.{some}
 use Rattle.lists.specs.Fold.{fold}
 use Rattle.lists.specs.Limit.{within}
 use Rattle.clock.specs.declared.Dot.{Dot}
@@ -27,7 +26,7 @@ valueLimit = 4
 
 -- the room of a register in hand: two registers' values, before what follows has cut them
 abbrev pub wideRoom : ℕ
-wideRoom = 8
+wideRoom = 2 * valueLimit
 
 abbrev pub noValue : Value
 noValue = record { clock = clockOf []; value = 0 }
@@ -98,28 +97,6 @@ oursLeft ours theirs = those (standing false theirs) ours
 -- "then append, in their order, those of theirs that are neither strictly below nor equal in clock to one of our remaining"
 unfoldable pub mergeValues : List Value → List Value → List Value
 mergeValues ours theirs = oursLeft ours theirs ++ those (standing true (oursLeft ours theirs)) theirs
-
--- the same value under the same clock
-abbrev pub equalClock : Order → Bool
-equalClock Equal = true
-equalClock Less = false
-equalClock Greater = false
-equalClock Concurrent = false
-
-unfoldable pub samePair : Value → Value → Bool
-samePair v w = equalClock (orderOf (dotsOf (v .clock)) (dotsOf (w .clock))) && eqb (v .value) (w .value)
-
--- how many times a pair occurs
-unfoldable pub timesIn : List Value → Value → ℕ
-timesIn l v = length (those (samePair v) l)
-
--- every pair that stands here occurs the same number of times in l and in m
-unfoldable pub asOften : List Value → List Value → List Value → Bool
-asOften l m here = none (λ v. not (eqb (timesIn l v) (timesIn m v))) here
-
--- "Equality shall mean that every pair occurs the same number of times in both, order ignored."
-unfoldable pub equalValues : List Value → List Value → Bool
-equalValues l m = asOften l m l && asOften l m m
 
 -- the clock under which a register is read: those of its values, joined
 unfoldable pub clockOver : List Value → List Dot

@@ -6,7 +6,7 @@ ghost use lib.ListN.{length};
 ghost use Rattle.lists.specs.Sift.{those};
 ghost use Rattle.clock.specs.Dots.{dotsOf, fitted};
 ghost use Rattle.register.specs.declared.Value.{Value};
-ghost use Rattle.register.specs.Values.{valueLimit, wideRoom, valuesOf, wideValues, registerOf, wideOf, numbersOf, settled, yields, outdone, standing, putValues, cutValue, cutValues, mergeValues, samePair, timesIn, asOften, equalValues, clockOver, readOf};
+ghost use Rattle.register.specs.Values.{valueLimit, wideRoom, valuesOf, wideValues, registerOf, wideOf, numbersOf, settled, yields, outdone, standing, putValues, cutValue, cutValues, mergeValues, clockOver, readOf};
 use clock::Clock;
 use clock::Joined;
 use clock::Order;
@@ -15,7 +15,7 @@ use clock::Order;
 pub const VALUES: usize = 4;
 
 // Room for the values of two registers.
-pub const WIDE: usize = 8;
+pub const WIDE: usize = 2 * VALUES;
 
 pub struct Value {
     pub clock: Clock,
@@ -60,20 +60,6 @@ impl Value {
         match o {
             Order::Less => true,
             Order::Equal => equal_too,
-            Order::Greater => false,
-            Order::Concurrent => false,
-        }
-    }
-
-    // Whether both hold the same value under the same clock.
-    fn same_pair(self, other: Value) -> bool
-        ensures { λ r. ⌜ r ≡ samePair self other ⌝ }
-    {
-        let equal = self.value == other.value;
-        let o = self.clock.compare(other.clock);
-        match o {
-            Order::Equal => equal,
-            Order::Less => false,
             Order::Greater => false,
             Order::Concurrent => false,
         }
@@ -198,46 +184,6 @@ impl Register {
         let ours = self.standing(other, false);
         let theirs = other.standing(ours, true);
         ours.wide().trail(theirs)
-    }
-
-    // How many times a value stands here under the same clock.
-    fn times(self, v: Value) -> usize
-        ensures { λ r. ⌜ (r ≡ timesIn (valuesOf self) v) × (r ≤ valueLimit) ⌝ }
-    {
-        let n = self.size();
-        let mut count: usize = 0;
-        let mut i: usize = 0;
-        while i < n {
-            let w = self.values[i];
-            i += 1;
-            if v.same_pair(w) {
-                count += 1;
-            }
-        }
-        count
-    }
-
-    // Whether every value that stands `here` stands in both the same number of times under its clock.
-    fn as_often(self, other: Register, here: Register) -> bool
-        ensures { λ r. ⌜ r ≡ asOften (valuesOf self) (valuesOf other) (valuesOf here) ⌝ }
-    {
-        let n = here.size();
-        let mut i: usize = 0;
-        while i < n {
-            let v = here.values[i];
-            if self.times(v) != other.times(v) {
-                return false;
-            }
-            i += 1;
-        }
-        true
-    }
-
-    // Equality, in whatever order: the Rust's `eq`, where no pair stands twice.
-    pub fn equals(self, other: Register) -> bool
-        ensures { λ r. ⌜ r ≡ equalValues (valuesOf self) (valuesOf other) ⌝ }
-    {
-        self.as_often(other, self) & self.as_often(other, other)
     }
 
     // The clocks of the values, joined: the Rust's `clock`.

@@ -1,5 +1,5 @@
 // Replays a sample of the oracle's answers: makes each call of the file on the file's images, and counts the answers that differ from the file's.
-mod asking;
+mod calls;
 mod file;
 mod tally;
 
@@ -30,9 +30,9 @@ fn agrees(
 ) -> bool {
     let mut out = [PAINT; BUFFER];
     let word = if asked.call == 18 {
-        asking::advance(asked, first, &mut out)
+        calls::advance(asked, first, &mut out)
     } else {
-        asking::ask(asked, first, first_len, second, second_len, &mut out)
+        calls::ask(asked, first, first_len, second, second_len, &mut out)
     };
     (word == asked.word) & same(&out, wanted)
 }

@@ -7,14 +7,61 @@ ghost use Prim.Native.Nat.{ℕ};
 ghost use Rattle.records.specs.declared.Record.{Record};
 ghost use Rattle.scan.specs.Limits.{limitAt, tallyTo, withinLimits};
 ghost use Rattle.scan.specs.Scanned.{Scanned, CountsUnder, byKey, byIndex, judged, countedOn, behindLast, scanOn};
+use clock::DOTS;
+use parts::ENTRIES;
+use parts::KEYS;
+use parts::WAITING;
 use records::Record;
+use register::VALUES;
 
 // By kind, from kind 0, which is none: the most distinct things of each level.
-const OUTER: [u8; 13] = [0, 1, 16, 16, 16, 1, 8, 1, 1, 16, 255, 1, 1];
+const OUTER: [u8; 13] = [
+    0,
+    1,
+    ENTRIES as u8,
+    ENTRIES as u8,
+    ENTRIES as u8,
+    1,
+    WAITING as u8,
+    1,
+    1,
+    KEYS as u8,
+    255,
+    1,
+    1,
+];
 
-const MIDDLE: [u8; 13] = [0, 1, 1, 4, 4, 8, 16, 1, 1, 1, 255, 1, 1];
+const MIDDLE: [u8; 13] = [
+    0,
+    1,
+    1,
+    VALUES as u8,
+    VALUES as u8,
+    WAITING as u8,
+    KEYS as u8,
+    1,
+    1,
+    1,
+    255,
+    1,
+    1,
+];
 
-const INNER: [u8; 13] = [0, 8, 8, 1, 8, 8, 1, 1, 8, 1, 255, 1, 8];
+const INNER: [u8; 13] = [
+    0,
+    DOTS as u8,
+    DOTS as u8,
+    1,
+    DOTS as u8,
+    DOTS as u8,
+    1,
+    1,
+    DOTS as u8,
+    1,
+    255,
+    1,
+    DOTS as u8,
+];
 
 pub struct Scan {
     pub number: u8,

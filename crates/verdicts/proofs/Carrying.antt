@@ -7,11 +7,11 @@ use Prim.Native.Nat.{ℕ}
 use lib.Dec.{eqb}
 use borrow.Author.Tests.{eqb-true}
 use Rattle.scan.proofs.Eachs.{decide}
-use Rattle.map.specs.declared.Order.{Order}
-use Rattle.map.specs.declared.Order.the-variants.{Fits, Missing}
-use Rattle.map.specs.declared.Spent.{Spent}
-use Rattle.map.specs.declared.Spent.the-variants.{Once, Twice}
-use Rattle.map.specs.Asking.{orderNumber, orderStart, orderEnd, spentNumber}
+use Rattle.asking.specs.declared.CmRDTValidation.{CmRDTValidation}
+use Rattle.asking.specs.declared.CmRDTValidation.the-variants.{Fits, Missing}
+use Rattle.asking.specs.declared.CvRDTValidation.{CvRDTValidation}
+use Rattle.asking.specs.declared.CvRDTValidation.the-variants.{Once, Twice}
+use Rattle.asking.specs.Asking.{orderNumber, orderStart, orderEnd, spentNumber}
 use Rattle.answers.specs.Answer.{Answer, firstOf, numberOf, carriedOf}
 use Rattle.promises.specs.Calls.{bareAnswer}
 
@@ -27,27 +27,27 @@ module _ {F : Type 0} (numberIn carriedIn : F → ℕ) (nothing : F) (with : ℕ
       by-cases true = sym (told f)
       by-cases false = none
 
-start-told : (o : Order) → cond (eqb (orderNumber o) 11) (orderStart o) 0 ≡ orderStart o
+start-told : (o : CmRDTValidation) → cond (eqb (orderNumber o) 11) (orderStart o) 0 ≡ orderStart o
 start-told Fits = refl
 start-told (Missing start end) = refl
 
-end-told : (o : Order) → cond (eqb (orderNumber o) 11) (orderEnd o) 0 ≡ orderEnd o
+end-told : (o : CmRDTValidation) → cond (eqb (orderNumber o) 11) (orderEnd o) 0 ≡ orderEnd o
 end-told Fits = refl
 end-told (Missing start end) = refl
 
-spent-told : (carried : Spent → ℕ) → carried Once ≡ 0 → (s : Spent) → cond (eqb (spentNumber s) 12) (carried s) 0 ≡ carried s
+spent-told : (carried : CvRDTValidation → ℕ) → carried Once ≡ 0 → (s : CvRDTValidation) → cond (eqb (spentNumber s) 12) (carried s) 0 ≡ carried s
 spent-told carried z Once = sym z
 spent-told carried z (Twice d k h) = refl
 
-pub start-carried : (first second : ℕ) (o : Order)
+pub start-carried : (first second : ℕ) (o : CmRDTValidation)
     → orderStart (cond (eqb (firstOf (first ∷ second ∷ [])) 0) o Fits) ≡ carriedOf 11 (bareAnswer first second (orderNumber o)) (orderStart o)
 start-carried = carries orderNumber orderStart Fits 11 refl start-told
 
-pub end-carried : (first second : ℕ) (o : Order)
+pub end-carried : (first second : ℕ) (o : CmRDTValidation)
     → orderEnd (cond (eqb (firstOf (first ∷ second ∷ [])) 0) o Fits) ≡ carriedOf 11 (bareAnswer first second (orderNumber o)) (orderEnd o)
 end-carried = carries orderNumber orderEnd Fits 11 refl end-told
 
-pub spent-carried : (carried : Spent → ℕ) → carried Once ≡ 0 → (first second : ℕ) (s : Spent)
+pub spent-carried : (carried : CvRDTValidation → ℕ) → carried Once ≡ 0 → (first second : ℕ) (s : CvRDTValidation)
     → carried (cond (eqb (firstOf (first ∷ second ∷ [])) 0) s Once) ≡ carriedOf 12 (bareAnswer first second (spentNumber s)) (carried s)
 spent-carried carried z = carries spentNumber carried Once 12 z (spent-told carried z)
 

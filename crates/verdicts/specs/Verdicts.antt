@@ -4,8 +4,8 @@ use Prim.Native.Nat.{ℕ}
 use mathlib.Core.Bool.{cond}
 use mathlib.Core.List.{List, [], _∷_}
 use lib.Dec.{eqb}
-use Rattle.map.specs.declared.Order.the-variants.{Fits}
-use Rattle.map.specs.declared.Spent.the-variants.{Once}
+use Rattle.asking.specs.declared.CmRDTValidation.the-variants.{Fits}
+use Rattle.asking.specs.declared.CvRDTValidation.the-variants.{Once}
 use Rattle.opimage.specs.OpImage.{readOp}
 use Rattle.maprecords.specs.Related.{readMap}
 use Rattle.answers.specs.Answer.{firstOf, numberOf}

@@ -1,93 +1,93 @@
 // Both validations over images, and the numbers that they and the count carry.
 ghost use mathlib.Core.Path.{_≡_};
-ghost use Rattle.map.specs.Asking.{orderNumber, orderStart, orderEnd, spentNumber};
+ghost use Rattle.asking.specs.Asking.{orderNumber, orderStart, orderEnd, spentNumber};
 ghost use Rattle.promises.specs.Calls.{spentActor, spentCounter, spentOurs, spentTheirs};
 ghost use Rattle.promises.specs.Promises.{LenCountPromise};
 ghost use Rattle.verdicts.specs.Verdicts.{opVerdict, mergeVerdict};
-use map::Order;
-use map::Spent;
+use asking::CmRDTValidation;
+use asking::CvRDTValidation;
 
 // What `validate_op` says of two images: where one is refused, its number alone.
 pub struct OpVerdict {
     pub number: u8,
-    pub order: Order,
+    pub order: CmRDTValidation,
 }
 
 // What `validate_merge` says of two images.
 pub struct MergeVerdict {
     pub number: u8,
-    pub spent: Spent,
+    pub spent: CvRDTValidation,
 }
 
-fn order_number(o: Order) -> u8
+fn order_number(o: CmRDTValidation) -> u8
     ensures { λ r. ⌜ r ≡ orderNumber o ⌝ }
 {
     match o {
-        Order::Fits => 0,
-        Order::Missing(_, _) => 11,
+        CmRDTValidation::Fits => 0,
+        CmRDTValidation::Missing(_, _) => 11,
     }
 }
 
-pub fn order_start(o: Order) -> u64
+pub fn order_start(o: CmRDTValidation) -> u64
     ensures { λ r. ⌜ r ≡ orderStart o ⌝ }
 {
     match o {
-        Order::Fits => 0,
-        Order::Missing(start, _) => start,
+        CmRDTValidation::Fits => 0,
+        CmRDTValidation::Missing(start, _) => start,
     }
 }
 
-pub fn order_end(o: Order) -> u64
+pub fn order_end(o: CmRDTValidation) -> u64
     ensures { λ r. ⌜ r ≡ orderEnd o ⌝ }
 {
     match o {
-        Order::Fits => 0,
-        Order::Missing(_, end) => end,
+        CmRDTValidation::Fits => 0,
+        CmRDTValidation::Missing(_, end) => end,
     }
 }
 
-fn spent_number(s: Spent) -> u8
+fn spent_number(s: CvRDTValidation) -> u8
     ensures { λ r. ⌜ r ≡ spentNumber s ⌝ }
 {
     match s {
-        Spent::Once => 0,
-        Spent::Twice(_, _, _) => 12,
+        CvRDTValidation::Once => 0,
+        CvRDTValidation::Twice(_, _, _) => 12,
     }
 }
 
-pub fn spent_actor(s: Spent) -> u64
+pub fn spent_actor(s: CvRDTValidation) -> u64
     ensures { λ r. ⌜ r ≡ spentActor s ⌝ }
 {
     match s {
-        Spent::Once => 0,
-        Spent::Twice(d, _, _) => d.actor as u64,
+        CvRDTValidation::Once => 0,
+        CvRDTValidation::Twice(d, _, _) => d.actor as u64,
     }
 }
 
-pub fn spent_counter(s: Spent) -> u64
+pub fn spent_counter(s: CvRDTValidation) -> u64
     ensures { λ r. ⌜ r ≡ spentCounter s ⌝ }
 {
     match s {
-        Spent::Once => 0,
-        Spent::Twice(d, _, _) => d.counter,
+        CvRDTValidation::Once => 0,
+        CvRDTValidation::Twice(d, _, _) => d.counter,
     }
 }
 
-pub fn spent_ours(s: Spent) -> u64
+pub fn spent_ours(s: CvRDTValidation) -> u64
     ensures { λ r. ⌜ r ≡ spentOurs s ⌝ }
 {
     match s {
-        Spent::Once => 0,
-        Spent::Twice(_, k, _) => k as u64,
+        CvRDTValidation::Once => 0,
+        CvRDTValidation::Twice(_, k, _) => k as u64,
     }
 }
 
-pub fn spent_theirs(s: Spent) -> u64
+pub fn spent_theirs(s: CvRDTValidation) -> u64
     ensures { λ r. ⌜ r ≡ spentTheirs s ⌝ }
 {
     match s {
-        Spent::Once => 0,
-        Spent::Twice(_, _, h) => h as u64,
+        CvRDTValidation::Once => 0,
+        CvRDTValidation::Twice(_, _, h) => h as u64,
     }
 }
 
@@ -98,14 +98,14 @@ pub fn op(map: &[u8], op: &[u8]) -> OpVerdict
     if l.number != 0 {
         return OpVerdict {
             number: l.number,
-            order: Order::Fits,
+            order: CmRDTValidation::Fits,
         };
     }
     let o = opimage::read_op(op);
     if o.number != 0 {
         return OpVerdict {
             number: o.number,
-            order: Order::Fits,
+            order: CmRDTValidation::Fits,
         };
     }
     let order = direct::validating::order_of(map, l, o.op);
@@ -122,14 +122,14 @@ pub fn merge(map: &[u8], other: &[u8]) -> MergeVerdict
     if l.number != 0 {
         return MergeVerdict {
             number: l.number,
-            spent: Spent::Once,
+            spent: CvRDTValidation::Once,
         };
     }
     let o = layout::lay_out(other);
     if o.number != 0 {
         return MergeVerdict {
             number: o.number,
-            spent: Spent::Once,
+            spent: CvRDTValidation::Once,
         };
     }
     let spent = direct::validating::spent_between(map, l.layout, other, o.layout);

@@ -4,7 +4,7 @@ use Prim.Native.Nat.{_+_, _*_, _≤_, _-_}
 use lib.ListN.{drop}
 use Rattle.parts.specs.Model.{entriesOf}
 use Rattle.parts.proofs.Packs.{noneRead}
-use Rattle.answers.specs.Sizes.{totalOf, entrySize}
+use Rattle.answers.specs.Sizes.{entryMost, totalOf, entrySize}
 use Rattle.answers.proofs.Totals.{total-on, total-end}
 use borrow.Author.Needs.{needs}
 use native.Mathlib.Omega.{arith}
@@ -12,7 +12,7 @@ use Rattle.answers.proofs.count_entries.Statement.{statement}
 use Rattle.answers.proofs.count_entries.Tie as tie
 
 abbrev Inv-loop : tie.InvT-loop
-Inv-loop entries n total₀ i₀ total i = (i ≤ n) × ((total ≤ i * 44) × (total + totalOf entrySize (drop i (entriesOf entries)) ≡ totalOf entrySize (entriesOf entries)))
+Inv-loop entries n total₀ i₀ total i = (i ≤ n) × ((total ≤ i * entryMost) × (total + totalOf entrySize (drop i (entriesOf entries)) ≡ totalOf entrySize (entriesOf entries)))
 
 abbrev μ-loop : tie.MeasureT-loop
 μ-loop entries n total₀ i₀ total i = n - i

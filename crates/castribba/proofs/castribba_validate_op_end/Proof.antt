@@ -1,7 +1,7 @@
 -- `castribba_validate_op_end` meets its contract. Assumes nothing.
 use mathlib.Core.Path.{ap, _∙_}
 use Rattle.verdicts.specs.declared.OpVerdict.{OpVerdict}
-use Rattle.map.specs.Asking.{orderEnd}
+use Rattle.asking.specs.Asking.{orderEnd}
 use Rattle.verdicts.proofs.Carrying.{end-carried}
 use borrow.Author.Needs.{needs}
 use Rattle.castribba.proofs.castribba_validate_op_end.Statement.{statement}

@@ -1,7 +1,7 @@
 -- `castribba_validate_op_start` meets its contract. Assumes nothing.
 use mathlib.Core.Path.{ap, _∙_}
 use Rattle.verdicts.specs.declared.OpVerdict.{OpVerdict}
-use Rattle.map.specs.Asking.{orderStart}
+use Rattle.asking.specs.Asking.{orderStart}
 use Rattle.verdicts.proofs.Carrying.{start-carried}
 use borrow.Author.Needs.{needs}
 use Rattle.castribba.proofs.castribba_validate_op_start.Statement.{statement}

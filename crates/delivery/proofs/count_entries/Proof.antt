@@ -2,8 +2,8 @@
 use mathlib.Core.Path.{_≡_, ap}
 use Prim.Native.Nat.{_+_, _*_, _≤_, _-_}
 use lib.ListN.{drop}
-use Rattle.answers.specs.Sizes.{totalOf, entrySize}
-use Rattle.mailbox.specs.Memory.{entriesAt}
+use Rattle.answers.specs.Sizes.{entryMost, totalOf, entrySize}
+use Rattle.memory.specs.Memory.{entriesAt}
 use Rattle.delivery.proofs.Views.{entries-left, entries-end}
 use borrow.Author.Needs.{needs}
 use native.Mathlib.Omega.{arith}
@@ -12,7 +12,7 @@ use Rattle.delivery.proofs.count_entries.Tie as tie
 
 abbrev Inv-loop : tie.InvT-loop
 Inv-loop mem n total₀ j₀ total j =
-    (j ≤ n) × ((total ≤ j * 44) × (total + totalOf entrySize (drop j (entriesAt mem)) ≡ totalOf entrySize (entriesAt mem)))
+    (j ≤ n) × ((total ≤ j * entryMost) × (total + totalOf entrySize (drop j (entriesAt mem)) ≡ totalOf entrySize (entriesAt mem)))
 
 abbrev μ-loop : tie.MeasureT-loop
 μ-loop mem n total₀ j₀ total j = n - j

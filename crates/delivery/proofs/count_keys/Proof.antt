@@ -7,7 +7,7 @@ use lib.ListN.{length-map}
 use Rattle.scan.specs.Each.{every}
 use Rattle.mapimage.specs.MapImage.{flatFrom, keyNumbers, numberRecord}
 use Rattle.mapimage.specs.Sorted.{inOrder}
-use Rattle.mailbox.specs.Memory.{waitingAt}
+use Rattle.memory.specs.Memory.{waitingAt}
 use Rattle.delivery.proofs.Counting.{Counting, counting-start, counting-on, counting-end}
 use borrow.Author.Needs.{needs}
 use native.Mathlib.Omega.{arith}

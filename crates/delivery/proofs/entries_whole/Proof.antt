@@ -7,7 +7,7 @@ use Rattle.lists.proofs.Pads.{take-pad}
 use Rattle.clock.specs.Dots.{dotLimit, noDot, dotsOf}
 use Rattle.scan.specs.Each.{every}
 use Rattle.maprecords.specs.Related.{entryWhole}
-use Rattle.mailbox.specs.Memory.{clockPlace, dotsAt, entryAt, entriesAt}
+use Rattle.memory.specs.Memory.{clockPlace, dotsAt, entryAt, entriesAt}
 use Rattle.delivery.proofs.Views.{entries-left, entries-end}
 use borrow.Author.Needs.{needs}
 use native.Mathlib.Omega.{arith}

@@ -4,7 +4,7 @@ use Prim.Native.Nat.{_≤_, _-_, _^_}
 use lib.ListN.{drop}
 use Rattle.mapimage.specs.MapImage.{flatFrom, keyNumbers}
 use Rattle.mapimage.proofs.Flats.{Least, least-start, least-all, least-end}
-use Rattle.mailbox.specs.Memory.{removalAt, waitingAt}
+use Rattle.memory.specs.Memory.{removalAt, waitingAt}
 use Rattle.delivery.proofs.Views.{waiting-left, waiting-end}
 use borrow.Author.Needs.{needs}
 use native.Mathlib.Omega.{arith}

@@ -7,7 +7,7 @@ use borrow.Author.Tests.{lt-ltb}
 use Rattle.mapimage.specs.Sorted.{lesser}
 use Rattle.mapimage.specs.MapImage.{keyNumber, keyNumbers}
 use Rattle.mapimage.proofs.Flats.{Least, least-start, least-on, least-end}
-use Rattle.mailbox.specs.Memory.{listedAt, removalAt}
+use Rattle.memory.specs.Memory.{listedAt, removalAt}
 use Rattle.delivery.proofs.Views.{numbers-listed, listed-left, listed-end}
 use borrow.Author.Needs.{needs}
 use native.Mathlib.Omega.{arith}

@@ -2,7 +2,7 @@
 use mathlib.Core.Path.{_≡_, ap, sym, _∙_}
 use mathlib.Core.Bool.{cond}
 use Rattle.records.specs.Bytes.{numAt}
-use Rattle.mailbox.specs.Memory.{lengthPlace}
+use Rattle.memory.specs.Memory.{lengthPlace}
 use Rattle.delivery.specs.Delivery.{lengthNumber, scannedAt}
 use Rattle.delivery.proofs.Ends.{number-of-length, number-of-records, number-of-all}
 use borrow.Author.Needs.{needs}

@@ -7,7 +7,7 @@ use Rattle.clock.specs.declared.Clock.{Clock}
 use Rattle.clock.specs.Dots.{dotsOf}
 use Rattle.parts.specs.Waits.{clockBefore, removalBefore}
 use Rattle.maprecords.specs.Related.{ascend}
-use Rattle.mailbox.specs.Memory.{removalAt, waitingAt}
+use Rattle.memory.specs.Memory.{removalAt, waitingAt}
 use Rattle.delivery.proofs.Ascends.{ascend-on, ascend-fails, ascend-end}
 use borrow.Author.Needs.{needs}
 use native.Mathlib.Omega.{arith}

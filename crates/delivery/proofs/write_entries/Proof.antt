@@ -5,7 +5,7 @@ use Prim.Native.Nat.{_≤_, _-_}
 use lib.ListN.{drop}
 use Rattle.records.proofs.Writing.{Writing, write-start, write-room, write-on, write-end}
 use Rattle.mapimage.specs.MapImage.{flatFrom, entryRecords}
-use Rattle.mailbox.specs.Memory.{entryAt, entriesAt}
+use Rattle.memory.specs.Memory.{entryAt, entriesAt}
 use Rattle.delivery.proofs.Views.{entries-left, entries-end}
 use borrow.Author.Needs.{needs}
 use native.Mathlib.Omega.{arith}

@@ -9,7 +9,7 @@ use Rattle.records.specs.declared.Record.{Record}
 use Rattle.records.proofs.Writing.{Writing, write-start, write-room, write-on, last-room, write-last}
 use Rattle.clockimage.specs.Image.{dotRecord, dotRecords}
 use Rattle.mapimage.specs.MapImage.{flatFrom, entryRecords, waitingDots, waitingKeys}
-use Rattle.mailbox.specs.Memory.{clockPlace, dotsAt, entriesAt, waitingAt}
+use Rattle.memory.specs.Memory.{clockPlace, dotsAt, entriesAt, waitingAt}
 use Rattle.delivery.specs.Delivery.{imageAt}
 use Rattle.delivery.proofs.Lengths.{length-records}
 use borrow.Author.Needs.{needs}

@@ -7,7 +7,7 @@ use Rattle.clockimage.specs.Image.{dotRecord}
 use Rattle.records.proofs.Writing.{Writing, write-start, write-room, write-on, write-end}
 use Rattle.parts.specs.Model.{underOf}
 use Rattle.mapimage.specs.MapImage.{flatFrom, waitingDots}
-use Rattle.mailbox.specs.Memory.{removalAt, waitingAt}
+use Rattle.memory.specs.Memory.{removalAt, waitingAt}
 use Rattle.delivery.proofs.Views.{waiting-left, waiting-end}
 use borrow.Author.Needs.{needs}
 use native.Mathlib.Omega.{arith}

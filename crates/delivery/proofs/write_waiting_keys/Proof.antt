@@ -3,7 +3,7 @@ use mathlib.Core.Path.{_≡_}
 use mathlib.Core.Bool.{true}
 use Prim.Native.Nat.{_-_, _^_}
 use lib.Dec.{ltb}
-use Rattle.mailbox.specs.Memory.{waitingAt}
+use Rattle.memory.specs.Memory.{waitingAt}
 use Rattle.scan.specs.Each.{every}
 use Rattle.mapimage.specs.MapImage.{flatFrom, keyNumbers}
 use Rattle.mapimage.proofs.Selecting.{Selecting, select-start, select-room, select-on, select-end, select-kept}

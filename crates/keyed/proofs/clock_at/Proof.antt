@@ -2,7 +2,7 @@
 use mathlib.Core.Path.{ap, _∙_}
 use borrow.Author.Needs.{needs}
 use Rattle.clock.specs.Dots.{clockOf}
-use Rattle.map.proofs.Askings.{clock-at}
+use Rattle.asking.proofs.Askings.{clock-at}
 use Rattle.keyed.proofs.Registers.{entry-clock, entry-short}
 use Rattle.keyed.proofs.clock_at.Statement.{statement}
 use Rattle.keyed.proofs.clock_at.Tie as tie

@@ -3,6 +3,7 @@ use mathlib.Core.Path.{refl, sym, _∙_}
 use denote.Ref.{now}
 use Rattle.maprecords.specs.Related.{readMap}
 use Rattle.answers.proofs.Answers.{number-first, number-short, number-done, refuses, writes}
+use Rattle.loader.specs.Calls.{bayCount}
 use Rattle.loader.proofs.Reporting.{length-reports}
 use borrow.Author.Needs.{needs}
 use native.Mathlib.Omega.{arith}
@@ -17,7 +18,7 @@ returns c =
 returns-2 : tie.Need-returns-2
 returns-2 c =
     let s = c .before .before in
-    let long = length-reports (readMap (now (s .before .before .before .before .before .args .map)) .map) 0 24 in
+    let long = length-reports (readMap (now (s .before .before .before .before .before .args .map)) .map) 0 bayCount in
     let first = sym (s .before .before .lay-out .ensures .0) ∙ s .if1 .left in
     rw (c .word2 .ensures) (refuses _ _ (number-short _ _ first refl refl (omega arith)) (omega arith))
 
@@ -29,7 +30,7 @@ returns-3 c =
     let w = c .before .before in
     let s = w .before .before .before in
     let m = s .before .before .lay-out .ensures in
-    let long = length-reports (readMap (now (s .before .before .before .before .before .args .map)) .map) 0 24 in
+    let long = length-reports (readMap (now (s .before .before .before .before .before .args .map)) .map) 0 bayCount in
     let first = sym (m .0) ∙ s .if1 .left in
     writes _ _ (number-done _ _ first refl refl (omega arith)) (w .write-reports .ensures)
 

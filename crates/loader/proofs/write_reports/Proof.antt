@@ -2,6 +2,7 @@
 use mathlib.Core.Path.{_≡_}
 use Prim.Native.Nat.{_≤_, _-_}
 use Rattle.maprecords.specs.Related.{readMap}
+use Rattle.loader.specs.Calls.{bayCount}
 use Rattle.loader.proofs.Reporting.{Reporting, report-start, report-room, report-on}
 use borrow.Author.Needs.{needs}
 use native.Mathlib.Omega.{arith}
@@ -9,10 +10,10 @@ use Rattle.loader.proofs.write_reports.Statement.{statement}
 use Rattle.loader.proofs.write_reports.Tie as tie
 
 abbrev Inv-loop : tie.InvT-loop
-Inv-loop map l out₀ next₀ bay₀ out next bay = (bay ≤ 24) × Reporting (readMap map .map) out₀ bay out next
+Inv-loop map l out₀ next₀ bay₀ out next bay = (bay ≤ bayCount) × Reporting (readMap map .map) out₀ bay out next
 
 abbrev μ-loop : tie.MeasureT-loop
-μ-loop map l out₀ next₀ bay₀ out next bay = 24 - bay
+μ-loop map l out₀ next₀ bay₀ out next bay = bayCount - bay
 
 loop-holds : tie.Need-loop-holds Inv-loop μ-loop
 loop-holds c = (omega arith, report-start)
@@ -35,7 +36,7 @@ same-length c =
 returns : tie.Need-returns Inv-loop μ-loop
 returns c =
     let s = c .before in
-    let e : s .loop .bay ≡ 24 = omega arith in
+    let e : s .loop .bay ≡ bayCount = omega arith in
     rw (← e) (s .loop .inv .1 .wrote)
 
 pub write-reports-spec : {M : Type 1} → statement M

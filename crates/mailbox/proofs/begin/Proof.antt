@@ -6,7 +6,7 @@ use native.Mathlib.Omega.{arith}
 use lib.ListN.{length, length-replicate, replicate-append-replicate}
 use Rattle.records.specs.Bytes.{placed}
 use Rattle.records.proofs.Placing.{length-placed, placed-none, placed-one, placed-on}
-use Rattle.mailbox.specs.Memory.{readerRoom, lengthPlace, clockPlace}
+use Rattle.memory.specs.Memory.{readerRoom, lengthPlace, clockPlace}
 use Rattle.mailbox.specs.Machine.{zeros, begun}
 use borrow.Author.Needs.{needs}
 use Rattle.mailbox.proofs.begin.Statement.{statement}

@@ -5,6 +5,7 @@ use lib.Dec.{eqb}
 use lib.ListN.{length, take, drop, length-take}
 use borrow.Author.Tests.{ne-eqb, ltb-true, ltb-false}
 use Rattle.lists.specs.First.{some}
+use Rattle.parts.specs.Model.{entryLimit}
 use Rattle.maprecords.proofs.Places.{some-on, some-end}
 use borrow.Author.Needs.{needs}
 use native.Mathlib.Omega.{arith}
@@ -30,13 +31,13 @@ loop-again : tie.Need-loop-again Inv-loop μ-loop
 loop-again c =
     let a = c .before .before .before .before .before .args in
     let s = c .before .before .before in
-    (omega arith, some-on (λ k. eqb k (a .key)) (a .t1) (a .n) (s .loop .i) (s .loop .inv .1) 0 (let n : length (a .t1) ≡ 16 = search needs in omega (arith, length-take (a .n) (a .t1), ltb-true (s .loop .i) 16 (c .before .if3 .taken))) (ne-eqb _ _ (c .if4 .left)))
+    (omega arith, some-on (λ k. eqb k (a .key)) (a .t1) (a .n) (s .loop .i) (s .loop .inv .1) 0 (let n : length (a .t1) ≡ entryLimit = search needs in omega (arith, length-take (a .n) (a .t1), ltb-true (s .loop .i) entryLimit (c .before .if3 .taken))) (ne-eqb _ _ (c .if4 .left)))
 
 returns-3 : tie.Need-returns-3 Inv-loop μ-loop
 returns-3 c =
     let a = c .before .before .before .before .args in
     let s = c .before .before in
-    (λ h. absurd (omega arith), λ _. some-end (λ k. eqb k (a .key)) (a .t1) (a .n) (s .loop .i) (s .loop .inv .1) (let n : length (a .t1) ≡ 16 = search needs in omega (arith, length-take (a .n) (a .t1), ltb-false (s .loop .i) 16 (c .if3 .left))))
+    (λ h. absurd (omega arith), λ _. some-end (λ k. eqb k (a .key)) (a .t1) (a .n) (s .loop .i) (s .loop .inv .1) (let n : length (a .t1) ≡ entryLimit = search needs in omega (arith, length-take (a .n) (a .t1), ltb-false (s .loop .i) entryLimit (c .if3 .left))))
 
 returns-4 : tie.Need-returns-4 Inv-loop μ-loop
 returns-4 c =

@@ -22,7 +22,7 @@ dots-count : (s : List ℕ) (i n : ℕ) → i < n → n ≤ dotLimit → length 
 dots-count s i n h k = omega (arith, length-map (recordsFrom s 0 i) dotOf, length-records s 0 i)
 
 -- there is room for one more
-room : {c : Clock} (l : List Dot) → c ≡ clockOf l → length l < dotLimit → (c .len < 8) × (length (c .dots) ≡ 8)
+room : {c : Clock} (l : List Dot) → c ≡ clockOf l → length l < dotLimit → (c .len < dotLimit) × (length (c .dots) ≡ dotLimit)
 room l e h = (omega (arith, ap (λ (x : Clock). x .len) e), ap (λ (x : Clock). length (x .dots)) e ∙ length-pad noDot dotLimit l (omega arith))
 
 abbrev Inv-loop : tie.InvT-loop

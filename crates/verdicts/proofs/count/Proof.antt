@@ -1,6 +1,6 @@
 -- `count` meets its contract. Assumes nothing.
 use mathlib.Core.Path.{refl, sym, _∙_}
-use Rattle.map.specs.Asking as asking
+use Rattle.asking.specs.Asking as asking
 use Rattle.answers.proofs.Answers.{both-pass, one-fails}
 use Rattle.verdicts.proofs.Carrying.{carried-not, carried-here}
 use borrow.Author.Needs.{needs}

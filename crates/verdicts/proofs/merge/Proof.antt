@@ -1,7 +1,7 @@
 -- `merge` meets its contract: a refused image's number, or what both say. Assumes nothing.
 use mathlib.Core.Path.{ap, sym, _∙_}
-use Rattle.map.specs.declared.Spent.the-variants.{Once}
-use Rattle.map.specs.Asking.{spentNumber}
+use Rattle.asking.specs.declared.CvRDTValidation.the-variants.{Once}
+use Rattle.asking.specs.Asking.{spentNumber}
 use Rattle.answers.proofs.Answers.{number-first, number-second, both-pass, one-fails, other-fails}
 use Rattle.verdicts.proofs.Carrying.{number-passed, nothing-found, found}
 use borrow.Author.Needs.{needs}

@@ -2,8 +2,8 @@
 use mathlib.Core.Path.{ap, sym, _∙_}
 use Rattle.maprecords.specs.Related.{readMap}
 use Rattle.opimage.specs.declared.ReadOp.{ReadOp}
-use Rattle.map.specs.declared.Order.the-variants.{Fits}
-use Rattle.map.specs.Asking.{validateOp, orderNumber}
+use Rattle.asking.specs.declared.CmRDTValidation.the-variants.{Fits}
+use Rattle.asking.specs.Asking.{validateOp, orderNumber}
 use Rattle.answers.proofs.Answers.{number-first, number-second, both-pass, one-fails, other-fails}
 use Rattle.verdicts.proofs.Carrying.{number-passed, nothing-found, found}
 use borrow.Author.Needs.{needs}

@@ -1,7 +1,7 @@
 -- `order_of` meets its contract: the map clock and the entry's are those of the map. Assumes nothing.
 use mathlib.Core.Path.{_∙_}
 use Rattle.clock.proofs.Packs.{dots-of}
-use Rattle.map.specs.Asking.{validateUpdate, validateOp}
+use Rattle.asking.specs.Asking.{validateUpdate, validateOp}
 use borrow.Author.Needs.{needs}
 use Rattle.direct.proofs.validating.order_of.Statement.{statement}
 use Rattle.direct.proofs.validating.order_of.Tie as tie

@@ -7,7 +7,7 @@ use Rattle.clock.specs.Dots.{dotsOf}
 use Rattle.clock.proofs.Packs.{dots-of}
 use Rattle.parts.specs.Model.{dotsIn}
 use Rattle.map.specs.Model.{entriesIn}
-use Rattle.map.specs.Asking.{spentUnder}
+use Rattle.asking.specs.Asking.{spentUnder}
 use Rattle.maprecords.specs.Related.{readMap}
 use Rattle.direct.proofs.Seeking.{Seeking, seek-start, seek-here, seek-on, seek-end}
 use Rattle.direct.proofs.validating.spent_among.Statement.{statement}

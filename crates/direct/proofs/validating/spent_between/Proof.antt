@@ -5,7 +5,7 @@ use native.Mathlib.Omega.{arith}
 use borrow.Author.Needs.{needs}
 use Rattle.clock.proofs.Packs.{dots-of}
 use Rattle.map.specs.Model.{entriesIn}
-use Rattle.map.specs.Asking.{spentBy, firstSpent, validateMerge}
+use Rattle.asking.specs.Asking.{spentBy, firstSpent, validateMerge}
 use Rattle.maprecords.specs.Related.{readMap}
 use Rattle.direct.proofs.Seeking.{Seeking, seek-start, seek-here, seek-on, seek-end}
 use Rattle.direct.proofs.validating.spent_between.Statement.{statement}

@@ -8,7 +8,8 @@ use lib.Dec.{eqb, ltb}
 use lib.ListN.{length, getD, set, length-set}
 use borrow.Author.Tests.{eqb-true, eqb-false, lt-ltb, ltb-true, ltb-false, not-true, not-false}
 use Rattle.lists.specs.First.{some}
-use Rattle.parts.specs.Model.{entriesAs}
+use Rattle.register.specs.Values.{valueLimit}
+use Rattle.parts.specs.Model.{entryLimit, waitingLimit, entriesAs}
 use Rattle.records.specs.declared.Record.{Record}
 use Rattle.records.proofs.Feeding.{Feeding, Further, feed-start, feed-on, feed-end, further-start, further-on}
 use Rattle.scan.proofs.Eachs.{both-left, both-right}
@@ -29,7 +30,7 @@ use Rattle.mapreader.proofs.MapReader.feed.Tie as tie
 -- the place of the entry in hand is in use, or the first where none is
 abbrev Inv-records : tie.InvT-records
 Inv-records piece scan₀ under₀ lost₀ clock₀ keys₀ waiting₀ entries₀ at₀ own₀ register₀ n i₀ scan under lost clock keys waiting entries at own register i =
-    (i ≤ n) × ((at < 16) × ((at ≤ entries .len - 1) × ((length under ≡ 256)
+    (i ≤ n) × ((at < entryLimit) × ((at ≤ entries .len - 1) × ((length under ≡ 256)
     × Feeding (Further MapSoFar (record { scan = scan₀; under = under₀; lost = lost₀; clock = clock₀; keys = keys₀; waiting = waiting₀; entries = entries₀ })) piece i
     (record { scan = scan; under = under; lost = lost; clock = clock; keys = keys; entries = handed entries at (getD keys at 0) own register; waiting = waiting }))))
 
@@ -73,7 +74,7 @@ on c step =
     (further-on _ (λ l f. rw (← c .before .before .before .before .before .before .read-record .ensures) (step l (grow c l f))))
 
 -- the place in hand is in the arrays
-small : (c : tie.Then2 Inv-records μ-records) → c .before .before .before .before .before .before .before .before .records .at < 16
+small : (c : tie.Then2 Inv-records μ-records) → c .before .before .before .before .before .before .before .before .records .at < entryLimit
 small c = c .before .before .before .before .before .before .before .before .records .inv .1 .0
 
 less : (c : tie.Then2 Inv-records μ-records) → length (c .before .before .before .before .before .before .before .before .before .before .before .before .before .before .before .before .before .before .before .args .piece .now) / 16 - (c .before .before .before .before .before .before .before .before .records .i + 1) < length (c .before .before .before .before .before .before .before .before .before .before .before .before .before .before .before .before .before .before .before .args .piece .now) / 16 - c .before .before .before .before .before .before .before .before .records .i
@@ -104,7 +105,7 @@ key-here c = ap (λ j. getD (c .before .before .before .before .before .before .
 in-use : (c : tie.Joined6 Inv-records μ-records) → c .if6 .at < c .if6 .entries .len
 in-use c = let p = at-place c in omega (arith, p .0, p .1, c .before .if5 .taken)
 
-small-now : (c : tie.Joined6 Inv-records μ-records) → (c .if6 .at < 16) × (c .if6 .at ≤ c .if6 .entries .len - 1)
+small-now : (c : tie.Joined6 Inv-records μ-records) → (c .if6 .at < entryLimit) × (c .if6 .at ≤ c .if6 .entries .len - 1)
 small-now c = let p = at-place c in (omega (arith, p .0, c .before .before .place .ensures .0 (c .before .if5 .taken) .0), omega (arith, in-use c))
 
 records-holds : tie.Need-records-holds Inv-records μ-records
@@ -174,15 +175,15 @@ records-again-2 c =
 four : (c : tie.Else8 Inv-records μ-records) (l : List Record) → Grows (c .before .before .before .before .before .before .before .before .before .before .before) l → c .before .before .before .before .before .before .before .before .before .before .before .before .before .before .before .before .before .read-record .result .kind ≡ 4
 four c l g = omega (arith, readers.kind-low l _ g, c .if8 .left, c .before .before .if7 .left, c .before .before .before .before .before .before .before .before .before .if3 .left, c .before .before .before .before .before .before .before .if4 .taken)
 
-same-index : (c : tie.Then9 Inv-records μ-records) → (c .before .before .before .before .before .before .if6 .register .len ≡ c .before .before .before .before .before .before .before .before .before .before .before .before .before .before .before .before .before .before .before .read-record .result .index) × (c .before .before .before .before .before .before .if6 .register .len < 4)
+same-index : (c : tie.Then9 Inv-records μ-records) → (c .before .before .before .before .before .before .if6 .register .len ≡ c .before .before .before .before .before .before .before .before .before .before .before .before .before .before .before .before .before .before .before .read-record .result .index) × (c .before .before .before .before .before .before .if6 .register .len < valueLimit)
 same-index c =
     let n = c .before .before .before .before .before .before .if6 .register .len in
     let x = c .before .before .before .before .before .before .before .before .before .before .before .before .before .before .before .before .before .before .before .read-record .result .index in
-    (eqb-true n x (both-left (eqb n x) (ltb n 4) (c .if9 .taken)), ltb-true n 4 (both-right (eqb n x) (ltb n 4) (c .if9 .taken)))
+    (eqb-true n x (both-left (eqb n x) (ltb n valueLimit) (c .if9 .taken)), ltb-true n valueLimit (both-right (eqb n x) (ltb n valueLimit) (c .if9 .taken)))
 
 other-index : (c : tie.Else9 Inv-records μ-records) (l : List Record) → Grows (c .before .before .before .before .before .before .before .before .before .before .before .before .before) l → c .before .before .before .before .before .before .if6 .register .len ≡ c .before .before .before .before .before .before .before .before .before .before .before .before .before .before .before .before .before .before .before .read-record .result .index → ⊥
 other-index c l g =
-    eqb-false _ _ (readers.needless _ _ (λ _. lt-ltb _ 4 (steps.values-few l (c .before .before .before .before .before .before .before .before .before .before .before .before .before .before .before .before .before .before .before .read-record .result) (c .before .before .before .before .before .before .before .before .before .before .before .before .before .before .before .before .before .before .before .before .before .records .keys) (c .before .before .before .before .before .before .if6 .entries) (c .before .before .before .before .before .before .if6 .at) (c .before .before .before .before .before .before .if6 .own) (c .before .before .before .before .before .before .if6 .register) (g .parts .keys) (held (c .before .before .before .before .before .before) l g) (in-use (c .before .before .before .before .before .before)) (key-here (c .before .before .before .before .before .before)) (readers.good-now l _ g) (c .before .before .if8 .taken))) (c .if9 .left))
+    eqb-false _ _ (readers.needless _ _ (λ _. lt-ltb _ valueLimit (steps.values-few l (c .before .before .before .before .before .before .before .before .before .before .before .before .before .before .before .before .before .before .before .read-record .result) (c .before .before .before .before .before .before .before .before .before .before .before .before .before .before .before .before .before .before .before .before .before .records .keys) (c .before .before .before .before .before .before .if6 .entries) (c .before .before .before .before .before .before .if6 .at) (c .before .before .before .before .before .before .if6 .own) (c .before .before .before .before .before .before .if6 .register) (g .parts .keys) (held (c .before .before .before .before .before .before) l g) (in-use (c .before .before .before .before .before .before)) (key-here (c .before .before .before .before .before .before)) (readers.good-now l _ g) (c .before .before .if8 .taken))) (c .if9 .left))
 
 mul-value : tie.Need-mul-value Inv-records μ-records
 mul-value c = omega (arith, same-index (c .before) .1)
@@ -231,15 +232,15 @@ records-again-4 c =
       ),
     )
 
-in-values : (c : tie.Then10 Inv-records μ-records) → (c .before .before .before .before .before .before .before .before .before .before .before .before .before .before .before .before .before .before .before .read-record .result .index < c .before .before .before .before .before .before .if6 .register .len) × (c .before .before .before .before .before .before .before .before .before .before .before .before .before .before .before .before .before .before .before .read-record .result .index < 4)
+in-values : (c : tie.Then10 Inv-records μ-records) → (c .before .before .before .before .before .before .before .before .before .before .before .before .before .before .before .before .before .before .before .read-record .result .index < c .before .before .before .before .before .before .if6 .register .len) × (c .before .before .before .before .before .before .before .before .before .before .before .before .before .before .before .before .before .before .before .read-record .result .index < valueLimit)
 in-values c =
     let x = c .before .before .before .before .before .before .before .before .before .before .before .before .before .before .before .before .before .before .before .read-record .result .index in
     let n = c .before .before .before .before .before .before .if6 .register .len in
-    (ltb-true x n (both-left (ltb x n) (ltb x 4) (c .if10 .taken)), ltb-true x 4 (both-right (ltb x n) (ltb x 4) (c .if10 .taken)))
+    (ltb-true x n (both-left (ltb x n) (ltb x valueLimit) (c .if10 .taken)), ltb-true x valueLimit (both-right (ltb x n) (ltb x valueLimit) (c .if10 .taken)))
 
 behind-values : (c : tie.Else10 Inv-records μ-records) (l : List Record) → Grows (c .before .before .before .before .before .before .before .before .before .before .before .before .before) l → c .before .before .before .before .before .before .if6 .register .len ≤ c .before .before .before .before .before .before .before .before .before .before .before .before .before .before .before .before .before .before .before .read-record .result .index
 behind-values c l g =
-    ltb-false _ _ (readers.needless _ _ (λ t. lt-ltb _ 4 (steps.in-register l (c .before .before .before .before .before .before .before .before .before .before .before .before .before .before .before .before .before .before .before .read-record .result) (c .before .before .before .before .before .before .before .before .before .before .before .before .before .before .before .before .before .before .before .before .before .records .keys) (c .before .before .before .before .before .before .if6 .entries) (c .before .before .before .before .before .before .if6 .at) (c .before .before .before .before .before .before .if6 .own) (c .before .before .before .before .before .before .if6 .register) (g .parts .keys) (held (c .before .before .before .before .before .before) l g) (in-use (c .before .before .before .before .before .before)) (key-here (c .before .before .before .before .before .before)) (four (c .before .before) l g) (ltb-true _ _ t) noValueRead (readers.good-now l _ g))) (c .if10 .left))
+    ltb-false _ _ (readers.needless _ _ (λ t. lt-ltb _ valueLimit (steps.in-register l (c .before .before .before .before .before .before .before .before .before .before .before .before .before .before .before .before .before .before .before .read-record .result) (c .before .before .before .before .before .before .before .before .before .before .before .before .before .before .before .before .before .before .before .before .before .records .keys) (c .before .before .before .before .before .before .if6 .entries) (c .before .before .before .before .before .before .if6 .at) (c .before .before .before .before .before .before .if6 .own) (c .before .before .before .before .before .before .if6 .register) (g .parts .keys) (held (c .before .before .before .before .before .before) l g) (in-use (c .before .before .before .before .before .before)) (key-here (c .before .before .before .before .before .before)) (four (c .before .before) l g) (ltb-true _ _ t) noValueRead (readers.good-now l _ g))) (c .if10 .left))
 
 mul-v : tie.Need-mul-v Inv-records μ-records
 mul-v c = omega (arith, in-values c .1)
@@ -295,16 +296,16 @@ records-again-6 c =
 absent : (c : tie.Else5 Inv-records μ-records) (l : List Record) → Grows (c .before .before .before .before .before .before) l → some (λ k. eqb k (c .before .before .before .before .before .before .before .before .before .before .before .before .read-record .result .key)) (entryKeys l) ≡ false
 absent c l g = readers.key-absent l _ g (c .before .place .ensures .1 (c .if5 .left))
 
-new-room : (c : tie.Then11 Inv-records μ-records) → (c .before .before .before .before .before .before .before .before .before .before .before .before .before .before .read-record .result .kind ≡ 2) × (c .before .before .before .before .before .before .before .before .before .before .before .before .before .before .before .before .records .entries .len < 16)
+new-room : (c : tie.Then11 Inv-records μ-records) → (c .before .before .before .before .before .before .before .before .before .before .before .before .before .before .read-record .result .kind ≡ 2) × (c .before .before .before .before .before .before .before .before .before .before .before .before .before .before .before .before .records .entries .len < entryLimit)
 new-room c =
     let k = c .before .before .before .before .before .before .before .before .before .before .before .before .before .before .read-record .result .kind in
     let n = c .before .before .before .before .before .before .before .before .before .before .before .before .before .before .before .before .records .entries .len in
-    (eqb-true k 2 (both-left (eqb k 2) (ltb n 16) (c .if11 .taken)), ltb-true n 16 (both-right (eqb k 2) (ltb n 16) (c .if11 .taken)))
+    (eqb-true k 2 (both-left (eqb k 2) (ltb n entryLimit) (c .if11 .taken)), ltb-true n entryLimit (both-right (eqb k 2) (ltb n entryLimit) (c .if11 .taken)))
 
 no-dot : (c : tie.Else11 Inv-records μ-records) (l : List Record) → Grows (c .before .before .before .before .before .before .before .before) l → c .before .before .before .before .before .before .before .before .before .before .before .before .before .before .read-record .result .kind ≡ 2 → ⊥
 no-dot c l g =
     let t = c .before .before .before .before .before .before .before .before .before .before .before .before .before .before .before .before .records in
-    eqb-false _ _ (readers.needless _ _ (λ k. lt-ltb _ 16 (steps.new-room l _ (t .keys) (t .entries) (t .at) (t .own) (t .register) (g .parts .keys) (g .parts .entries) (absent (c .before .before) l g) (readers.good-now l _ g) (eqb-true _ 2 k))) (c .if11 .left))
+    eqb-false _ _ (readers.needless _ _ (λ k. lt-ltb _ entryLimit (steps.new-room l _ (t .keys) (t .entries) (t .at) (t .own) (t .register) (g .parts .keys) (g .parts .entries) (absent (c .before .before) l g) (readers.good-now l _ g) (eqb-true _ 2 k))) (c .if11 .left))
 
 add-entries : tie.Need-add-entries Inv-records μ-records
 add-entries c = omega (arith, new-room c .1)
@@ -353,15 +354,15 @@ records-again-8 c =
       ),
     )
 
-in-waiting : (c : tie.Then12 Inv-records μ-records) → (c .before .before .before .before .before .before .before .before .before .before .before .before .read-record .result .index < c .before .before .before .before .before .before .before .before .before .before .before .before .before .before .records .waiting .len) × (c .before .before .before .before .before .before .before .before .before .before .before .before .read-record .result .index < 8)
+in-waiting : (c : tie.Then12 Inv-records μ-records) → (c .before .before .before .before .before .before .before .before .before .before .before .before .read-record .result .index < c .before .before .before .before .before .before .before .before .before .before .before .before .before .before .records .waiting .len) × (c .before .before .before .before .before .before .before .before .before .before .before .before .read-record .result .index < waitingLimit)
 in-waiting c =
     let x = c .before .before .before .before .before .before .before .before .before .before .before .before .read-record .result .index in
     let n = c .before .before .before .before .before .before .before .before .before .before .before .before .before .before .records .waiting .len in
-    (ltb-true x n (both-left (ltb x n) (ltb x 8) (c .if12 .taken)), ltb-true x 8 (both-right (ltb x n) (ltb x 8) (c .if12 .taken)))
+    (ltb-true x n (both-left (ltb x n) (ltb x waitingLimit) (c .if12 .taken)), ltb-true x waitingLimit (both-right (ltb x n) (ltb x waitingLimit) (c .if12 .taken)))
 
 behind-waiting : (c : tie.Else12 Inv-records μ-records) (l : List Record) → Grows (c .before .before .before .before .before .before) l → c .before .before .before .before .before .before .before .before .before .before .before .before .before .before .records .waiting .len ≤ c .before .before .before .before .before .before .before .before .before .before .before .before .read-record .result .index
 behind-waiting c l g =
-    ltb-false _ _ (readers.needless _ _ (λ t. lt-ltb (c .before .before .before .before .before .before .before .before .before .before .before .before .read-record .result .index) 8 (omega (arith, ltb-true (c .before .before .before .before .before .before .before .before .before .before .before .before .read-record .result .index) (c .before .before .before .before .before .before .before .before .before .before .before .before .before .before .records .waiting .len) t, waits.few-waiting l _ (c .before .before .before .before .before .before .before .before .before .before .before .before .before .before .records .waiting) (readers.waiting-so-far l _ g)))) (c .if12 .left))
+    ltb-false _ _ (readers.needless _ _ (λ t. lt-ltb (c .before .before .before .before .before .before .before .before .before .before .before .before .read-record .result .index) waitingLimit (omega (arith, ltb-true (c .before .before .before .before .before .before .before .before .before .before .before .before .read-record .result .index) (c .before .before .before .before .before .before .before .before .before .before .before .before .before .before .records .waiting .len) t, waits.few-waiting l _ (c .before .before .before .before .before .before .before .before .before .before .before .before .before .before .records .waiting) (readers.waiting-so-far l _ g)))) (c .if12 .left))
 
 mul-w : tie.Need-mul-w Inv-records μ-records
 mul-w c = omega (arith, in-waiting c .1)
@@ -427,22 +428,22 @@ records-again-10 c =
     )
 
 -- a waiting clock that is the next
-next-clock : (c : tie.Then14 Inv-records μ-records) → (c .before .before .before .before .before .before .before .before .before .before .before .before .before .before .read-record .result .kind ≡ 5) × ((c .before .before .before .before .before .before .before .before .before .before .before .before .before .before .read-record .result .index ≡ c .before .before .before .before .before .before .before .before .before .before .before .before .before .before .before .before .records .waiting .len) × (c .before .before .before .before .before .before .before .before .before .before .before .before .before .before .read-record .result .index < 8))
+next-clock : (c : tie.Then14 Inv-records μ-records) → (c .before .before .before .before .before .before .before .before .before .before .before .before .before .before .read-record .result .kind ≡ 5) × ((c .before .before .before .before .before .before .before .before .before .before .before .before .before .before .read-record .result .index ≡ c .before .before .before .before .before .before .before .before .before .before .before .before .before .before .before .before .records .waiting .len) × (c .before .before .before .before .before .before .before .before .before .before .before .before .before .before .read-record .result .index < waitingLimit))
 next-clock c =
     let r = c .before .before .before .before .before .before .before .before .before .before .before .before .before .before .read-record .result in
     let n = c .before .before .before .before .before .before .before .before .before .before .before .before .before .before .before .before .records .waiting .len in
-    let h = both-right (eqb (r .kind) 5) (eqb (r .index) n && ltb (r .index) 8) (c .if14 .taken) in
-    (eqb-true (r .kind) 5 (both-left (eqb (r .kind) 5) (eqb (r .index) n && ltb (r .index) 8) (c .if14 .taken)), (eqb-true (r .index) n (both-left (eqb (r .index) n) (ltb (r .index) 8) h), ltb-true (r .index) 8 (both-right (eqb (r .index) n) (ltb (r .index) 8) h)))
+    let h = both-right (eqb (r .kind) 5) (eqb (r .index) n && ltb (r .index) waitingLimit) (c .if14 .taken) in
+    (eqb-true (r .kind) 5 (both-left (eqb (r .kind) 5) (eqb (r .index) n && ltb (r .index) waitingLimit) (c .if14 .taken)), (eqb-true (r .index) n (both-left (eqb (r .index) n) (ltb (r .index) waitingLimit) h), ltb-true (r .index) waitingLimit (both-right (eqb (r .index) n) (ltb (r .index) waitingLimit) h)))
 
 not-next : (c : tie.Else14 Inv-records μ-records) (l : List Record) → Grows (c .before .before .before .before .before .before .before .before) l → (eqb (c .before .before .before .before .before .before .before .before .before .before .before .before .before .before .read-record .result .kind) 5 && eqb (c .before .before .before .before .before .before .before .before .before .before .before .before .before .before .read-record .result .index) (c .before .before .before .before .before .before .before .before .before .before .before .before .before .before .before .before .records .waiting .len)) ≡ false
 not-next c l g =
     let r = c .before .before .before .before .before .before .before .before .before .before .before .before .before .before .read-record .result in
     let w = c .before .before .before .before .before .before .before .before .before .before .before .before .before .before .before .before .records .waiting in
-    readers.needless _ (ltb (r .index) 8)
+    readers.needless _ (ltb (r .index) waitingLimit)
     (λ t. let k = eqb-true (r .kind) 5 (both-left (eqb (r .kind) 5) (eqb (r .index) (w .len)) t) in
     let i = eqb-true (r .index) (w .len) (both-right (eqb (r .kind) 5) (eqb (r .index) (w .len)) t) in
-    lt-ltb (r .index) 8 (omega (arith, i, waits.new-waiting-room l _ w (readers.waiting-so-far l _ g) k i)))
-    (and-assoc (eqb (r .kind) 5) (eqb (r .index) (w .len)) (ltb (r .index) 8) ∙ c .if14 .left)
+    lt-ltb (r .index) waitingLimit (omega (arith, i, waits.new-waiting-room l _ w (readers.waiting-so-far l _ g) k i)))
+    (and-assoc (eqb (r .kind) 5) (eqb (r .index) (w .len)) (ltb (r .index) waitingLimit) ∙ c .if14 .left)
 
 mul-new : tie.Need-mul-new Inv-records μ-records
 mul-new c = omega (arith, next-clock (c .before) .1 .1)

@@ -4,6 +4,7 @@ use mathlib.Core.List.{[]}
 use Rattle.lists.specs.Pad.{pad}
 use Rattle.lists.specs.Sift.{sift}
 use Rattle.lists.specs.Fold.{fold}
+use Rattle.parts.specs.Model.{entryLimit}
 use Rattle.scan.specs.Each.{eachAfter}
 use Rattle.scan.proofs.Scanning.{under-none}
 use Rattle.maprecords.specs.Reading.{entryKeys, waitingCount, below}
@@ -20,7 +21,7 @@ returns c = record {
   parts = λ _ _. record {
     clock = c .before .before .new2 .ensures;
     keys = refl;
-    entries = λ i. record { items = pad (c .new4 .ensures i) 16 []; len = 0 };
+    entries = λ i. record { items = pad (c .new4 .ensures i) entryLimit []; len = 0 };
     waiting = c .before .new3 .ensures;
   };
 }

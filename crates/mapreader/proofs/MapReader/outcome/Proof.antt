@@ -3,6 +3,7 @@ use mathlib.Core.Path.{sym, _∙_}
 use mathlib.Core.List.{[]}
 use borrow.Author.Tests.{eq-eqb, ne-eqb}
 use Rattle.lists.specs.Pad.{pad}
+use Rattle.parts.specs.Model.{entryLimit}
 use Rattle.mapreader.proofs.Readers.{judged-map}
 use borrow.Author.Needs.{needs}
 use Rattle.mapreader.proofs.MapReader.outcome.Statement.{statement}
@@ -12,7 +13,7 @@ returns : tie.Need-returns
 unfolding pad
 returns c l m good =
     rw (ne-eqb _ _ (c .before .before .before .if1 .taken))
-    (λ i. record { number = c .before .before .before .before .before .before .before .args .number; map = record { clock = c .before .before .new .ensures i; entries = record { items = pad (c .new3 .ensures i) 16 []; len = 0 }; waiting = c .before .new2 .ensures i } })
+    (λ i. record { number = c .before .before .before .before .before .before .before .args .number; map = record { clock = c .before .before .new .ensures i; entries = record { items = pad (c .new3 .ensures i) entryLimit []; len = 0 }; waiting = c .before .new2 .ensures i } })
 
 returns-2 : tie.Need-returns-2
 returns-2 c l m good =

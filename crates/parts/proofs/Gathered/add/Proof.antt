@@ -1,6 +1,7 @@
 -- `Gathered::add` meets its contract: the removal is stored where all fit. Assumes nothing.
 use mathlib.Core.Path.{ap}
 use Rattle.lists.proofs.Tally.{both-pass}
+use Rattle.parts.specs.Model.{waitingLimit}
 use Rattle.parts.proofs.Gather.{gather-one, gather-none}
 use borrow.Author.Needs.{needs}
 use native.Mathlib.Omega.{arith}
@@ -11,7 +12,7 @@ push-requires : tie.Need-push-requires
 push-requires c κs =
     let i = c .before .before in
     let z = i .before .before .before in
-    let p = both-pass {n = z .args .self .count} {k = 8} (z .args .self .long) (z .args .united .over) (i .if1 .taken) in
+    let p = both-pass {n = z .args .self .count} {k = waitingLimit} (z .args .self .long) (z .args .united .over) (i .if1 .taken) in
     omega (arith, p .0, z .pre)
 
 returns : tie.Need-returns

@@ -1,12 +1,12 @@
 -- `Waiting::join` meets its contract: the loop walks both lists side by side, and the rest of one goes behind. Assumes nothing.
 use mathlib.Core.Path.{refl, ap, sym, _∙_}
 use mathlib.Core.Logic.{_⊎_, ⊎-elim, inl, inr}
-use Prim.Native.Nat.{_≤_, _<_, _-_, _+_}
+use Prim.Native.Nat.{_*_, _≤_, _<_, _-_, _+_}
 use lib.ListN.{length, getD}
 use borrow.Author.Tests.{ltb-true, ltb-false}
 use Rattle.lists.proofs.Rests.{in-list}
 use Rattle.lists.proofs.Weaving.{Weaving, weaving-start, weaving-first, weaving-second, weaving-both, weaving-end}
-use Rattle.parts.specs.Model.{listedIn, waitingOf, gathered, Numbered}
+use Rattle.parts.specs.Model.{waitingLimit, listedIn, waitingOf, gathered, Numbered}
 use Rattle.parts.specs.Waits.{removalBefore, unionKeys, unite, uniteAll}
 use Rattle.parts.proofs.Packs.{noRemovalRead}
 use Rattle.parts.proofs.Sets.{keys-of}
@@ -30,7 +30,7 @@ element-copy-out-y c = omega (arith, ltb-true)
 
 -- both places are in use, and few removals are gathered
 level : (c : tie.After-y Inv-loop μ-loop) → let s = c .before .before .before .before in let a = s .before .before .before .before .args in
-    (s .loop .i < length (waitingOf (a .t1))) × (s .loop .j < length (waitingOf (a .t2))) × Numbered (s .loop .out) 16
+    (s .loop .i < length (waitingOf (a .t1))) × (s .loop .j < length (waitingOf (a .t2))) × Numbered (s .loop .out) (2 * waitingLimit)
 level c =
     let s = c .before .before .before .before in
     let k : s .loop .j < s .before .before .size2 .result = ltb-true _ _ (c .before .before .if1 .taken) in

@@ -3,14 +3,14 @@ use mathlib.Core.Path.{_≡_, ap, _∙_}
 use lib.ListN.{length}
 use Rattle.lists.proofs.Pads.{unmapped, used}
 use Rattle.clock.specs.Dots.{dotsOf}
-use Rattle.register.specs.Values.{valuesOf, cutValues, settled}
+use Rattle.register.specs.Values.{valueLimit, valuesOf, cutValues, settled}
 use Rattle.register.proofs.Packs.{wide-values, fits, cut-length}
 use borrow.Author.Needs.{needs}
 use native.Mathlib.Omega.{arith}
 use Rattle.register.proofs.Register.cut.Statement.{statement}
 use Rattle.register.proofs.Register.cut.Tie as tie
 
-room : (c : tie.Start) → length (c .args .self .values) ≡ 4
+room : (c : tie.Start) → length (c .args .self .values) ≡ valueLimit
 room c = search (needs, unmapped)
 
 returns : tie.Need-returns
@@ -22,7 +22,7 @@ returns c =
     let v = wide-values _ (s .before .before .wide .ensures) in
     ap (λ k. k .register)
     (s .settle .ensures ∙ ap settled (w ∙ ap (cutValues (dotsOf (a .by))) v)
-    ∙ fits _ (omega (arith, cut-length (dotsOf (a .by)) (valuesOf (a .self)), used (a .self .len) 4 (a .self .values) (room z))))
+    ∙ fits _ (omega (arith, cut-length (dotsOf (a .by)) (valuesOf (a .self)), used (a .self .len) valueLimit (a .self .values) (room z))))
 
 pub cut-spec : {M : Type 1} → statement M
 cut-spec =

@@ -2,10 +2,9 @@
 use mathlib.Core.Path.{_≡_, ap, _∙_}
 use mathlib.Core.Bool.{true, false}
 use lib.ListN.{length}
-use Rattle.lists.specs.Sift.{those}
 use Rattle.lists.proofs.Pads.{unmapped, used}
 use Rattle.lists.proofs.Sifts.{length-sift}
-use Rattle.register.specs.Values.{valuesOf, standing, oursLeft, mergeValues}
+use Rattle.register.specs.Values.{valueLimit, valuesOf, standing, oursLeft, mergeValues}
 use Rattle.register.proofs.Packs.{values-of}
 use borrow.Author.Needs.{needs}
 use native.Mathlib.Omega.{arith}
@@ -16,8 +15,8 @@ trail-requires : tie.Need-trail-requires
 trail-requires c κs =
     let o = c .before .before in
     let a = o .before .args in
-    let h : length (a .self .values) ≡ 4 = search (needs, unmapped) in
-    let k : length (a .other .values) ≡ 4 = search (needs, unmapped) in
+    let h : length (a .self .values) ≡ valueLimit = search (needs, unmapped) in
+    let k : length (a .other .values) ≡ valueLimit = search (needs, unmapped) in
     omega (
       arith,
       ap (λ w. w .len) (c .wide .ensures),
@@ -25,8 +24,8 @@ trail-requires c κs =
       ap length (values-of _ (c .before .standing2 .ensures)),
       length-sift (standing false (valuesOf (a .other))) (λ v. v) (valuesOf (a .self)),
       length-sift (standing true (valuesOf (o .standing .result))) (λ v. v) (valuesOf (a .other)),
-      used (a .self .len) 4 (a .self .values) h,
-      used (a .other .len) 4 (a .other .values) k,
+      used (a .self .len) valueLimit (a .self .values) h,
+      used (a .other .len) valueLimit (a .other .values) k,
     )
 
 returns : tie.Need-returns

@@ -3,7 +3,7 @@ use mathlib.Core.Path.{_≡_, ap, sym, _∙_}
 use mathlib.Core.List.{[]}
 use lib.ListN.{length}
 use Rattle.lists.proofs.Pads.{unmapped, used}
-use Rattle.register.specs.Values.{valuesOf, registerOf, remaining, putValues}
+use Rattle.register.specs.Values.{valueLimit, valuesOf, registerOf, remaining, putValues}
 use Rattle.register.proofs.Packs.{values-of, remaining-length}
 use borrow.Author.Needs.{needs}
 use native.Mathlib.Omega.{arith}
@@ -31,7 +31,7 @@ returns-2 c =
     c .before .before .wide2 .ensures
     ∙ rw (e, sym (i .before .is-empty .ensures) ∙ i .if1 .left, rw e at (sym (c .before .outdoes .ensures) ∙ c .if2 .taken))
 
-room : (c : tie.Start) → length (c .args .self .values) ≡ 4
+room : (c : tie.Start) → length (c .args .self .values) ≡ valueLimit
 room c = search (needs, unmapped)
 
 push-requires-2 : tie.Need-push-requires-2
@@ -44,7 +44,7 @@ push-requires-2 c κs =
       ap (λ w. w .len) (c .before .before .wide2 .ensures),
       ap length (values-of _ (left s)),
       remaining-length (valuesOf (a .self)) (a .v),
-      used (a .self .len) 4 (a .self .values) (room z),
+      used (a .self .len) valueLimit (a .self .values) (room z),
     )
 
 returns-3 : tie.Need-returns-3

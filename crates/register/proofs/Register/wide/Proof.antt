@@ -5,14 +5,15 @@ use lib.ListN.{length}
 use Rattle.lists.proofs.Pads.{unmapped, used}
 use borrow.Author.Needs.{needs}
 use native.Mathlib.Omega.{arith}
+use Rattle.register.specs.Values.{valueLimit}
 use Rattle.register.proofs.Register.wide.Statement.{statement}
 use Rattle.register.proofs.Register.wide.Tie as tie
 
 trail-requires : tie.Need-trail-requires
 trail-requires c κs =
     let a = c .before .args .self in
-    let h : length (a .values) ≡ 4 = search (needs, unmapped) in
-    omega (arith, ap (λ k. k .len) (c .new .ensures), used (a .len) 4 (a .values) h)
+    let h : length (a .values) ≡ valueLimit = search (needs, unmapped) in
+    omega (arith, ap (λ k. k .len) (c .new .ensures), used (a .len) valueLimit (a .values) h)
 
 returns : tie.Need-returns
 returns c = c .trail .ensures [] (c .before .new .ensures)

@@ -1,0 +1,13 @@
+-- What is left of a value where a merge, an update, a removal or a reset has cut it.
+-- Assumes nothing.
+use mathlib.Core.List.{List}
+use Prim.Native.Nat.{ℕ}
+use Rattle.clock.specs.declared.Dot.{Dot}
+use Rattle.clock.specs.Dots.{dotsOf, clockOf, cutDots}
+use Rattle.register.specs.declared.Value.{Value}
+use Rattle.parts.specs.declared.Removal.{Removal}
+use Rattle.queued.specs.Queue.{cutsFor}
+
+-- a value of a key, cut by a clock, then by their removals that list the key, then by ours
+abbrev pub valueLeft : List Removal → List Removal → ℕ → List Dot → Value → Value
+valueLeft ours theirs key gone v = record { clock = clockOf (cutsFor ours key (cutsFor theirs key (cutDots gone (dotsOf (v .clock))))); value = v .value }

@@ -1,0 +1,117 @@
+// The next key of a merge, from two images where they lie.
+ghost use mathlib.Core.Path.{_≡_};
+ghost use mathlib.Core.Bool.{true, _||_};
+ghost use mathlib.Core.List.{List, []};
+ghost use Prim.Native.Nat.{ℕ, _*_, _≤_, _<_};
+ghost use lib.Dec.{ltb};
+ghost use lib.ListN.{length};
+ghost use Rattle.lists.specs.Order.{_∈_};
+ghost use Rattle.clock.specs.Dots.{dotLimit, dotsOf, joinDots};
+ghost use Rattle.clock.specs.Lawful.{Lawful};
+ghost use Rattle.parts.specs.declared.Entry.{Entry};
+ghost use Rattle.parts.specs.Model.{dotsIn, entryAs};
+ghost use Rattle.records.specs.Records.{recordFrom};
+ghost use Rattle.sketch.specs.Walking.{Ahead, LiesAt};
+ghost use Rattle.merging.specs.Coming.{beyondKeys, Goes, Comes};
+use crate::Alone;
+use crate::Coming;
+use clock::Clock;
+use sketch::Cursor;
+use sketch::Lain;
+use walks::Layout;
+use walks::Span;
+
+// The key of the record at a place, above every key where there is none.
+fn head(s: &[u8], at: usize, end: usize) -> u64
+    requires { ⌜ end * 16 ≤ length (now s) ⌝ }
+    ensures { λ r. ⌜ (r ≤ beyondKeys) × ((r < beyondKeys → (at < end) × (r ≡ recordFrom (now (s .entry)) (at * 16) .key)) × (r ≡ beyondKeys → end ≤ at)) ⌝ }
+{
+    if at < end {
+        let r = records::read_record(s, at * 16);
+        return r.key as u64;
+    }
+    4294967296
+}
+
+// No entry of a key, before the one where a walk stands.
+fn none_at(key: u32, next: Cursor) -> Lain
+    ensures { λ r. ⌜ ((r .key ≡ key) × (r .next ≡ next)) × ((s : List ℕ) → LiesAt s (entryAs key [] []) r) ⌝ }
+{
+    let none = Span { from: 0, to: 0 };
+    Lain {
+        key,
+        dots: none,
+        values: none,
+        starts: [0; 5],
+        next,
+    }
+}
+
+// The next entry of a map, where the other map does not have it.
+fn alone(s: &[u8], l: Layout, x: Cursor, other: Clock) -> Alone
+    requires { ⌜ (x .own < l .third) × (((es : List Entry) × Ahead (now s) l x es) × Lawful (dotsOf other)) ⌝ }
+    ensures { λ r. ⌜ ((es : List Entry) → Ahead (now (s .entry)) l x es → Goes (now (s .entry)) l x (dotsOf other) es r) ⌝ }
+{
+    let entry = sketch::walking::entry_at(s, l, x);
+    let keep = leaving::own_left(s, entry, other);
+    let gone = other.cut(keep);
+    Alone { entry, keep, gone }
+}
+
+// What comes next of two maps' entries; `mine` and `yours` are the maps' clocks.
+pub fn next(
+    s: &[u8],
+    t: &[u8],
+    l: Layout,
+    m: Layout,
+    mine: Clock,
+    yours: Clock,
+    x: Cursor,
+    y: Cursor,
+) -> Coming
+    requires { ⌜ ((ltb (x .own) (l .third) || ltb (y .own) (m .third)) ≡ true) × ((Lawful (dotsOf mine) × Lawful (dotsOf yours)) × ((es fs : List Entry) × Ahead (now s) l x es × Ahead (now t) m y fs
+        × ((e f : Entry) → e ∈ es → f ∈ fs → length (joinDots (dotsIn e) (dotsIn f)) ≤ dotLimit))) ⌝ }
+    ensures { λ r. ⌜ ((es fs : List Entry) → Ahead (now (s .entry)) l x es → Ahead (now (t .entry)) m y fs → Comes (now (s .entry)) (now (t .entry)) l m (dotsOf mine) (dotsOf yours) x y es fs r) ⌝ }
+{
+    let p = head(s, x.own, l.third);
+    let q = head(t, y.own, m.third);
+    if p < q {
+        let a = alone(s, l, x, yours);
+        let e = a.entry;
+        let none = none_at(e.key, y);
+        let keep = a.keep;
+        let gone = a.gone;
+        return Coming {
+            x: e,
+            y: none,
+            keep,
+            gone,
+        };
+    }
+    if q < p {
+        let a = alone(t, m, y, mine);
+        let e = a.entry;
+        let none = none_at(e.key, x);
+        let keep = a.keep;
+        let gone = a.gone;
+        return Coming {
+            x: none,
+            y: e,
+            keep,
+            gone,
+        };
+    }
+    let e = sketch::walking::entry_at(s, l, x);
+    let f = sketch::walking::entry_at(t, m, y);
+    let c = leaving::own_clock(s, e);
+    let d = leaving::own_clock(t, f);
+    let kept = keeping::keeps(c, d, mine, yours);
+    let keep = kept.keep;
+    let gone = kept.gone;
+    Coming {
+        x: e,
+        y: f,
+        keep,
+        gone,
+    }
+}

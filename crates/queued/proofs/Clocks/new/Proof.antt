@@ -1,0 +1,16 @@
+-- `Clocks::new` meets its contract. Assumes nothing.
+use Rattle.lists.specs.Pad.{pad}
+use borrow.Author.Needs.{needs}
+use Rattle.queued.proofs.Clocks.new.Statement.{statement}
+use Rattle.queued.proofs.Clocks.new.Tie as tie
+
+returns : tie.Need-returns
+unfolding pad
+returns c = rw (c .new .ensures)
+
+pub new-spec : {M : Type 1} → statement M
+new-spec =
+    tie.close
+    (tie.spec
+    (λ c κs. search needs)
+    returns)

@@ -1,0 +1,79 @@
+-- A clock cut by the removals that list a key, one after the other.
+-- Assumes nothing.
+use mathlib.Core.Path.{_≡_, ap, ap₂, _∙_}
+use mathlib.Core.Bool.{true, false, cond}
+use mathlib.Core.List.{List, [], map}
+use Prim.Native.Nat.{ℕ, _+_, _≤_, _<_}
+use native.Mathlib.Omega.{arith}
+use lib.ListN.{length, take, getD, length-map, List·getD-map}
+use lib.Seq.{take-length}
+use Rattle.lists.specs.Fold.{fold}
+use Rattle.lists.proofs.Folding.{Folding, folding-on, folding-end}
+use Rattle.clock.specs.declared.Clock.{Clock}
+use Rattle.clock.specs.declared.Dot.{Dot}
+use Rattle.clock.specs.Dots.{dotsOf, clockOf, cutDots}
+use Rattle.clock.proofs.Packs.{dots-of}
+use Rattle.parts.specs.declared.Removal.{Removal}
+use Rattle.parts.specs.Model.{waitingLimit, noRemoval, underOf, listedIn}
+use Rattle.parts.specs.Entries.{listed}
+use Rattle.maprecords.proofs.Packs.{get-pad}
+use Rattle.oneimage.proofs.Stands.{place-get, place-reads}
+use Rattle.queued.specs.declared.Clocks.{Clocks}
+use Rattle.queued.specs.Queue.{clocksAs, clocksFor, cutsFor, lists}
+
+-- the clock at a place
+pub clocks-at : {cs : Clocks} (l : List (List Dot)) (i : ℕ) (z : Clock) → cs ≡ clocksAs l → i < length l → getD (cs .items) i z ≡ clockOf (getD l i [])
+clocks-at l i z e h =
+    let m = map clockOf l in
+    let n = length-map l clockOf in
+    rw e (get-pad (clockOf []) waitingLimit m i z (omega arith) ∙ place-reads z (place-get m i (clockOf []) (omega arith)) ∙ List·getD-map clockOf l i [])
+
+-- and what is told of it
+pub told-at : {A : Type 0} {cs : Clocks} (l : List (List Dot)) (i : ℕ) (z : Clock) → cs ≡ clocksAs l → i < length l → (f : List Dot → A) {b : A} → b ≡ f (dotsOf (getD (cs .items) i z)) → b ≡ f (getD l i [])
+told-at l i z e h f t = t ∙ ap f (dots-of (getD l i []) (clocks-at l i z e h))
+
+pub clock-under : {cs : Clocks} (w : List Removal) (i : ℕ) (z : Clock) → cs ≡ clocksFor w → i < length w → getD (cs .items) i z ≡ clockOf (underOf (getD w i noRemoval))
+clock-under w i z e h = let n = length-map w underOf in clocks-at (map underOf w) i z e (omega arith) ∙ ap clockOf (List·getD-map underOf w i noRemoval)
+
+pub clocks-count : {cs : Clocks} (w : List Removal) → cs ≡ clocksFor w → cs .len ≡ length w
+clocks-count w e = ap (λ (x : Clocks). x .len) e ∙ length-map w underOf
+
+module _ (w : List Removal) (key : ℕ) where
+  abbrev cut-by : List Dot → Removal → List Dot
+  cut-by d r = cond (listed (listedIn r) key) (cutDots (underOf r) d) d
+
+  -- i removals have been looked at
+  abbrev pub Cutting : List Dot → ℕ → Clock → Type 0
+  Cutting d i out = Folding clockOf cut-by d w (length w) i out
+
+  module _ {d : List Dot} {i : ℕ} {out : Clock} (f : Cutting d i out) (h : i < length w) where
+    here : i < length (take (length w) w)
+    here = rw (take-length w) h
+
+    pub cut-on : {by next : Clock} → by ≡ clockOf (underOf (getD w i noRemoval)) → lists w i key ≡ true → next ≡ clockOf (cutDots (dotsOf by) (dotsOf out)) → Cutting d (i + 1) next
+    cut-on b t n = folding-on noRemoval f here (λ s p. n ∙ rw t (ap clockOf (ap₂ cutDots (dots-of (underOf (getD w i noRemoval)) b) (dots-of s p))))
+
+    pub cut-not : lists w i key ≡ false → Cutting d (i + 1) out
+    cut-not t = folding-on noRemoval f here (λ s p. p ∙ rw t)
+
+  pub cut-end : {d : List Dot} {i : ℕ} {out : Clock} → Cutting d i out → length w ≤ i → out ≡ clockOf (cutsFor w key d)
+  unfolding cutsFor
+  cut-end {d} f h = folding-end f (rw (take-length w) h) ∙ ap (λ l. clockOf (fold cut-by d l)) (take-length w)
+
+  -- the same of marks on a run, whose dots are these
+  abbrev pub MarksCutting : List Dot → ℕ → List Dot → Type 0
+  MarksCutting d i left = Folding (λ x. x) cut-by d w (length w) i left
+
+  module _ {d : List Dot} {i : ℕ} {left : List Dot} (f : MarksCutting d i left) (h : i < length w) where
+    inside : i < length (take (length w) w)
+    inside = rw (take-length w) h
+
+    pub marks-on : {more : List Dot} → lists w i key ≡ true → more ≡ cutDots (underOf (getD w i noRemoval)) left → MarksCutting d (i + 1) more
+    marks-on t n = folding-on noRemoval f inside (λ s p. n ∙ rw t (ap (cutDots (underOf (getD w i noRemoval))) p))
+
+    pub marks-not : lists w i key ≡ false → MarksCutting d (i + 1) left
+    marks-not t = folding-on noRemoval f inside (λ s p. p ∙ rw t)
+
+  pub marks-end : {d : List Dot} {i : ℕ} {left : List Dot} → MarksCutting d i left → length w ≤ i → left ≡ cutsFor w key d
+  unfolding cutsFor
+  marks-end {d} f h = folding-end f (rw (take-length w) h) ∙ ap (λ l. fold cut-by d l) (take-length w)

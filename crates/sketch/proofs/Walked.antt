@@ -1,0 +1,120 @@
+-- The entries of a map drawn one after the other, each cut or as it is.
+-- Assumes nothing.
+use mathlib.Core.Path.{_≡_, refl, ap, sym, _∙_, subst}
+use mathlib.Core.Bool.{Bool, true, false, not, cond}
+use mathlib.Core.List.{List, [], _∷_, _++_, append-nil, List·Memᴰ·not-nil}
+use Prim.Native.Nat.{ℕ, _+_, _≤_, _<_}
+use native.Mathlib.Omega.{arith}
+use lib.ListN.{length, replicate}
+use lib.Seq.{append-snoc}
+use Rattle.lists.specs.Sift.{sift}
+use Rattle.lists.specs.Order.{nil}
+use Rattle.lists.proofs.Pads.{length-snoc}
+use Rattle.clock.specs.declared.Clock.{Clock}
+use Rattle.clock.specs.Dots.{dotsOf, clockOf, isEmpty, cutDots}
+use Rattle.clock.specs.Lawful.{Lawful}
+use Rattle.register.specs.Values.{cutValues}
+use Rattle.parts.specs.declared.Entry.{Entry}
+use Rattle.parts.specs.Model.{entryLimit, dotsIn, valuesIn, entryAs}
+use Rattle.parts.specs.Entries.{stays, cutEntry}
+use Rattle.parts.proofs.Cuts.{cut-entry-none}
+use Rattle.parts.proofs.Finish.{one-stays, one-goes}
+use Rattle.map.specs.declared.Map.{Map}
+use Rattle.map.specs.Model.{entriesIn}
+use Rattle.map.proofs.Accepts.{fits-means}
+use Rattle.walks.specs.declared.Layout.{Layout}
+use Rattle.layout.specs.Whole.{Lies}
+use Rattle.keyed.proofs.Walks.{owned-end}
+use Rattle.marks.specs.Marks.{picked}
+use Rattle.marks.proofs.Picks.{picked-all}
+use Rattle.sketch.specs.declared.Cursor.{Cursor}
+use Rattle.sketch.specs.declared.Lain.{Lain}
+use Rattle.sketch.specs.declared.Sketch.{Sketch}
+use Rattle.sketch.specs.Walking.{Fit, Ahead, Steps}
+use Rattle.sketch.specs.Drawn.{Sketches}
+use Rattle.sketch.proofs.Stepping.{startOf, all-ahead}
+
+-- some entries are drawn, and the rest lies ahead
+pub record Walked (s : List ℕ) (l : Layout) (f : Entry → Entry) (es : List Entry) (x : Cursor) (sk : Sketch) : Type 0 where
+  pub rest : List Entry
+  pub ahead : Ahead s l x rest
+  pub done : List Entry
+  pub holds : Sketches s s done sk
+  pub parts : sift stays f es ≡ done ++ sift stays f rest
+  pub few : length done + length rest ≤ entryLimit
+
+module _ {s : List ℕ} {l : Layout} (f : Entry → Entry) where
+  pub walked-start : {m : Map} → Lies s m l → {sk : Sketch} → Sketches s s [] sk → Walked s l f (entriesIn m) (startOf l) sk
+  walked-start {m} h g = record {
+    rest = entriesIn m;
+    ahead = all-ahead h;
+    done = [];
+    holds = g;
+    parts = refl;
+    few = let n = fits-means m
+        (h .within .limits) .count in omega arith;
+  }
+
+  module _ {es : List Entry} {x : Cursor} {sk : Sketch} (w : Walked s l f es x sk) where
+    module _ {r : Lain} (g : Steps s l x (w .rest) r) where
+      pub walked-skip : stays (f (g .entry)) ≡ false → Walked s l f es (r .next) sk
+      walked-skip t = record {
+        rest = g .more;
+        ahead = g .rest;
+        done = w .done;
+        holds = w .holds;
+        parts = w .parts ∙ ap (λ k. w .done ++ sift stays f k) (g .parts) ∙ ap (λ k. w .done ++ k) (one-goes f (g .entry) (g .more) t);
+        few = let n = w .few in omega (arith, ap length (g .parts));
+      }
+
+      pub walked-keep : stays (f (g .entry)) ≡ true → {next : Sketch} → Sketches s s (w .done ++ (f (g .entry) ∷ [])) next
+          → Walked s l f es (r .next) next
+      walked-keep t p = record {
+        rest = g .more;
+        ahead = g .rest;
+        done = w .done ++ (f (g .entry) ∷ []);
+        holds = p;
+        parts =
+            w .parts ∙ ap (λ k. w .done ++ sift stays f k) (g .parts) ∙ ap (λ k. w .done ++ k) (one-stays f (g .entry) (g .more) t)
+            ∙ sym (append-snoc (w .done) (f (g .entry)) (sift stays f (g .more)));
+        few = let n = w .few in omega (arith, ap length (g .parts), length-snoc (w .done) (f (g .entry)));
+      }
+
+    pub walked-few : sk .count < 64
+    walked-few = let n = w .few in omega (arith, w .holds .count)
+
+    pub walked-end : l .third ≤ x .own → Sketches s s (sift stays f es) sk
+    unfolding sift
+    walked-end n =
+        let e = owned-end (w .rest) (w .ahead .own) n in
+        subst (λ k. Sketches s s k sk) (sym (w .parts ∙ ap (λ k. w .done ++ sift stays f k) e ∙ append-nil (w .done))) (w .holds)
+
+-- an entry cut by a clock, or by none
+module _ (by : Clock) (b : Bool) (here : Clock) (q : here ≡ cond b by (clockOf [])) where
+  pub here-lawful : Lawful (dotsOf by) → Lawful (dotsOf here)
+  here-lawful h = subst (λ k. Lawful (dotsOf k)) (sym q) (go b)
+    where
+      go : (b : Bool) → Lawful (dotsOf (cond b by (clockOf [])))
+      go true = h
+      go false = record { rising = nil; positive = λ d i. absurd (List·Memᴰ·not-nil i) }
+
+  module _ {e : Entry} (h : Fit e) where
+    cut-here : cutEntry (dotsOf here) e ≡ cond b (cutEntry (dotsOf by) e) e
+    cut-here = ap (λ k. cutEntry (dotsOf k) e) q ∙ go b
+      where
+        go : (b : Bool) → cutEntry (dotsOf (cond b by (clockOf []))) e ≡ cond b (cutEntry (dotsOf by) e) e
+        go true = refl
+        go false = cut-entry-none (record { laid = h .laid; clock = h .clock; values = h .valid })
+
+    module _ {left : Clock} (g : left ≡ clockOf (cutDots (dotsOf here) (dotsIn e))) where
+      pub left-stays : stays (cond b (cutEntry (dotsOf by) e) e) ≡ not (isEmpty (dotsOf left))
+      unfolding cutEntry
+      left-stays = ap stays (sym cut-here) ∙ ap (λ k. not (isEmpty (dotsOf k))) (sym g)
+
+    pub left-entry : (key : ℕ) → key ≡ e .key
+        → entryAs key (cutDots (dotsOf here) (dotsIn e)) (cutValues (dotsOf here) (picked (replicate 4 true) (valuesIn e))) ≡ cond b
+        (cutEntry (dotsOf by) e) e
+    unfolding cutEntry
+    left-entry key p =
+        let v = picked-all (valuesIn e) 4 (h .few) in
+        (λ i. entryAs (p i) (cutDots (dotsOf here) (dotsIn e)) (cutValues (dotsOf here) (v i))) ∙ cut-here

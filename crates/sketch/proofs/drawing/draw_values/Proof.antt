@@ -1,0 +1,134 @@
+-- `draw_values` meets its contract: one value after the other. Assumes nothing.
+use mathlib.Core.Path.{_≡_, refl, ap, sym, _∙_}
+use mathlib.Core.Bool.{cond}
+use mathlib.Core.List.{List}
+use Prim.Native.Nat.{ℕ, _+_, _≤_, _<_, _-_}
+use lib.ListN.{length}
+use native.Mathlib.Omega.{arith}
+use borrow.Author.Needs.{needs}
+use Rattle.clock.specs.declared.Dot.{Dot}
+use Rattle.clock.specs.Dots.{dotsOf}
+use Rattle.register.specs.declared.Value.{Value}
+use Rattle.register.specs.Values.{valueLimit}
+use Rattle.parts.specs.declared.Entry.{Entry}
+use Rattle.parts.specs.Model.{valuesIn}
+use Rattle.walks.specs.declared.Span.{Span}
+use Rattle.sketch.specs.declared.Cursor.{Cursor}
+use Rattle.sketch.specs.Walking.{LiesAt}
+use Rattle.sketch.specs.Drawn.{valueAt, Draws}
+use Rattle.sketch.proofs.Lying.{many-values}
+use Rattle.sketch.proofs.Valued.{Drawing, drawing-start, drawing-no, drawing-yes, drawing-end, source-asks, source-value}
+use Rattle.sketch.proofs.drawing.draw_values.Statement.{statement}
+use Rattle.sketch.proofs.drawing.draw_values.Tie as tie
+
+abbrev Inv-loop : tie.InvT-loop
+Inv-loop v second gone stand first n starts out₀ i₀ out i =
+    ((i ≤ n) × ((n ≤ valueLimit) × ((out₀ .len ≤ valueLimit) × ((out .len ≤ out₀ .len + i) × (length stand ≡ 4)))))
+    × ((s t : List ℕ) (own : ℕ) (dots : Span) (end : ℕ) (next : Cursor) (x : Entry) (key : ℕ) (d : List Dot) (l : List Value) → v ≡ cond second t s
+    → LiesAt v x (record { key = own; dots = dots; values = record { from = first; to = end }; starts = starts; next = next }) → end - first ≡ n
+    → Draws s t key d l out₀ → Drawing s t key d l (dotsOf gone) stand (valuesIn x) i out)
+
+abbrev μ-loop : tie.MeasureT-loop
+μ-loop v second gone stand first n starts out₀ i₀ out i = n - i
+
+sub-n : tie.Need-sub-n Inv-loop μ-loop
+sub-n c = c .before .before .before .pre .1 .1 .0 .1 .values .order
+
+loop-holds : tie.Need-loop-holds Inv-loop μ-loop
+loop-holds c =
+    let z = c .before .before .before .before in
+    let h = z .pre .1 .1 .0 .1 in
+    let f = h .fit .few in (
+      (
+        omega arith,
+        (
+          omega (arith, many-values h),
+          (
+            z .pre .0,
+            (omega arith, search needs),
+          ),
+        ),
+      ),
+      λ s t own dots end next x key d l q e m g. drawing-start (dotsOf (z .args .gone)) (z .args .t5)
+          (valuesIn x) g,
+    )
+
+source-of-requires : tie.Need-source-of-requires Inv-loop μ-loop
+source-of-requires c κs =
+    let s = c .before .before in
+    let z = s .before .before .before .before .before in
+    let h = z .pre .1 .1 .0 .1 in
+    source-asks h (s .loop .i) (omega (arith, many-values h)) (dotsOf (z .args .gone)) (z .pre .1 .0) (z .pre .1 .1 .1)
+
+add-requires : tie.Need-add-requires Inv-loop μ-loop
+add-requires c κs =
+    let s = c .before .before .before in
+    let z = s .before .before .before .before .before in
+    let h = z .pre .1 .1 .0 .1 in
+    let a = source-asks h (s .loop .i) (omega (arith, many-values h)) (dotsOf (z .args .gone)) (z .pre .1 .0) (z .pre .1 .1 .1) .0 .1 in
+    let b = c .source-of .ensures .0 .1 .1 in
+    (omega arith, (omega arith, omega arith))
+
+loop-again : tie.Need-loop-again Inv-loop μ-loop
+loop-again c =
+    let s = c .before .before .before .before in
+    let z = s .before .before .before .before .before in
+    let o = c .before .source-of in
+    let long = s .loop .inv .0 .1 .1 .1 .1 in
+    let v = s .loop .inv .0 in
+    let a : c .add .result .len ≤ s .loop .out .len + 1 = c .add .ensures .0 in
+    let few : c .add .result .len ≤ z .args .before .len + (s .loop .i + 1) = omega arith in (
+      (omega arith, (omega arith, (omega arith, (few, long)))),
+      λ u t own dots end next x key d l q h m g.
+          let k : s .loop .i < length (valuesIn x) = omega (arith, many-values h) in
+          let w = source-value h (s .loop .i) k u t (dotsOf (z .args .gone)) (o .result) (q
+          ∙ ap (λ b. cond b t u) (sym (o .ensures .0 .0))) (o .ensures .0 .1) (o .ensures .1) in
+          drawing-yes (dotsOf (z .args .gone)) (z .args .t5) (valuesIn x) (s .loop .inv .1 u t own dots end next x key d l q h m g) (omega arith) k
+          (c .before .before .if1 .taken)
+          (valueAt u t (o .result)) (w .0) _ (λ y r. c .add .ensures .1 u t key d y r (w .1)),
+    )
+
+loop-again-2 : tie.Need-loop-again-2 Inv-loop μ-loop
+loop-again-2 c =
+    let s = c .before .before in
+    let z = s .before .before .before .before .before in
+    let long = s .loop .inv .0 .1 .1 .1 .1 in (
+      (omega arith, (omega arith, (omega arith, (omega arith, long)))),
+      λ u t own dots end next x key d l q h m g.
+          drawing-no (dotsOf (z .args .gone)) (z .args .t5) (valuesIn x) (s .loop .inv .1 u t own dots end next x key d l q h m g) (omega arith)
+          (omega (arith, many-values h)) (c .if1 .left),
+    )
+
+returns : tie.Need-returns Inv-loop μ-loop
+returns c =
+    let z = c .before .before .before .before .before .before in
+    let e = z .args .e in (
+      omega arith,
+      λ u t x key d l q h g.
+          drawing-end (dotsOf (z .args .gone)) (z .args .t5) (valuesIn x)
+          (c .before .loop .inv .1 u t (e .key) (e .dots) (e .values .to) (e .next) x key d l q h refl g) (omega (arith, many-values h)),
+    )
+
+pub draw-values-spec : {M : Type 1} → statement M
+draw-values-spec =
+    tie.close
+    (tie.spec
+    Inv-loop
+    μ-loop
+    sub-n
+    loop-holds
+    (λ c. search needs)
+    (λ c. search needs)
+    (λ c. search needs)
+    (λ c. search needs)
+    (λ c. search needs)
+    (λ c. search needs)
+    (λ c. search needs)
+    (λ c. search needs)
+    source-of-requires
+    add-requires
+    (λ c. search needs)
+    loop-again
+    (λ c. search needs)
+    loop-again-2
+    returns)

@@ -1,0 +1,93 @@
+-- A sketch: entries whose values stand in two images, with marks that say which of their dots are left.
+-- Assumes nothing.
+use mathlib.Core.Path.{_≡_}
+use mathlib.Core.Bool.{Bool, false, cond, _||_}
+use mathlib.Core.List.{List, _++_, map}
+use Prim.Native.Nat.{ℕ, _+_, _*_, _-_, _≤_}
+use lib.ListN.{length, take, drop}
+use Rattle.lists.specs.First.{some}
+use Rattle.lists.specs.Order.{_∈_}
+use Rattle.clock.specs.declared.Dot.{Dot}
+use Rattle.clock.specs.Dots.{dotLimit, dotsOf, clockOf}
+use Rattle.register.specs.declared.Value.{Value}
+use Rattle.register.specs.Values.{valueLimit}
+use Rattle.parts.specs.declared.Entry.{Entry}
+use Rattle.parts.specs.Model.{entryLimit, entryAs, overfull}
+use Rattle.parts.specs.Entries.{listed, cutEntry}
+use Rattle.records.specs.declared.Record.{Record}
+use Rattle.records.specs.Records.{recordFrom}
+use Rattle.mapimage.specs.MapImage.{flatFrom, entryRecords}
+use Rattle.runs.specs.Run.{runDots}
+use Rattle.marks.specs.Marks.{picked, marksSet}
+use Rattle.sketch.specs.declared.Source.{Source}
+use Rattle.sketch.specs.declared.Sketched.{Sketched}
+use Rattle.sketch.specs.declared.Sketch.{Sketch}
+
+-- the records of s from place i to place j, as bytes
+abbrev pub between : List ℕ → ℕ → ℕ → List ℕ
+between s i j = take (j * 16 - i * 16) (drop (i * 16) s)
+
+-- the value that a source names in s, under what is left of its clock
+abbrev pub valueIn : List ℕ → Source → Value
+valueIn s x = record { clock = clockOf (picked (x .marks) (runDots (between s (x .from) (x .to)))); value = recordFrom s (x .value * 16) .number }
+
+-- of two images, the one that it names
+abbrev pub imageOf : List ℕ → List ℕ → Source → List ℕ
+imageOf s t x = cond (x .second) t s
+
+abbrev pub valueAt : List ℕ → List ℕ → Source → Value
+valueAt s t x = valueIn (imageOf s t x) x
+
+-- its records stand within s
+pub record Placed (s : List ℕ) (x : Source) : Type 0 where
+  pub order : x .from ≤ x .to
+  pub few : x .to ≤ x .from + dotLimit
+  pub run : x .to * 16 ≤ length s
+  pub value : x .value * 16 + 16 ≤ length s
+
+abbrev pub sourcesOf : Sketched → List Source
+sourcesOf k = take (k .len) (k .sources)
+
+-- how many records it stands for: one, and a dot for each mark
+abbrev pub sourceSize : Source → ℕ
+sourceSize x = 1 + marksSet (take (x .to - x .from) (x .marks))
+
+-- the entry that is drawn
+abbrev pub drawn : List ℕ → List ℕ → Sketched → Entry
+drawn s t k = entryAs (k .key) (dotsOf (k .clock)) (map (valueAt s t) (sourcesOf k))
+
+-- each of its sources is placed
+pub record Ready (s t : List ℕ) (k : Sketched) : Type 0 where
+  pub each : (x : Source) → x ∈ sourcesOf k → Placed (imageOf s t x) x
+
+abbrev pub itemsOf : Sketch → List Sketched
+itemsOf sk = take (sk .count) (sk .items)
+
+-- so of all
+pub record AllReady (s t : List ℕ) (sk : Sketch) : Type 0 where
+  pub each : (k : Sketched) → k ∈ itemsOf sk → Ready s t k
+
+-- the entries that are drawn
+abbrev pub drawnAll : List ℕ → List ℕ → Sketch → List Entry
+drawnAll s t sk = map (drawn s t) (itemsOf sk)
+
+-- the records of entries: dots, values, values' dots
+abbrev pub sectionsOf : List Entry → List Record
+sectionsOf l = flatFrom (entryRecords 2) 0 l ++ (flatFrom (entryRecords 3) 0 l ++ flatFrom (entryRecords 4) 0 l)
+
+-- what is promised of an entry in a sketch, of a key, a clock and values: how many values, and the values where they are within the limit
+pub record Draws (s t : List ℕ) (key : ℕ) (d : List Dot) (l : List Value) (k : Sketched) : Type 0 where
+  pub named : k .key ≡ key
+  pub clock : k .clock ≡ clockOf d
+  pub many : k .len ≡ length l
+  pub values : length l ≤ valueLimit → (map (valueAt s t) (sourcesOf k) ≡ l) × Ready s t k
+
+-- what is promised of a sketch: how many entries, whether one has too many values, and the entries where both are within the limits
+pub record Sketches (s t : List ℕ) (l : List Entry) (sk : Sketch) : Type 0 where
+  pub count : sk .count ≡ length l
+  pub wide : sk .wide ≡ some overfull l
+  pub items : length l ≤ entryLimit → some overfull l ≡ false → (drawnAll s t sk ≡ l) × AllReady s t sk
+
+-- an entry cut where its key is listed, or all are; a reset cuts all, a removal those that it lists
+abbrev pub cutWhere : Bool → List ℕ → List Dot → Entry → Entry
+cutWhere all keys c e = cond (all || listed keys (e .key)) (cutEntry c e) e

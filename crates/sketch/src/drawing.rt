@@ -1,0 +1,227 @@
+// A sketch drawn: an entry's values one after the other, and entry after entry.
+ghost use mathlib.Core.Path.{_≡_};
+ghost use mathlib.Core.Bool.{cond, _||_};
+ghost use mathlib.Core.List.{List, [], _∷_, _++_};
+ghost use Prim.Native.Nat.{ℕ, _+_, _*_, _≤_, _<_};
+ghost use lib.ListN.{length};
+ghost use Rattle.lists.specs.Sift.{sift, those};
+ghost use Rattle.clock.specs.declared.Dot.{Dot};
+ghost use Rattle.clock.specs.Dots.{dotLimit, dotsOf, clockOf, cutDots};
+ghost use Rattle.clock.specs.Lawful.{Lawful};
+ghost use Rattle.register.specs.declared.Value.{Value};
+ghost use Rattle.register.specs.Values.{valueLimit, alive, cutValues};
+ghost use Rattle.parts.specs.declared.Entry.{Entry};
+ghost use Rattle.parts.specs.Model.{keysOf, underOf, dotsIn, valuesIn, entryAs};
+ghost use Rattle.parts.specs.Entries.{stays, cutEntry, listed, removeEntries};
+ghost use Rattle.map.specs.Model.{entriesIn};
+ghost use Rattle.mapimage.specs.MapImage.{mapLongest};
+ghost use Rattle.maprecords.specs.Related.{readMap};
+ghost use Rattle.layout.specs.Whole.{Lies};
+ghost use Rattle.runs.specs.Run.{runDots};
+ghost use Rattle.marks.specs.Marks.{picked};
+ghost use Rattle.sketch.specs.Walking.{LiesAt};
+ghost use Rattle.sketch.specs.Drawn.{between, imageOf, valueAt, Placed, Draws, Sketches, cutWhere};
+use crate::Cursor;
+use crate::Lain;
+use crate::Sketch;
+use crate::Sketched;
+use crate::Source;
+use clock::Clock;
+use clock::DOTS;
+use parts::ENTRIES;
+use parts::Keys;
+use parts::Removal;
+use register::VALUES;
+use walks::Layout;
+
+impl Sketched {
+    // An entry with no value yet.
+    pub fn new(key: u32, clock: Clock) -> Sketched
+        ensures { λ r. ⌜ (r .len ≡ 0) × ((s t : List ℕ) (d : List Dot) → clock ≡ clockOf d → Draws s t key d [] r) ⌝ }
+    {
+        let none = Source {
+            second: false,
+            value: 0,
+            from: 0,
+            to: 0,
+            marks: [false; DOTS],
+        };
+        Sketched {
+            key,
+            clock,
+            sources: [none; VALUES],
+            len: 0,
+        }
+    }
+
+    // One value more, where a dot of it is left.
+    pub fn add(self, x: Source) -> Sketched
+        requires { ⌜ (self .len < 16) × ((x .from ≤ x .to) × (x .to ≤ x .from + dotLimit)) ⌝ }
+        ensures { λ r. ⌜ (r .len ≤ self .len + 1) × ((s t : List ℕ) (key : ℕ) (d : List Dot) (l : List Value) → Draws s t key d l self
+            → Placed (imageOf s t x) x
+            → Draws s t key d (l ++ those alive (valueAt s t x ∷ [])) r) ⌝ }
+    {
+        let marks = x.marks;
+        let many = (x.to - x.from) as usize;
+        if !marks::some_marks(marks, many) {
+            return self;
+        }
+        let mut out = self;
+        let n = out.len;
+        out.len = n + 1;
+        if n < VALUES {
+            out.sources[n] = x;
+            return out;
+        }
+        out
+    }
+}
+
+impl Sketch {
+    pub fn new() -> Sketch
+        ensures { λ r. ⌜ (r .count ≡ 0) × ((s t : List ℕ) → Sketches s t [] r) ⌝ }
+    {
+        let clock = Clock::new();
+        let none = Sketched::new(0, clock);
+        Sketch {
+            items: [none; ENTRIES],
+            count: 0,
+            wide: false,
+        }
+    }
+
+    // One entry more.
+    pub fn push(self, k: Sketched) -> Sketch
+        requires { ⌜ self .count < 64 ⌝ }
+        ensures { λ r. ⌜ (r .count ≡ self .count + 1) × ((s t : List ℕ) (l : List Entry) (key : ℕ) (d : List Dot) (vs : List Value)
+            → Sketches s t l self → Draws s t key d vs k
+            → Sketches s t (l ++ (entryAs key d vs ∷ [])) r) ⌝ }
+    {
+        let mut out = self;
+        let n = out.count;
+        out.count = n + 1;
+        out.wide = out.wide | (VALUES < k.len);
+        if n < ENTRIES {
+            out.items[n] = k;
+            return out;
+        }
+        out
+    }
+}
+
+// What is left of an entry's own dots where what a clock has seen is cut.
+fn own_left(s: &[u8], e: Lain, by: Clock) -> Clock
+    requires { ⌜ ((x : Entry) × LiesAt (now s) x e) × Lawful (dotsOf by) ⌝ }
+    ensures { λ r. ⌜ ((x : Entry) → LiesAt (now (s .entry)) x e → r ≡ clockOf (cutDots (dotsOf by) (dotsIn x))) ⌝ }
+{
+    let dots = e.dots;
+    let from = dots.from * 16;
+    let to = dots.to * 16;
+    let marks = marks::cut_marks(&s[from..to], [true; DOTS], by);
+    marks::pick_clock(&s[from..to], marks)
+}
+
+// A value's source: what is left of its dots where what a clock has seen is cut.
+fn source_of(v: &[u8], second: bool, value: usize, from: usize, to: usize, gone: Clock) -> Source
+    requires { ⌜ ((length (now v) ≤ mapLongest) × ((from ≤ to)
+        × ((to ≤ from + dotLimit) × ((to * 16 ≤ length (now v)) × (value * 16 + 16 ≤ length (now v))))))
+        × (Lawful (runDots (between (now v) from to)) × Lawful (dotsOf gone)) ⌝ }
+    ensures { λ r. ⌜ ((r .second ≡ second) × ((r .value ≡ value) × ((r .from ≡ from) × (r .to ≡ to))))
+        × (picked (r .marks) (runDots (between (now (v .entry)) from to)) ≡ cutDots (dotsOf gone) (runDots (between (now (v .entry)) from to))) ⌝ }
+{
+    let start = from * 16;
+    let end = to * 16;
+    let marks = marks::cut_marks(&v[start..end], [true; DOTS], gone);
+    Source {
+        second,
+        value: value as u16,
+        from: from as u16,
+        to: to as u16,
+        marks,
+    }
+}
+
+// Those values of an entry that stand, each without what a clock has seen, behind what is drawn before.
+fn draw_values(
+    before: Sketched,
+    v: &[u8],
+    e: Lain,
+    second: bool,
+    stand: [bool; VALUES],
+    gone: Clock,
+) -> Sketched
+    requires { ⌜ (before .len ≤ valueLimit) × ((length (now v) ≤ mapLongest) × (((x : Entry) × LiesAt (now v) x e) × Lawful (dotsOf gone))) ⌝ }
+    ensures { λ r. ⌜ (r .len ≤ before .len + valueLimit)
+        × ((s t : List ℕ) (x : Entry) (key : ℕ) (d : List Dot) (l : List Value) → now (v .entry) ≡ cond second t s → LiesAt (now (v .entry)) x e
+        → Draws s t key d l before
+        → Draws s t key d (l ++ cutValues (dotsOf gone) (picked stand (valuesIn x))) r) ⌝ }
+{
+    let values = e.values;
+    let first = values.from;
+    let n = values.to - first;
+    let starts = e.starts;
+    let mut out = before;
+    let mut i: usize = 0;
+    while i < n {
+        let k = i;
+        i += 1;
+        if stand[k] {
+            let x = source_of(v, second, first + k, starts[k], starts[k + 1], gone);
+            out = out.add(x);
+        }
+    }
+    out
+}
+
+// What cuts an entry: a clock where its key is listed, or all are, and else nothing.
+fn cutter(all: bool, keys: Keys, key: u32, by: Clock) -> Clock
+    ensures { λ r. ⌜ r ≡ cond (all || listed (keysOf keys) key) by (clockOf []) ⌝ }
+{
+    let none = Clock::new();
+    if all | keys.contains(key) { by } else { none }
+}
+
+// The entries of a map, cut by a clock where their keys are listed, or all of them.
+fn draw_cut(s: &[u8], l: Layout, all: bool, keys: Keys, by: Clock) -> Sketch
+    requires { ⌜ Lies (now s) (readMap (now s) .map) l × ((length (now s) ≤ mapLongest) × Lawful (dotsOf by)) ⌝ }
+    ensures { λ r. ⌜ Sketches (now (s .entry)) (now (s .entry)) (sift stays (cutWhere all (keysOf keys) (dotsOf by)) (entriesIn (readMap (now (s .entry)) .map))) r ⌝ }
+{
+    let end = l.third;
+    let mut out = Sketch::new();
+    let mut x = Cursor {
+        own: l.second,
+        value: end,
+        dot: l.fourth,
+    };
+    while x.own < end {
+        let e = crate::walking::entry_at(s, l, x);
+        x = e.next;
+        let here = cutter(all, keys, e.key, by);
+        let left = own_left(s, e, here);
+        if !left.is_empty() {
+            let k = Sketched::new(e.key, left);
+            let d = draw_values(k, s, e, false, [true; VALUES], here);
+            out = out.push(d);
+        }
+    }
+    out
+}
+
+// What a reset leaves of the entries.
+pub fn draw_reset(s: &[u8], l: Layout, by: Clock) -> Sketch
+    requires { ⌜ Lies (now s) (readMap (now s) .map) l × ((length (now s) ≤ mapLongest) × Lawful (dotsOf by)) ⌝ }
+    ensures { λ r. ⌜ Sketches (now (s .entry)) (now (s .entry)) (sift stays (cutEntry (dotsOf by)) (entriesIn (readMap (now (s .entry)) .map))) r ⌝ }
+{
+    let none = Keys::new();
+    draw_cut(s, l, true, none, by)
+}
+
+// What a removal leaves of the entries.
+pub fn draw_removed(s: &[u8], l: Layout, r: Removal) -> Sketch
+    requires { ⌜ Lies (now s) (readMap (now s) .map) l × ((length (now s) ≤ mapLongest) × Lawful (underOf r)) ⌝ }
+    ensures { λ o. ⌜ Sketches (now (s .entry)) (now (s .entry)) (removeEntries r (entriesIn (readMap (now (s .entry)) .map))) o ⌝ }
+{
+    let keys = r.keys;
+    let clock = r.clock;
+    draw_cut(s, l, false, keys, clock)
+}

@@ -1,0 +1,136 @@
+// A sketch written: dots, values and values' dots, one section behind the other.
+ghost use mathlib.Core.Path.{_≡_};
+ghost use mathlib.Core.List.{map};
+ghost use Prim.Native.Nat.{_+_, _*_, _≤_};
+ghost use lib.ListN.{length};
+ghost use Rattle.register.specs.Values.{valueLimit};
+ghost use Rattle.parts.specs.Model.{entryLimit};
+ghost use Rattle.records.specs.Records.{bytesOf, Wrote};
+ghost use Rattle.mapimage.specs.MapImage.{flatFrom, valueRecords, entryRecords};
+ghost use Rattle.sketch.specs.Drawn.{valueIn, imageOf, valueAt, Placed, sourcesOf, drawn, Ready, itemsOf, AllReady, drawnAll, sectionsOf};
+use crate::Sketch;
+use crate::Sketched;
+use crate::Source;
+use parts::ENTRIES;
+use records::Record;
+use register::VALUES;
+
+impl Sketched {
+    pub fn size(self) -> usize
+        ensures { λ r. ⌜ (r ≡ length (sourcesOf self)) × (r ≤ valueLimit) ⌝ }
+    {
+        let n = self.len;
+        if n < VALUES { n } else { VALUES }
+    }
+}
+
+impl Sketch {
+    pub fn size(self) -> usize
+        ensures { λ r. ⌜ (r ≡ length (itemsOf self)) × (r ≤ entryLimit) ⌝ }
+    {
+        let n = self.count;
+        if n < ENTRIES { n } else { ENTRIES }
+    }
+}
+
+// Writes the record of kind 3 of a value in s, or what is left of its dots.
+fn write_in(s: &[u8], x: Source, kind: u8, key: u32, index: u8, out: &mut [u8], at: usize) -> usize
+    requires { ⌜ Placed (now s) x × (at + length (valueRecords kind key index (valueIn (now s) x)) * 16 ≤ length (now out)) ⌝ }
+    ensures { λ next. ⌜ Wrote at (bytesOf (valueRecords kind key index (valueIn (now (s .entry)) x))) (now (out .entry)) (now (out .exit)) next ⌝ }
+{
+    if kind == 3 {
+        let place = x.value as usize * 16;
+        let held = records::read_record(s, place);
+        let r = Record {
+            kind: 3,
+            index,
+            actor: 0,
+            key,
+            number: held.number,
+        };
+        return records::write_record(out, at, r);
+    }
+    let from = x.from as usize * 16;
+    let to = x.to as usize * 16;
+    let marks = x.marks;
+    marks::write_picked(out, at, 4, index, key, &s[from..to], marks)
+}
+
+// The same in the image that the source names.
+fn write_source(
+    s: &[u8],
+    t: &[u8],
+    x: Source,
+    kind: u8,
+    key: u32,
+    index: u8,
+    out: &mut [u8],
+    at: usize,
+) -> usize
+    requires { ⌜ Placed (imageOf (now s) (now t) x) x × (at + length (valueRecords kind key index (valueAt (now s) (now t) x)) * 16 ≤ length (now out)) ⌝ }
+    ensures { λ next. ⌜ Wrote at (bytesOf (valueRecords kind key index (valueAt (now (s .entry)) (now (t .entry)) x))) (now (out .entry)) (now (out .exit)) next ⌝ }
+{
+    if x.second {
+        return write_in(t, x, kind, key, index, out, at);
+    }
+    write_in(s, x, kind, key, index, out, at)
+}
+
+// The values of an entry, one after the other.
+fn write_sources(s: &[u8], t: &[u8], e: Sketched, kind: u8, out: &mut [u8], at: usize) -> usize
+    requires { ⌜ Ready (now s) (now t) e × (at + length (flatFrom (valueRecords kind (e .key)) 0 (map (valueAt (now s) (now t)) (sourcesOf e))) * 16 ≤ length (now out)) ⌝ }
+    ensures { λ next. ⌜ Wrote at (bytesOf (flatFrom (valueRecords kind (e .key)) 0 (map (valueAt (now (s .entry)) (now (t .entry))) (sourcesOf e)))) (now (out .entry)) (now (out .exit)) next ⌝ }
+{
+    let n = e.size();
+    let mut next = at;
+    let mut i: usize = 0;
+    while i < n {
+        let x = e.sources[i];
+        let index = i as u8;
+        i += 1;
+        next = write_source(s, t, x, kind, e.key, index, out, next);
+    }
+    next
+}
+
+// An entry's records of one kind.
+fn write_entry(s: &[u8], t: &[u8], e: Sketched, kind: u8, out: &mut [u8], at: usize) -> usize
+    requires { ⌜ Ready (now s) (now t) e × (at + length (entryRecords kind 0 (drawn (now s) (now t) e)) * 16 ≤ length (now out)) ⌝ }
+    ensures { λ next. ⌜ Wrote at (bytesOf (entryRecords kind 0 (drawn (now (s .entry)) (now (t .entry)) e))) (now (out .entry)) (now (out .exit)) next ⌝ }
+{
+    if kind == 2 {
+        let clock = e.clock;
+        return clockimage::write_dots(out, at, 2, 0, e.key, clock);
+    }
+    write_sources(s, t, e, kind, out, at)
+}
+
+// The records of one kind, entry after entry.
+fn write_section(s: &[u8], t: &[u8], sk: Sketch, kind: u8, out: &mut [u8], at: usize) -> usize
+    requires { ⌜ AllReady (now s) (now t) sk × (at + length (flatFrom (entryRecords kind) 0 (drawnAll (now s) (now t) sk)) * 16 ≤ length (now out)) ⌝ }
+    ensures { λ next. ⌜ Wrote at (bytesOf (flatFrom (entryRecords kind) 0 (drawnAll (now (s .entry)) (now (t .entry)) sk))) (now (out .entry)) (now (out .exit)) next ⌝ }
+{
+    let n = sk.size();
+    let mut next = at;
+    let mut i: usize = 0;
+    while i < n {
+        let e = sk.items[i];
+        i += 1;
+        next = write_entry(s, t, e, kind, out, next);
+    }
+    next
+}
+
+// All records of the entries: one section behind the other.
+pub fn write_sketch(s: &[u8], t: &[u8], sk: Sketch, out: &mut [u8], at: usize) -> usize
+    requires { ⌜ AllReady (now s) (now t) sk × (at + length (sectionsOf (drawnAll (now s) (now t) sk)) * 16 ≤ length (now out)) ⌝ }
+    ensures { λ next. ⌜ Wrote at (bytesOf (sectionsOf (drawnAll (now (s .entry)) (now (t .entry)) sk))) (now (out .entry)) (now (out .exit)) next ⌝ }
+{
+    let mut next = at;
+    let mut kind: u8 = 2;
+    while kind < 5 {
+        next = write_section(s, t, sk, kind, out, next);
+        kind += 1;
+    }
+    next
+}
