@@ -7,21 +7,21 @@ use memory::READER;
 pub extern "C" fn castribba_apply(map: &[u8], op: &[u8], out: &mut [u8]) -> u64
     ensures { λ r. ⌜ ApplyPromise (now (map .entry)) (now (op .entry)) (now (out .entry)) (now (out .exit)) r ⌝ }
 {
-    byvalue::apply(map, op, out)
+    changing::apply(map, op, out)
 }
 
 #[no_mangle]
 pub extern "C" fn castribba_merge(map: &[u8], other: &[u8], out: &mut [u8]) -> u64
     ensures { λ r. ⌜ MergePromise (now (map .entry)) (now (other .entry)) (now (out .entry)) (now (out .exit)) r ⌝ }
 {
-    byvalue::merge(map, other, out)
+    changing::merge(map, other, out)
 }
 
 #[no_mangle]
 pub extern "C" fn castribba_reset_remove(map: &[u8], clock: &[u8], out: &mut [u8]) -> u64
     ensures { λ r. ⌜ ResetRemovePromise (now (map .entry)) (now (clock .entry)) (now (out .entry)) (now (out .exit)) r ⌝ }
 {
-    byvalue::reset_remove(map, clock, out)
+    changing::reset_remove(map, clock, out)
 }
 
 #[no_mangle]

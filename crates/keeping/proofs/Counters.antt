@@ -1,11 +1,11 @@
 -- What a merge keeps, actor by actor; and a clock told by its counters at the actors of another.
 -- Assumes nothing.
-use mathlib.Core.Path.{_≡_, refl, ap, sym, _∙_}
-use mathlib.Core.Bool.{Bool, true, false}
-use mathlib.Core.List.{List, Memᴰ·cast}
-use Prim.Native.Nat.{ℕ, _<_}
+use mathlib.Core.Path.{_≡_, refl, ap, ap₂, sym, _∙_}
+use mathlib.Core.Bool.{Bool, true, false, cond}
+use mathlib.Core.List.{List, [], Memᴰ·cast}
+use Prim.Native.Nat.{ℕ, _<_, max}
 use native.Mathlib.Omega.{arith}
-use borrow.Author.Tests.{ltb-true, lt-ltb, eqb-true, eqb-false}
+use borrow.Author.Tests.{ltb-true, lt-ltb, eq-eqb, eqb-true, eqb-false}
 use lib.Dec.{eqb, ltb}
 use Rattle.lists.specs.Sift.{sift}
 use Rattle.lists.proofs.Orders.{by-strict, same-members}
@@ -13,12 +13,13 @@ use Rattle.lists.proofs.Ranks.{by-steady, level-by}
 use Rattle.lists.proofs.Sides.{sift-ascends}
 use Rattle.lists.proofs.Those.{sift-means, sift-holds}
 use Rattle.clock.specs.declared.Dot.{Dot}
-use Rattle.clock.specs.Dots.{counterIn, joinDots}
+use Rattle.clock.specs.Dots.{counterIn, cutDots, joinDots}
 use Rattle.clock.specs.Lawful.{Lawful}
-use Rattle.clock.proofs.Counters.{dotIn, counter-member, counter-holds}
+use Rattle.clock.proofs.Counters.{dotIn, counter-member, counter-holds, same-clock}
 use Rattle.clock.proofs.Cuts.{lawful-cut, lawful-common, counter-cut, counter-common}
-use Rattle.clock.proofs.Joins.{lawful-join, counter-join}
-use Rattle.clock.proofs.Covers.{covers-means}
+use Rattle.clock.proofs.Joins.{lawful-join, counter-join, join-again}
+use Rattle.clock.proofs.Covers.{covers-means, covers-refl, empty-covered}
+use Rattle.clock.proofs.Empties.{empty-means}
 use Rattle.parts.specs.Entries.{keepDots}
 use Rattle.parts.proofs.Wholes.{lawful-keep}
 use Rattle.parts.proofs.Fits.{covers-keep}
@@ -61,3 +62,21 @@ module _ (mine yours : List Dot) {x y : List Dot} (h : Lawful x) (k : Lawful y) 
   keep-by-counters =
       by-counters (lawful-keep mine yours h k) (lawful-join h k)
       (λ a e. omega (arith, covers-means (joinDots x y) (keepDots mine yours x y) (covers-keep mine yours h k) a))
+
+-- what two clocks share is kept where they are the same
+kept-same : (x m y : ℕ) → keptCounter x x m y ≡ x
+kept-same x m y = rw (eq-eqb x x refl) (go (ltb y x) (ltb m x))
+  where
+    go : (b c : Bool) → max (max x (cond b x 0)) (cond c x 0) ≡ x
+    go true true = omega arith
+    go true false = omega arith
+    go false true = omega arith
+    go false false = omega arith
+
+module _ (mine yours : List Dot) {x : List Dot} (h : Lawful x) where
+  pub keep-same : keepDots mine yours x x ≡ x
+  keep-same = same-clock (lawful-keep mine yours h h) h (λ a. kept-counter mine yours h h a ∙ kept-same (counterIn x a) (counterIn mine a) (counterIn yours a))
+
+  -- and nothing of them is deleted
+  pub gone-same : cutDots (keepDots mine yours x x) (joinDots x x) ≡ []
+  gone-same = ap₂ cutDots keep-same (join-again h) ∙ empty-means (cutDots x x) (empty-covered x x ∙ covers-refl h)

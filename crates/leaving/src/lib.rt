@@ -1,9 +1,10 @@
 // What is drawn of an entry where it lies: what is left of its dots, and of its values.
 ghost use mathlib.Core.Path.{_≡_};
-ghost use mathlib.Core.Bool.{cond};
+ghost use mathlib.Core.Bool.{true, cond};
 ghost use mathlib.Core.List.{List, _++_};
 ghost use Prim.Native.Nat.{ℕ, _+_, _*_, _≤_, _<_};
-ghost use lib.ListN.{length, getD};
+ghost use lib.ListN.{length, getD, take};
+ghost use Rattle.lists.specs.First.{some};
 ghost use Rattle.lists.specs.Sift.{sift};
 ghost use Rattle.clock.specs.declared.Dot.{Dot};
 ghost use Rattle.clock.specs.Dots.{dotLimit, dotsOf, clockOf, cutDots};
@@ -12,13 +13,13 @@ ghost use Rattle.register.specs.declared.Value.{Value};
 ghost use Rattle.register.specs.Values.{valueLimit, noValue, alive};
 ghost use Rattle.parts.specs.declared.Entry.{Entry};
 ghost use Rattle.parts.specs.declared.Removal.{Removal};
-ghost use Rattle.parts.specs.Model.{dotsIn, valuesIn};
+ghost use Rattle.parts.specs.Model.{waitingLimit, dotsIn, valuesIn};
 ghost use Rattle.mapimage.specs.MapImage.{mapLongest};
 ghost use Rattle.runs.specs.Run.{runDots};
 ghost use Rattle.marks.specs.Marks.{picked};
 ghost use Rattle.queued.specs.Queue.{cutsFor, Queued, Marked};
 ghost use Rattle.sketch.specs.Walking.{LiesAt};
-ghost use Rattle.leaving.specs.Left.{valueLeft};
+ghost use Rattle.leaving.specs.Left.{valueLeft, Untouched};
 ghost use Rattle.sketch.specs.Drawn.{valueIn, Placed, Draws};
 use clock::Clock;
 use clock::DOTS;
@@ -52,9 +53,37 @@ pub fn own_left(s: &[u8], x: Lain, by: Clock) -> Clock
     marks::pick_clock(&s[from..to], left)
 }
 
-// The marks of those dots of a run that a clock leaves, and their removals that list a key, and ours.
+// Whether a removal lists a key.
+fn any_listed(under: [bool; WAITING]) -> bool
+    ensures { λ r. ⌜ r ≡ some (λ b. b) (take waitingLimit under) ⌝ }
+{
+    let mut i: usize = 0;
+    while i < WAITING {
+        if under[i] {
+            return true;
+        }
+        i += 1;
+    }
+    false
+}
+
+// Whether values stay whole: a clock deletes nothing, and no removal lists their key.
+fn stay_whole(gone: Clock, theirs: [bool; WAITING], ours: [bool; WAITING]) -> bool
+    ensures { λ r. ⌜ (r ≡ true → Untouched gone theirs ours) ⌝ }
+{
+    if gone.is_empty() {
+        if any_listed(theirs) {
+            return false;
+        }
+        return !any_listed(ours);
+    }
+    false
+}
+
+// The marks of those dots of a run that a clock leaves, and their removals that list a key, and ours; all where nothing cuts.
 fn marks_left(
     run: &[u8],
+    whole: bool,
     gone: Clock,
     t: &[u8],
     ds: Queue,
@@ -63,10 +92,13 @@ fn marks_left(
     cs: Queue,
     ours: [bool; WAITING],
 ) -> [bool; DOTS]
-    requires { ⌜ ((length (now run) ≤ dotLimit * 16) × (Lawful (runDots (now run)) × Lawful (dotsOf gone))) × (((w : List Removal) × Queued (now t) ds w) × ((w : List Removal) × Queued (now s) cs w)) ⌝ }
+    requires { ⌜ ((length (now run) ≤ dotLimit * 16) × ((whole ≡ true → Untouched gone theirs ours) × (Lawful (runDots (now run)) × Lawful (dotsOf gone)))) × (((w : List Removal) × Queued (now t) ds w) × ((w : List Removal) × Queued (now s) cs w)) ⌝ }
     ensures { λ r. ⌜ ((v w : List Removal) (key : ℕ) → Queued (now (t .entry)) ds v → Queued (now (s .entry)) cs w → Marked v key theirs → Marked w key ours
         → picked r (runDots (now (run .entry))) ≡ cutsFor w key (cutsFor v key (cutDots (dotsOf gone) (runDots (now (run .entry)))))) ⌝ }
 {
+    if whole {
+        return [true; DOTS];
+    }
     let cut = marks::cut_marks(run, [true; DOTS], gone);
     let left = queued::cut_listed_marks(t, ds, theirs, run, cut);
     queued::cut_listed_marks(s, cs, ours, run, left)
@@ -78,6 +110,7 @@ fn source_of(
     x: Lain,
     k: usize,
     second: bool,
+    whole: bool,
     gone: Clock,
     t: &[u8],
     ds: Queue,
@@ -86,7 +119,7 @@ fn source_of(
     cs: Queue,
     ours: [bool; WAITING],
 ) -> Source
-    requires { ⌜ ((e : Entry) × LiesAt (now v) e x × (k < length (valuesIn e))) × ((Lawful (dotsOf gone) × (length (now v) ≤ mapLongest)) × (((w : List Removal) × Queued (now t) ds w) × ((w : List Removal) × Queued (now s) cs w))) ⌝ }
+    requires { ⌜ ((e : Entry) × LiesAt (now v) e x × (k < length (valuesIn e))) × (((whole ≡ true → Untouched gone theirs ours) × (Lawful (dotsOf gone) × (length (now v) ≤ mapLongest))) × (((w : List Removal) × Queued (now t) ds w) × ((w : List Removal) × Queued (now s) cs w))) ⌝ }
     ensures { λ r. ⌜ ((r .second ≡ second) × ((r .from ≤ r .to) × (r .to ≤ r .from + dotLimit))) × ((e : Entry) (u w : List Removal) → LiesAt (now (v .entry)) e x → k < length (valuesIn e) → Queued (now (t .entry)) ds u → Queued (now (s .entry)) cs w
         → Marked u (e .key) theirs → Marked w (e .key) ours → Placed (now (v .entry)) r × (valueIn (now (v .entry)) r ≡ valueLeft w u (e .key) (dotsOf gone) (getD (valuesIn e) k noValue))) ⌝ }
 {
@@ -95,7 +128,7 @@ fn source_of(
     let to = starts[k + 1];
     let i = from * 16;
     let j = to * 16;
-    let marks = marks_left(&v[i..j], gone, t, ds, theirs, s, cs, ours);
+    let marks = marks_left(&v[i..j], whole, gone, t, ds, theirs, s, cs, ours);
     let values = x.values;
     let place = values.from + k;
     Source {
@@ -126,6 +159,7 @@ pub fn draw_values(
     ensures { λ r. ⌜ (r .len ≤ before .len + valueLimit) × ((a b : List ℕ) (key : ℕ) (d : List Dot) (l : List Value) (e : Entry) (u w : List Removal) → cond second b a ≡ now (v .entry) → Draws a b key d l before → LiesAt (now (v .entry)) e x
         → Queued (now (t .entry)) ds u → Queued (now (s .entry)) cs w → Marked u (e .key) theirs → Marked w (e .key) ours → Draws a b key d (l ++ sift alive (valueLeft w u (e .key) (dotsOf gone)) (picked stand (valuesIn e))) r) ⌝ }
 {
+    let whole = stay_whole(gone, theirs, ours);
     let values = x.values;
     let n = values.to - values.from;
     let mut out = before;
@@ -134,8 +168,16 @@ pub fn draw_values(
         let k = i;
         i += 1;
         if stand[k] {
-            let one = source_of(v, x, k, second, gone, t, ds, theirs, s, cs, ours);
-            out = out.add(one);
+            let one = source_of(v, x, k, second, whole, gone, t, ds, theirs, s, cs, ours);
+            let marks = one.marks;
+            let many = (one.to - one.from) as usize;
+            if marks::some_marks(marks, many) {
+                let m = out.len;
+                out.len = m + 1;
+                if m < VALUES {
+                    out.sources[m] = one;
+                }
+            }
         }
     }
     out

@@ -31,19 +31,19 @@ module _ {s : List ℕ} {l : Layout} {x : Cursor} {es : List Entry} {r : Lain} (
   rising : Ascending (by (λ e. e .key)) (g .entry ∷ g .more)
   rising = subst (λ k. Ascending (by (λ e. e .key)) k) (g .parts) (h .own .rising)
 
-  its-more : (e : Entry) → e ∈ g .more → r .key < e .key
+  pub its-more : (e : Entry) → e ∈ g .more → r .key < e .key
   its-more e i = omega (arith, g .lies .key, ltb-true (g .entry .key) (e .key) (head-before rising e i))
 
   pub first-in : g .entry ∈ es
   first-in = rw (g .parts) (List·Memᴰ·head refl)
 
-  rest-in : (e : Entry) → e ∈ g .more → e ∈ es
+  pub rest-in : (e : Entry) → e ∈ g .more → e ∈ es
   rest-in e i = rw (g .parts) (List·Memᴰ·tail i)
 
-  its-least : (low : ℕ) → ((e : Entry) → e ∈ es → low ≤ e .key) → low ≤ r .key
+  pub its-least : (low : ℕ) → ((e : Entry) → e ∈ es → low ≤ e .key) → low ≤ r .key
   its-least low f = omega (arith, g .lies .key, f (g .entry) first-in)
 
-  its-fewer : length (g .more) < length es
+  pub its-fewer : length (g .more) < length es
   its-fewer = omega (arith, ap length (g .parts))
 
 module _ (s t : List ℕ) (l m : Layout) (mine yours : List Dot) (x y : Cursor) (es fs : List Entry) (h : Ahead s l x es) (k : Ahead t m y fs) where

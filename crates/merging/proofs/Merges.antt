@@ -69,7 +69,7 @@ ranks-back : (l : List ℕ) → map rank (map numberRecord l) ≡ l
 ranks-back [] = refl
 ranks-back (n ∷ l) = let e : n / 256 * 256 + n % 256 ≡ n = omega arith in rw (e, ranks-back l)
 
-keyed-all : {s : List ℕ} {m : Map} {l : Layout} → Lies s m l → Keyed s (l .sixth) (l .end) (keyNumber 0 0) (waitingIn m)
+pub keyed-all : {s : List ℕ} {m : Map} {l : Layout} → Lies s m l → Keyed s (l .sixth) (l .end) (keyNumber 0 0) (waitingIn m)
 keyed-all {s} {m} h = record {
   order = h .places .sixth;
   within = h .places .end;

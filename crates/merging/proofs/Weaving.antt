@@ -3,6 +3,7 @@
 use mathlib.Core.Path.{_≡_, refl, ap, sym, _∙_}
 use mathlib.Core.List.{List, [], _∷_, map, append-nil, List·Memᴰ·head}
 use Prim.Native.Nat.{_<_}
+use lib.ListN.{length}
 use native.Mathlib.Omega.{arith}
 use borrow.Author.Tests.{lt-ltb, le-ltb}
 use Rattle.lists.specs.First.{firstIn}
@@ -16,6 +17,11 @@ use Rattle.register.specs.Values.{outdone, oursLeft, mergeValues}
 use Rattle.parts.specs.declared.Entry.{Entry}
 use Rattle.parts.specs.Entries.{cutAlone, mergeBoth}
 use Rattle.merging.specs.Coming.{woven}
+
+-- a list that has no length
+pub nothing : {A : Type 0} (l : List A) → length l ≡ 0 → l ≡ []
+nothing [] e = refl
+nothing (x ∷ l) e = absurd (omega arith)
 
 module _ (mine yours : List Dot) where
   woven-nil : (l : List Entry) → woven mine yours l [] ≡ map (cutAlone yours) l

@@ -24,8 +24,10 @@ ghost use Rattle.leaving.specs.Left.{valueLeft};
 use crate::Coming;
 use clock::Clock;
 use layout::Laid;
+use parts::ENTRIES;
 use parts::WAITING;
 use queued::Queue;
+use register::VALUES;
 use sketch::Cursor;
 use sketch::Sketch;
 use sketch::Sketched;
@@ -105,8 +107,8 @@ fn draw_key(
     draw_both(bare, s, t, c, cs, ours, ds, theirs)
 }
 
-// The entries of a merge.
-pub fn draw_merged(s: &[u8], t: &[u8], a: Laid, b: Laid, cs: Queue, ds: Queue) -> Sketch
+// The entries of a merge, key by key.
+fn draw_keys(s: &[u8], t: &[u8], a: Laid, b: Laid, cs: Queue, ds: Queue) -> Sketch
     requires { ⌜ (LaidOut (now s) (readMap (now s) .map) a × LaidOut (now t) (readMap (now t) .map) b) × ((Queued (now s) cs (waitingIn (readMap (now s) .map)) × Queued (now t) ds (waitingIn (readMap (now t) .map)))
         × (((length (now s) ≤ mapLongest) × (length (now t) ≤ mapLongest)) × (length (joinDots (seenBy (readMap (now s) .map)) (seenBy (readMap (now t) .map))) ≤ dotLimit))) ⌝ }
     ensures { λ r. ⌜ Sketches (now (s .entry)) (now (t .entry)) (mergedEntries (readMap (now (s .entry)) .map) (readMap (now (t .entry)) .map)) r ⌝ }
@@ -147,8 +149,26 @@ pub fn draw_merged(s: &[u8], t: &[u8], a: Laid, b: Laid, cs: Queue, ds: Queue) -
         let k = draw_key(s, t, c, cs, under, ds, over);
         let left = k.clock;
         if !left.is_empty() {
-            out = out.push(k);
+            let n = out.count;
+            out.count = n + 1;
+            out.wide = out.wide | (VALUES < k.len);
+            if n < ENTRIES {
+                out.items[n] = k;
+            }
         }
     }
     out
+}
+
+// The entries of a merge. Called at two places, the drawing keeps a frame of its own, and what is written afterwards does not stand on top of it.
+pub fn draw_merged(s: &[u8], t: &[u8], a: Laid, b: Laid, cs: Queue, ds: Queue) -> Sketch
+    requires { ⌜ (LaidOut (now s) (readMap (now s) .map) a × LaidOut (now t) (readMap (now t) .map) b) × ((Queued (now s) cs (waitingIn (readMap (now s) .map)) × Queued (now t) ds (waitingIn (readMap (now t) .map)))
+        × (((length (now s) ≤ mapLongest) × (length (now t) ≤ mapLongest)) × (length (joinDots (seenBy (readMap (now s) .map)) (seenBy (readMap (now t) .map))) ≤ dotLimit))) ⌝ }
+    ensures { λ r. ⌜ Sketches (now (s .entry)) (now (t .entry)) (mergedEntries (readMap (now (s .entry)) .map) (readMap (now (t .entry)) .map)) r ⌝ }
+{
+    if cs.len + ds.len == 0 {
+        let none = Queue::none();
+        return draw_keys(s, t, a, b, none, none);
+    }
+    draw_keys(s, t, a, b, cs, ds)
 }

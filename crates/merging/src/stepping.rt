@@ -6,23 +6,26 @@ ghost use Prim.Native.Nat.{ℕ, _*_, _≤_, _<_};
 ghost use lib.Dec.{ltb};
 ghost use lib.ListN.{length};
 ghost use Rattle.lists.specs.Order.{_∈_};
-ghost use Rattle.clock.specs.Dots.{dotLimit, dotsOf, joinDots};
+ghost use Rattle.clock.specs.Dots.{dotLimit, dotsOf, clockOf, cutDots, joinDots};
 ghost use Rattle.clock.specs.Lawful.{Lawful};
 ghost use Rattle.parts.specs.declared.Entry.{Entry};
 ghost use Rattle.parts.specs.Model.{dotsIn, entryAs};
+ghost use Rattle.parts.specs.Entries.{keepDots};
 ghost use Rattle.records.specs.Records.{recordFrom};
 ghost use Rattle.sketch.specs.Walking.{Ahead, LiesAt};
 ghost use Rattle.merging.specs.Coming.{beyondKeys, Goes, Comes};
 use crate::Alone;
 use crate::Coming;
 use clock::Clock;
+use clock::Order;
+use keeping::Kept;
 use sketch::Cursor;
 use sketch::Lain;
 use walks::Layout;
 use walks::Span;
 
 // The key of the record at a place, above every key where there is none.
-fn head(s: &[u8], at: usize, end: usize) -> u64
+pub fn head(s: &[u8], at: usize, end: usize) -> u64
     requires { ⌜ end * 16 ≤ length (now s) ⌝ }
     ensures { λ r. ⌜ (r ≤ beyondKeys) × ((r < beyondKeys → (at < end) × (r ≡ recordFrom (now (s .entry)) (at * 16) .key)) × (r ≡ beyondKeys → end ≤ at)) ⌝ }
 {
@@ -34,7 +37,7 @@ fn head(s: &[u8], at: usize, end: usize) -> u64
 }
 
 // No entry of a key, before the one where a walk stands.
-fn none_at(key: u32, next: Cursor) -> Lain
+pub fn none_at(key: u32, next: Cursor) -> Lain
     ensures { λ r. ⌜ ((r .key ≡ key) × (r .next ≡ next)) × ((s : List ℕ) → LiesAt s (entryAs key [] []) r) ⌝ }
 {
     let none = Span { from: 0, to: 0 };
@@ -56,6 +59,51 @@ fn alone(s: &[u8], l: Layout, x: Cursor, other: Clock) -> Alone
     let keep = leaving::own_left(s, entry, other);
     let gone = other.cut(keep);
     Alone { entry, keep, gone }
+}
+
+fn is_equal(o: Order) -> bool
+    ensures { λ r. ⌜ (r ≡ true → o ≡ Order.Equal) ⌝ }
+{
+    match o {
+        Order::Equal => {
+            return true;
+        }
+        Order::Greater => {
+            return false;
+        }
+        Order::Less => {
+            return false;
+        }
+        Order::Concurrent => {
+            return false;
+        }
+    }
+}
+
+// What a merge keeps of the dots of two entries, and what it deletes: all and nothing where both have the same.
+fn meet(s: &[u8], e: Lain, t: &[u8], f: Lain, mine: Clock, yours: Clock) -> Kept
+    requires { ⌜ ((x y : Entry) × LiesAt (now s) x e × LiesAt (now t) y f × (length (joinDots (dotsIn x) (dotsIn y)) ≤ dotLimit)) × (Lawful (dotsOf mine) × Lawful (dotsOf yours)) ⌝ }
+    ensures { λ r. ⌜ ((x y : Entry) → LiesAt (now (s .entry)) x e → LiesAt (now (t .entry)) y f
+        → (r .keep ≡ clockOf (keepDots (dotsOf mine) (dotsOf yours) (dotsIn x) (dotsIn y)))
+        × (r .gone ≡ clockOf (cutDots (keepDots (dotsOf mine) (dotsOf yours) (dotsIn x) (dotsIn y)) (joinDots (dotsIn x) (dotsIn y))))) ⌝ }
+{
+    let ours = e.dots;
+    let theirs = f.dots;
+    let i = ours.from * 16;
+    let j = ours.to * 16;
+    let k = theirs.from * 16;
+    let l = theirs.to * 16;
+    let c = leaving::own_clock(s, e);
+    let o = standing::compare_runs(&s[i..j], &t[k..l]);
+    if is_equal(o) {
+        let none = Clock::new();
+        return Kept {
+            keep: c,
+            gone: none,
+        };
+    }
+    let d = leaving::own_clock(t, f);
+    keeping::keeps(c, d, mine, yours)
 }
 
 // What comes next of two maps' entries; `mine` and `yours` are the maps' clocks.
@@ -103,9 +151,7 @@ pub fn next(
     }
     let e = sketch::walking::entry_at(s, l, x);
     let f = sketch::walking::entry_at(t, m, y);
-    let c = leaving::own_clock(s, e);
-    let d = leaving::own_clock(t, f);
-    let kept = keeping::keeps(c, d, mine, yours);
+    let kept = meet(s, e, t, f, mine, yours);
     let keep = kept.keep;
     let gone = kept.gone;
     Coming {

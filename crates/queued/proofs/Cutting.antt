@@ -2,10 +2,9 @@
 -- Assumes nothing.
 use mathlib.Core.Path.{_≡_, ap, ap₂, _∙_}
 use mathlib.Core.Bool.{true, false, cond}
-use mathlib.Core.List.{List, [], map}
+use mathlib.Core.List.{List}
 use Prim.Native.Nat.{ℕ, _+_, _≤_, _<_}
-use native.Mathlib.Omega.{arith}
-use lib.ListN.{length, take, getD, length-map, List·getD-map}
+use lib.ListN.{length, take, getD}
 use lib.Seq.{take-length}
 use Rattle.lists.specs.Fold.{fold}
 use Rattle.lists.proofs.Folding.{Folding, folding-on, folding-end}
@@ -14,29 +13,9 @@ use Rattle.clock.specs.declared.Dot.{Dot}
 use Rattle.clock.specs.Dots.{dotsOf, clockOf, cutDots}
 use Rattle.clock.proofs.Packs.{dots-of}
 use Rattle.parts.specs.declared.Removal.{Removal}
-use Rattle.parts.specs.Model.{waitingLimit, noRemoval, underOf, listedIn}
+use Rattle.parts.specs.Model.{noRemoval, underOf, listedIn}
 use Rattle.parts.specs.Entries.{listed}
-use Rattle.maprecords.proofs.Packs.{get-pad}
-use Rattle.oneimage.proofs.Stands.{place-get, place-reads}
-use Rattle.queued.specs.declared.Clocks.{Clocks}
-use Rattle.queued.specs.Queue.{clocksAs, clocksFor, cutsFor, lists}
-
--- the clock at a place
-pub clocks-at : {cs : Clocks} (l : List (List Dot)) (i : ℕ) (z : Clock) → cs ≡ clocksAs l → i < length l → getD (cs .items) i z ≡ clockOf (getD l i [])
-clocks-at l i z e h =
-    let m = map clockOf l in
-    let n = length-map l clockOf in
-    rw e (get-pad (clockOf []) waitingLimit m i z (omega arith) ∙ place-reads z (place-get m i (clockOf []) (omega arith)) ∙ List·getD-map clockOf l i [])
-
--- and what is told of it
-pub told-at : {A : Type 0} {cs : Clocks} (l : List (List Dot)) (i : ℕ) (z : Clock) → cs ≡ clocksAs l → i < length l → (f : List Dot → A) {b : A} → b ≡ f (dotsOf (getD (cs .items) i z)) → b ≡ f (getD l i [])
-told-at l i z e h f t = t ∙ ap f (dots-of (getD l i []) (clocks-at l i z e h))
-
-pub clock-under : {cs : Clocks} (w : List Removal) (i : ℕ) (z : Clock) → cs ≡ clocksFor w → i < length w → getD (cs .items) i z ≡ clockOf (underOf (getD w i noRemoval))
-clock-under w i z e h = let n = length-map w underOf in clocks-at (map underOf w) i z e (omega arith) ∙ ap clockOf (List·getD-map underOf w i noRemoval)
-
-pub clocks-count : {cs : Clocks} (w : List Removal) → cs ≡ clocksFor w → cs .len ≡ length w
-clocks-count w e = ap (λ (x : Clocks). x .len) e ∙ length-map w underOf
+use Rattle.queued.specs.Queue.{cutsFor, lists}
 
 module _ (w : List Removal) (key : ℕ) where
   abbrev cut-by : List Dot → Removal → List Dot

@@ -3,10 +3,6 @@ pub mod Marking
 pub mod Taking
 pub mod Cutting
 pub mod Ran
-pub mod Seats
-pub mod Uniting
-pub mod Going
-pub mod Leaving
 pub mod Rowing
 pub mod Counting
 pub mod Starts

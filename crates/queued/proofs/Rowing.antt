@@ -18,11 +18,11 @@ use Rattle.lists.proofs.Rests.{drop-end}
 use Rattle.lists.proofs.Those.{those-same, those-none}
 use Rattle.scan.proofs.Eachs.{decide}
 use Rattle.parts.specs.declared.Removal.{Removal}
-use Rattle.parts.specs.Model.{waitingLimit, noRemoval}
+use Rattle.parts.specs.Model.{waitingLimit}
 use Rattle.records.specs.Records.{recordFrom, bytesOf, Wrote}
 use Rattle.records.proofs.RoundTrips.{by-fields}
 use Rattle.records.proofs.Writing.{Writing, write-start, write-room, write-on, write-end}
-use Rattle.mapimage.specs.MapImage.{flatFrom, waitingDots, keyNumber, keyNumbers, numberRecord, waitingKeys}
+use Rattle.mapimage.specs.MapImage.{flatFrom, keyNumber, keyNumbers, numberRecord, waitingKeys}
 use Rattle.mapimage.proofs.Sorts.{order-ascends, from-start}
 use Rattle.opimage.specs.OpImage.{keyRecord}
 use Rattle.oneimage.proofs.Stands.{place-get, place-reads}
@@ -283,12 +283,3 @@ module _ {s : List ℕ} {n : ℕ} {t : List ℕ} {m : ℕ} {w v result : List Re
 
     pub keys-end : {ours theirs : List ℕ} → Moves w v result ours theirs → length result ≤ waitingLimit → (ltb i n || ltb j m) ≡ false → Wrote at (bytesOf (waitingKeys result)) entry out next
     keys-end mv few f = write-end _ _ _ (k .writing) (ap (map numberRecord) (none-left (k .low) (k .first) (k .second) mv f few))
-
--- the dots of the next removal
-pub dots-next : (w : List Removal) (i : ℕ) → i < length w → flatFrom waitingDots i (drop i w) ≡ waitingDots i (getD w i noRemoval) ++ flatFrom waitingDots (i + 1) (drop (i + 1) w)
-unfolding flatFrom
-dots-next w i h = rw (drop-cons w i noRemoval h, add-one)
-
-pub dots-end : (w : List Removal) (i : ℕ) → length w ≤ i → flatFrom waitingDots i (drop i w) ≡ []
-unfolding flatFrom
-dots-end w i h = rw (drop-end w i h)

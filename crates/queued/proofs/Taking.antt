@@ -1,17 +1,15 @@
 -- The runs of waiting removals where they lie, one after the other, and their clocks.
 -- Assumes nothing.
 use mathlib.Core.Path.{_≡_, refl, ap, sym, _∙_}
-use mathlib.Core.List.{List, [], _∷_, _++_, map, map-append, append-nil, List·Memᴰ·head, Memᴰ·append-right, Memᴰ·of-map}
+use mathlib.Core.List.{List, [], _∷_, _++_, map, append-nil, List·Memᴰ·head, Memᴰ·append-right, Memᴰ·of-map}
 use Prim.Native.Nat.{ℕ, _+_, _*_, _-_, _≤_, _<_}
 use native.Mathlib.Omega.{arith}
 use lib.Dec.{eqb}
 use lib.ListN.{length, take, drop, getD, set, replicate, length-map, length-take}
-use lib.Seq.{append-snoc, getD-at, getD-set-same, getD-set-other, take-length, take-suc, length-take-le}
+use lib.Seq.{append-snoc, getD-at, getD-set-same, getD-set-other}
 use borrow.Author.Tests.{eqb-true, eqb-false}
-use native.Mathlib.Numerals.{add-one}
 use Rattle.lists.specs.Order.{_∈_}
-use Rattle.lists.proofs.Pads.{length-pad, push-pad, length-snoc}
-use Rattle.clock.specs.declared.Clock.{Clock}
+use Rattle.lists.proofs.Pads.{length-snoc}
 use Rattle.clock.specs.declared.Dot.{Dot}
 use Rattle.clock.specs.Dots.{dotLimit, clockOf}
 use Rattle.clock.specs.Lawful.{Lawful}
@@ -32,16 +30,7 @@ use Rattle.layout.specs.Whole.{Lies}
 use Rattle.layout.proofs.Found.{Cut, cut-at}
 use Rattle.walks.proofs.Loops.{length-part, slice-part, clock-between}
 use Rattle.scan.proofs.Eachs.{decide}
-use Rattle.queued.specs.declared.Clocks.{Clocks}
-use Rattle.queued.specs.Queue.{clocksAs, clocksFor, RunLies, Queued}
-
--- a clock stored behind the last
-pub clock-pushed : {cs : Clocks} (l : List (List Dot)) (d : List Dot) (c : Clock) (n : ℕ) → cs ≡ clocksAs l → c ≡ clockOf d → n ≡ length l → length l < waitingLimit
-    → _≡_ {A = Clocks} (record { items = set (cs .items) n c; len = n + 1 }) (clocksAs (l ++ (d ∷ [])))
-clock-pushed l d c n e f g h =
-    let m = length-map l clockOf in
-    let p = push-pad (clockOf []) waitingLimit (map clockOf l) c (omega arith) in
-    rw (e, length-snoc l d, map-append clockOf l (d ∷ []), ← f, ← p, m, g)
+use Rattle.queued.specs.Queue.{RunLies, Queued}
 
 -- what the limits say of an image's waiting removals
 pub record WaitingFits (s : List ℕ) (end : ℕ) (w : List Removal) : Type 0 where
@@ -149,30 +138,3 @@ module _ {s : List ℕ} {from to : ℕ} {d : List Dot} (r : RunLies s from to d)
 
   pub lying-short : length (take (to * 16 - from * 16) (drop (from * 16) s)) ≤ dotLimit * 16
   lying-short = let k = r .few in omega (arith, length-take (to * 16 - from * 16) (drop (from * 16) s))
-
--- some clocks are taken
-pub record Clocking (w : List Removal) (i : ℕ) (out : Clocks) : Type 0 where
-  pub packed : out ≡ clocksFor (take i w)
-
-module _ {w : List Removal} (few : length w ≤ waitingLimit) where
-  pub clocking-start : {out : Clocks} → out ≡ clocksFor [] → Clocking w 0 out
-  clocking-start e = record { packed = e }
-
-  module _ {i : ℕ} {out : Clocks} (k : Clocking w i out) (h : i < length w) where
-    pub clocking-room : length (out .items) ≡ waitingLimit
-    clocking-room =
-        let n = length-map (take i w) underOf in
-        let m = length-map (map underOf (take i w)) clockOf in
-        ap (λ (x : Clocks). length (x .items)) (k .packed) ∙ length-pad (clockOf []) waitingLimit (map clockOf (map underOf (take i w))) (omega (arith, length-take i w))
-
-    pub clocking-on : {c : Clock} → c ≡ clockOf (underOf (getD w i noRemoval)) → Clocking w (i + 1) (record { items = set (out .items) i c; len = i + 1 })
-    clocking-on {c} e =
-        let n = length-map (take i w) underOf in
-        let m = length-take-le i w (omega arith) in
-        record {
-          packed = clock-pushed (map underOf (take i w)) (underOf (getD w i noRemoval)) c i (k .packed) e (omega arith) (omega arith)
-              ∙ ap clocksAs (sym (map-append underOf (take i w) (getD w i noRemoval ∷ [])) ∙ ap (map underOf) (sym (rw (← add-one) at (take-suc w i noRemoval h))));
-        }
-
-  pub clocking-end : {i : ℕ} {out : Clocks} → Clocking w i out → i ≡ length w → out ≡ clocksFor w
-  clocking-end {i} k h = let e : take i w ≡ w = rw h (take-length w) in k .packed ∙ ap clocksFor e

@@ -1,16 +1,15 @@
--- The waiting removals of an image where they lie: their clocks, which of them list a key, and a clock cut by those that do.
+-- The waiting removals of an image where they lie: their runs of dots, which of them list a key, and a clock cut by those that do.
 -- Assumes nothing.
 use mathlib.Core.Path.{_≡_}
 use mathlib.Core.Bool.{Bool, false, cond}
-use mathlib.Core.List.{List, [], map}
+use mathlib.Core.List.{List, map}
 use Prim.Native.Nat.{ℕ, _+_, _*_, _-_, _≤_, _<_}
 use lib.Dec.{leb}
 use lib.ListN.{length, getD}
 use Rattle.lists.specs.Fold.{fold}
-use Rattle.lists.specs.Pad.{pad}
 use Rattle.lists.specs.Sift.{those}
 use Rattle.clock.specs.declared.Dot.{Dot}
-use Rattle.clock.specs.Dots.{dotLimit, clockOf, cutDots}
+use Rattle.clock.specs.Dots.{dotLimit, cutDots}
 use Rattle.clock.specs.Lawful.{Lawful}
 use Rattle.parts.specs.declared.Removal.{Removal}
 use Rattle.parts.specs.Model.{waitingLimit, noRemoval, underOf, listedIn}
@@ -20,16 +19,7 @@ use Rattle.clockimage.specs.Image.{dotOf}
 use Rattle.mapimage.specs.Sorted.{inOrder}
 use Rattle.mapimage.specs.MapImage.{flatFrom, keyNumber, keyNumbers}
 use Rattle.walks.specs.Walk.{part}
-use Rattle.queued.specs.declared.Clocks.{Clocks}
 use Rattle.queued.specs.declared.Queue.{Queue}
-
--- clocks one after the other
-abbrev pub clocksAs : List (List Dot) → Clocks
-clocksAs l = record { items = pad (clockOf []) waitingLimit (map clockOf l); len = length l }
-
--- the clocks of removals
-abbrev pub clocksFor : List Removal → Clocks
-clocksFor w = clocksAs (map underOf w)
 
 -- the dots of a clock stand from one place to another, within s
 pub record RunLies (s : List ℕ) (from to : ℕ) (d : List Dot) : Type 0 where

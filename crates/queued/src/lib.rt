@@ -1,6 +1,6 @@
 // The waiting removals of an image where they lie: their clocks, and what those that list a key leave of a clock.
 ghost use mathlib.Core.Path.{_≡_};
-ghost use mathlib.Core.List.{List, [], _∷_, _++_};
+ghost use mathlib.Core.List.{List, []};
 ghost use Prim.Native.Nat.{ℕ, _+_, _*_, _≤_, _<_};
 ghost use lib.ListN.{length, getD};
 ghost use Rattle.clock.specs.declared.Dot.{Dot};
@@ -15,9 +15,8 @@ ghost use Rattle.records.specs.Records.{recordFrom};
 ghost use Rattle.mapimage.specs.MapImage.{keyNumber};
 ghost use Rattle.maprecords.specs.Related.{readMap};
 ghost use Rattle.layout.specs.Whole.{Lies};
-ghost use Rattle.queued.specs.Queue.{clocksAs, clocksFor, Queued, cutsFor, Marked, Keyed};
+ghost use Rattle.queued.specs.Queue.{Queued, cutsFor, Marked, Keyed};
 
-pub mod planning;
 pub mod rows;
 
 use clock::Clock;
@@ -25,12 +24,6 @@ use clock::DOTS;
 use parts::WAITING;
 use walks::BY_INDEX;
 use walks::Layout;
-
-// The clocks of waiting removals.
-pub struct Clocks {
-    pub items: [Clock; WAITING],
-    pub len: usize,
-}
 
 // Where a queue's runs begin, and where the last ends.
 pub const STARTS: usize = 9;
@@ -59,44 +52,6 @@ pub struct Row {
 pub struct Counted {
     pub over: bool,
     pub total: usize,
-}
-
-// Clocks in order, or that they are too many.
-pub struct Gathering {
-    pub over: bool,
-    pub clocks: Clocks,
-}
-
-// The clocks of a result's waiting removals, or that they are too many; and for each removal of two lists its new place, WAITING where it goes.
-pub struct Plan {
-    pub over: bool,
-    pub clocks: Clocks,
-    pub ours: [u8; WAITING],
-    pub theirs: [u8; WAITING],
-}
-
-impl Clocks {
-    pub fn new() -> Clocks
-        ensures { λ r. ⌜ r ≡ clocksFor [] ⌝ }
-    {
-        let none = Clock::new();
-        Clocks {
-            items: [none; WAITING],
-            len: 0,
-        }
-    }
-
-    // One clock more behind the last.
-    fn push(self, c: Clock) -> Clocks
-        requires { ⌜ self .len < waitingLimit ⌝ }
-        ensures { λ o. ⌜ (o .len ≡ self .len + 1) × ((l : List (List Dot)) (d : List Dot) → self ≡ clocksAs l → c ≡ clockOf d → o ≡ clocksAs (l ++ (d ∷ []))) ⌝ }
-    {
-        let mut out = self;
-        let k = out.len;
-        out.items[k] = c;
-        out.len = k + 1;
-        out
-    }
 }
 
 impl Queue {
@@ -136,23 +91,6 @@ fn clock_at(s: &[u8], q: Queue, k: usize) -> Clock
     let from = q.starts[k] * 16;
     let to = q.starts[k + 1] * 16;
     runs::clock_of(&s[from..to])
-}
-
-// The clocks of the waiting removals of a queue.
-pub fn clocks_of(s: &[u8], q: Queue) -> Clocks
-    requires { ⌜ ((w : List Removal) × Queued (now s) q w) ⌝ }
-    ensures { λ r. ⌜ ((w : List Removal) → Queued (now (s .entry)) q w → r ≡ clocksFor w) ⌝ }
-{
-    let n = places(q.len);
-    let mut out = Clocks::new();
-    let mut i: usize = 0;
-    while i < n {
-        let clock = clock_at(s, q, i);
-        out.items[i] = clock;
-        i += 1;
-        out.len = i;
-    }
-    out
 }
 
 // Which waiting removals list a key; keys below it are passed.

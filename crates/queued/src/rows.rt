@@ -9,11 +9,10 @@ ghost use Rattle.lists.specs.First.{some};
 ghost use Rattle.parts.specs.declared.Removal.{Removal};
 ghost use Rattle.parts.specs.Model.{waitingLimit, overlong};
 ghost use Rattle.records.specs.Records.{recordFrom, bytesOf, Wrote};
-ghost use Rattle.mapimage.specs.MapImage.{flatFrom, waitingDots, keyNumber, waitingKeys};
-ghost use Rattle.queued.specs.Queue.{clocksFor, Keyed};
+ghost use Rattle.mapimage.specs.MapImage.{keyNumber, waitingKeys};
+ghost use Rattle.queued.specs.Queue.{Keyed};
 ghost use Rattle.queued.specs.Planned.{Sound, Moves};
 ghost use Rattle.queued.specs.Rowed.{Carried, RowLies, rowRecords, tally, keysAt};
-use crate::Clocks;
 use crate::Counted;
 use crate::Row;
 use parts::KEYS;
@@ -146,39 +145,6 @@ pub fn write_keys(
         next = write_row(out, next, r.key, under);
     }
     next
-}
-
-// Writes the dots of a result's waiting removals; answers the place behind them.
-pub fn write_clocks(out: &mut [u8], at: usize, cs: Clocks) -> usize
-    requires { ⌜ ((w : List Removal) × (length w ≤ waitingLimit) × (cs ≡ clocksFor w) × (at + length (flatFrom waitingDots 0 w) * 16 ≤ length (now out))) ⌝ }
-    ensures { λ next. ⌜ ((w : List Removal) → length w ≤ waitingLimit → cs ≡ clocksFor w → at + length (flatFrom waitingDots 0 w) * 16 ≤ length (now (out .entry))
-        → Wrote at (bytesOf (flatFrom waitingDots 0 w)) (now (out .entry)) (now (out .exit)) next) ⌝ }
-{
-    let n = crate::places(cs.len);
-    let mut next = at;
-    let mut i: usize = 0;
-    while i < n {
-        let c = cs.items[i];
-        let index = i as u8;
-        i += 1;
-        next = clockimage::write_dots(out, next, 5, index, 0, c);
-    }
-    next
-}
-
-// How many dots a result's waiting removals have.
-pub fn count_dots(cs: Clocks) -> usize
-    ensures { λ r. ⌜ ((w : List Removal) → length w ≤ waitingLimit → cs ≡ clocksFor w → r ≡ length (flatFrom waitingDots 0 w)) ⌝ }
-{
-    let n = crate::places(cs.len);
-    let mut total: usize = 0;
-    let mut i: usize = 0;
-    while i < n {
-        let c = cs.items[i];
-        i += 1;
-        total += c.size();
-    }
-    total
 }
 
 // How many marks are set.

@@ -1,4 +1,4 @@
-// The calls of castribba.h, by their number in the file.
+// The calls of castribba.h, by their number in the file, and behind them the plain form of the first three.
 use crate::file::BUFFER;
 use crate::file::Question;
 use clock::Clock;
@@ -81,8 +81,18 @@ fn ask_within(asked: Question, first: &[u8], second: &[u8], out: &mut [u8]) -> u
         14 => castribba::castribba_validate_merge_actor(first, second),
         15 => castribba::castribba_validate_merge_counter(first, second),
         16 => castribba::castribba_validate_merge_our_key(first, second),
-        _ => castribba::castribba_validate_merge_their_key(first, second),
+        17 => castribba::castribba_validate_merge_their_key(first, second),
+        19 => byvalue::apply(first, second, out),
+        20 => byvalue::merge(first, second, out),
+        _ => byvalue::reset_remove(first, second, out),
     }
+}
+
+// The same question to the plain form of a call that has one: 1 to 3.
+pub fn plainly(asked: Question) -> Question {
+    let mut plain = asked;
+    plain.call = asked.call % 4 + 18;
+    plain
 }
 
 // The call on as much of the three buffers as is its own.

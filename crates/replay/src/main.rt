@@ -1,10 +1,11 @@
-// Replays a sample of the oracle's answers: makes each call of the file on the file's images, and counts the answers that differ from the file's.
+// Replays a sample of the oracle's answers: makes each call of the file on the file's images, those that change a map also in their plain form, and counts the answers that differ from the file's.
 mod calls;
 mod file;
 mod tally;
 
 use crate::file::BUFFER;
 use crate::file::Question;
+use crate::tally::PLACES;
 use libc::STDIN_FILENO;
 
 // Every byte of an output buffer before a call.
@@ -40,16 +41,17 @@ fn agrees(
 fn replay(file: &[u8]) {
     let mut first = [0u8; BUFFER];
     let mut second = [0u8; BUFFER];
-    let mut cases = [0u64; 19];
-    let mut differences = [0u64; 19];
-    let mut first_case = [0u64; 19];
-    let mut numbers = [0u64; 19];
+    let mut cases = [0u64; PLACES];
+    let mut differences = [0u64; PLACES];
+    let mut first_case = [0u64; PLACES];
+    let mut numbers = [0u64; PLACES];
     let mut first_len = 0;
     let mut second_len = 0;
     let start = file::number(file, 0);
     let mut at = start.at;
     let end = start.value % 65536;
     for case in 0..end {
+        let name = case + 1;
         let asked = file::read_question(file, at);
         at = asked.at;
         if asked.fresh {
@@ -62,13 +64,21 @@ fn replay(file: &[u8]) {
         let mut wanted = [PAINT; BUFFER];
         let three = file::read_image(file, at, &mut wanted);
         at = three.at;
-        tally::count(&mut cases, asked.call);
         if tally::answers_number(asked.call) {
             tally::count(&mut numbers, asked.number);
         }
+        tally::count(&mut cases, asked.call);
         if !agrees(asked, &first, first_len, &second, second_len, &wanted) {
             tally::count(&mut differences, asked.call);
-            tally::note(&mut first_case, asked.call, case + 1);
+            tally::note(&mut first_case, asked.call, name);
+        }
+        if tally::has_plain_form(asked.call) {
+            let plain = calls::plainly(asked);
+            tally::count(&mut cases, plain.call);
+            if !agrees(plain, &first, first_len, &second, second_len, &wanted) {
+                tally::count(&mut differences, plain.call);
+                tally::note(&mut first_case, plain.call, name);
+            }
         }
     }
     tally::print_calls(&cases, &differences, &first_case);

@@ -2,6 +2,9 @@
 use libc::STDOUT_FILENO;
 use std::num::wrapping_add_u64;
 
+// One more than there are calls.
+pub const PLACES: usize = 22;
+
 pub fn say(text: &[u8]) {
     io::write_all(STDOUT_FILENO, text);
 }
@@ -29,7 +32,10 @@ fn say_name(call: usize) {
         15 => say(b"castribba_validate_merge_counter"),
         16 => say(b"castribba_validate_merge_our_key"),
         17 => say(b"castribba_validate_merge_their_key"),
-        _ => say(b"castribba_clock_advance"),
+        18 => say(b"castribba_clock_advance"),
+        19 => say(b"byvalue::apply"),
+        20 => say(b"byvalue::merge"),
+        _ => say(b"byvalue::reset_remove"),
     }
 }
 
@@ -41,14 +47,22 @@ pub fn answers_number(call: usize) -> bool {
     }
 }
 
-pub fn count(table: &mut [u64; 19], place: usize) {
-    let at = place % 19;
+// Whether a call also stands as a function on maps by value.
+pub fn has_plain_form(call: usize) -> bool {
+    match call {
+        1 | 2 | 3 => true,
+        _ => false,
+    }
+}
+
+pub fn count(table: &mut [u64; PLACES], place: usize) {
+    let at = place % PLACES;
     table[at] = wrapping_add_u64(table[at], 1);
 }
 
 // Keeps the first case that is noted at a place.
-pub fn note(table: &mut [u64; 19], place: usize, case: u64) {
-    let at = place % 19;
+pub fn note(table: &mut [u64; PLACES], place: usize, case: u64) {
+    let at = place % PLACES;
     if table[at] == 0 {
         table[at] = case;
     }
@@ -68,8 +82,8 @@ fn print_call(call: usize, cases: u64, differences: u64, first: u64) {
     say(b"\n");
 }
 
-pub fn print_calls(cases: &[u64; 19], differences: &[u64; 19], first: &[u64; 19]) {
-    for call in 1..19 {
+pub fn print_calls(cases: &[u64; PLACES], differences: &[u64; PLACES], first: &[u64; PLACES]) {
+    for call in 1..PLACES {
         print_call(call, cases[call], differences[call], first[call]);
     }
 }
@@ -82,7 +96,7 @@ fn print_number(number: u64, times: u64) {
     say(b" times\n");
 }
 
-pub fn print_numbers(numbers: &[u64; 19]) {
+pub fn print_numbers(numbers: &[u64; PLACES]) {
     for number in 0..13 {
         print_number(number as u64, numbers[number]);
     }

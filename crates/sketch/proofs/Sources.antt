@@ -1,12 +1,12 @@
 -- Sources and entries of a sketch, written one after the other.
 -- Assumes nothing.
-use mathlib.Core.Path.{_≡_, refl, ap, sym}
+use mathlib.Core.Path.{_≡_, refl, ap, sym, _∙_}
 use mathlib.Core.Bool.{Bool, true, false, cond}
-use mathlib.Core.List.{List, [], _∷_, _++_, map, append-nil}
+use mathlib.Core.List.{List, [], _∷_, _++_, map, append-nil, append-assoc}
 use Prim.Native.Nat.{ℕ, _+_, _*_, _-_, _≤_, _<_}
 use native.Mathlib.Omega.{arith}
 use lib.Dec.{eqb}
-use lib.ListN.{length, drop, length-take, length-map}
+use lib.ListN.{length, drop, getD, length-take, length-map}
 use borrow.Author.Tests.{eq-eqb, ne-eqb, eqb-true, eqb-false}
 use Rattle.lists.proofs.Orders.{apart}
 use Rattle.lists.proofs.Pads.{take-pad}
@@ -17,14 +17,16 @@ use Rattle.register.specs.Values.{valueLimit, noValue}
 use Rattle.parts.specs.declared.Entry.{Entry}
 use Rattle.records.specs.declared.Record.{Record}
 use Rattle.records.specs.Records.{recordFrom, bytesOf, Wrote, recordBytes}
-use Rattle.records.proofs.Writing.{wrote-one}
+use Rattle.records.proofs.Writing.{Writing, wrote-one}
 use Rattle.clockimage.specs.Image.{dotRecord, dotRecords}
 use Rattle.mapimage.specs.MapImage.{flatFrom, valueRecord, valueRecords, entryRecords}
+use Rattle.mapimage.proofs.Flats.{flat-on, flat-end}
 use Rattle.runs.specs.Run.{runDots}
 use Rattle.marks.specs.Marks.{picked}
 use Rattle.sketch.specs.declared.Source.{Source}
 use Rattle.sketch.specs.declared.Sketched.{Sketched}
-use Rattle.sketch.specs.Drawn.{between, valueIn, imageOf, valueAt, Placed, sourcesOf, drawn, sectionsOf}
+use Rattle.sketch.specs.declared.Sketch.{Sketch}
+use Rattle.sketch.specs.Drawn.{between, valueIn, imageOf, valueAt, Placed, sourcesOf, drawn, itemsOf, drawnAll, sectionsOf}
 
 -- what a read past the end of an array would give
 abbrev pub noSourceRead : Source
@@ -108,3 +110,33 @@ sections-on kind l a b =
 
 pub sections-end : (kind : ℕ) (l : List Entry) → kind ≡ 5 → sectionsFrom kind l ≡ []
 sections-end kind l e = rw e
+
+-- what is left to write in the section of a kind from a place on, and the sections behind it
+abbrev pub leftFrom : List ℕ → List ℕ → Sketch → ℕ → ℕ → List Record
+leftFrom s t sk kind i =
+    flatFrom (λ j x. entryRecords kind j (drawn s t x)) i (drop i (itemsOf sk)) ++ sectionsFrom (kind + 1) (drawnAll s t sk)
+
+module _ (s t : List ℕ) (sk : Sketch) (kind : ℕ) where
+  pub section-start : 2 ≤ kind → kind < 5 → sectionsFrom kind (drawnAll s t sk) ≡ leftFrom s t sk kind 0
+  section-start a b =
+      sections-on kind (drawnAll s t sk) a b
+      ∙ ap (λ k. k ++ sectionsFrom (kind + 1) (drawnAll s t sk)) (flat-map (entryRecords kind) (drawn s t) 0 (itemsOf sk))
+
+  module _ (i : ℕ) where
+    pub section-on : i < length (itemsOf sk)
+        → leftFrom s t sk kind i ≡ entryRecords kind i (drawn s t (getD (sk .items) i noSketchedRead)) ++ leftFrom s t sk kind (i + 1)
+    section-on h =
+        let f : ℕ → Sketched → List Record = λ j x. entryRecords kind j (drawn s t x) in
+        ap (λ k. k ++ sectionsFrom (kind + 1) (drawnAll s t sk)) (flat-on f (sk .items) (sk .count) i noSketchedRead h)
+        ∙ append-assoc (f i (getD (sk .items) i noSketchedRead)) _ _
+
+    pub section-end : length (itemsOf sk) ≤ i → leftFrom s t sk kind i ≡ sectionsFrom (kind + 1) (drawnAll s t sk)
+    section-end h =
+        ap (λ k. k ++ sectionsFrom (kind + 1) (drawnAll s t sk)) (flat-end (λ j x. entryRecords kind j (drawn s t x)) (itemsOf sk) i h)
+
+-- how far the sections are written: up to an entry of a kind
+pub record Sectioned (s t : List ℕ) (sk : Sketch) (kind i at : ℕ) (entry now : List ℕ) (next : ℕ) : Type 0 where
+  pub rest : List Record
+  pub wrote : Writing (sectionsOf (drawnAll s t sk)) rest at entry now next
+  pub inside : kind < 5 → rest ≡ leftFrom s t sk kind i
+  pub beyond : 5 ≤ kind → rest ≡ []

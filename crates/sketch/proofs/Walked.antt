@@ -34,17 +34,17 @@ use Rattle.sketch.specs.Walking.{Fit, Ahead, Steps}
 use Rattle.sketch.specs.Drawn.{Sketches}
 use Rattle.sketch.proofs.Stepping.{startOf, all-ahead}
 
--- some entries are drawn, and the rest lies ahead
+-- some entries are drawn, beside any second image, and the rest lies ahead
 pub record Walked (s : List ℕ) (l : Layout) (f : Entry → Entry) (es : List Entry) (x : Cursor) (sk : Sketch) : Type 0 where
   pub rest : List Entry
   pub ahead : Ahead s l x rest
   pub done : List Entry
-  pub holds : Sketches s s done sk
+  pub holds : (t : List ℕ) → Sketches s t done sk
   pub parts : sift stays f es ≡ done ++ sift stays f rest
   pub few : length done + length rest ≤ entryLimit
 
 module _ {s : List ℕ} {l : Layout} (f : Entry → Entry) where
-  pub walked-start : {m : Map} → Lies s m l → {sk : Sketch} → Sketches s s [] sk → Walked s l f (entriesIn m) (startOf l) sk
+  pub walked-start : {m : Map} → Lies s m l → {sk : Sketch} → ((t : List ℕ) → Sketches s t [] sk) → Walked s l f (entriesIn m) (startOf l) sk
   walked-start {m} h g = record {
     rest = entriesIn m;
     ahead = all-ahead h;
@@ -67,13 +67,13 @@ module _ {s : List ℕ} {l : Layout} (f : Entry → Entry) where
         few = let n = w .few in omega (arith, ap length (g .parts));
       }
 
-      pub walked-keep : stays (f (g .entry)) ≡ true → {next : Sketch} → Sketches s s (w .done ++ (f (g .entry) ∷ [])) next
-          → Walked s l f es (r .next) next
-      walked-keep t p = record {
+      pub walked-keep : stays (f (g .entry)) ≡ true → {one : Entry} → one ≡ f (g .entry) → {next : Sketch}
+          → ((t : List ℕ) → Sketches s t (w .done ++ (one ∷ [])) next) → Walked s l f es (r .next) next
+      walked-keep t e {next} p = record {
         rest = g .more;
         ahead = g .rest;
         done = w .done ++ (f (g .entry) ∷ []);
-        holds = p;
+        holds = λ other. subst (λ k. Sketches s other (w .done ++ (k ∷ [])) next) e (p other);
         parts =
             w .parts ∙ ap (λ k. w .done ++ sift stays f k) (g .parts) ∙ ap (λ k. w .done ++ k) (one-stays f (g .entry) (g .more) t)
             ∙ sym (append-snoc (w .done) (f (g .entry)) (sift stays f (g .more)));
@@ -81,13 +81,13 @@ module _ {s : List ℕ} {l : Layout} (f : Entry → Entry) where
       }
 
     pub walked-few : sk .count < 64
-    walked-few = let n = w .few in omega (arith, w .holds .count)
+    walked-few = let n = w .few in omega (arith, w .holds s .count)
 
-    pub walked-end : l .third ≤ x .own → Sketches s s (sift stays f es) sk
+    pub walked-end : l .third ≤ x .own → (t : List ℕ) → Sketches s t (sift stays f es) sk
     unfolding sift
-    walked-end n =
+    walked-end n t =
         let e = owned-end (w .rest) (w .ahead .own) n in
-        subst (λ k. Sketches s s k sk) (sym (w .parts ∙ ap (λ k. w .done ++ sift stays f k) e ∙ append-nil (w .done))) (w .holds)
+        subst (λ k. Sketches s t k sk) (sym (w .parts ∙ ap (λ k. w .done ++ sift stays f k) e ∙ append-nil (w .done))) (w .holds t)
 
 -- an entry cut by a clock, or by none
 module _ (by : Clock) (b : Bool) (here : Clock) (q : here ≡ cond b by (clockOf [])) where

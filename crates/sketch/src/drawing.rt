@@ -167,7 +167,15 @@ fn draw_values(
         i += 1;
         if stand[k] {
             let x = source_of(v, second, first + k, starts[k], starts[k + 1], gone);
-            out = out.add(x);
+            let marks = x.marks;
+            let many = (x.to - x.from) as usize;
+            if marks::some_marks(marks, many) {
+                let m = out.len;
+                out.len = m + 1;
+                if m < VALUES {
+                    out.sources[m] = x;
+                }
+            }
         }
     }
     out
@@ -184,7 +192,7 @@ fn cutter(all: bool, keys: Keys, key: u32, by: Clock) -> Clock
 // The entries of a map, cut by a clock where their keys are listed, or all of them.
 fn draw_cut(s: &[u8], l: Layout, all: bool, keys: Keys, by: Clock) -> Sketch
     requires { ⌜ Lies (now s) (readMap (now s) .map) l × ((length (now s) ≤ mapLongest) × Lawful (dotsOf by)) ⌝ }
-    ensures { λ r. ⌜ Sketches (now (s .entry)) (now (s .entry)) (sift stays (cutWhere all (keysOf keys) (dotsOf by)) (entriesIn (readMap (now (s .entry)) .map))) r ⌝ }
+    ensures { λ r. ⌜ ((t : List ℕ) → Sketches (now (s .entry)) t (sift stays (cutWhere all (keysOf keys) (dotsOf by)) (entriesIn (readMap (now (s .entry)) .map))) r) ⌝ }
 {
     let end = l.third;
     let mut out = Sketch::new();
@@ -201,7 +209,12 @@ fn draw_cut(s: &[u8], l: Layout, all: bool, keys: Keys, by: Clock) -> Sketch
         if !left.is_empty() {
             let k = Sketched::new(e.key, left);
             let d = draw_values(k, s, e, false, [true; VALUES], here);
-            out = out.push(d);
+            let n = out.count;
+            out.count = n + 1;
+            out.wide = out.wide | (VALUES < d.len);
+            if n < ENTRIES {
+                out.items[n] = d;
+            }
         }
     }
     out
@@ -210,7 +223,7 @@ fn draw_cut(s: &[u8], l: Layout, all: bool, keys: Keys, by: Clock) -> Sketch
 // What a reset leaves of the entries.
 pub fn draw_reset(s: &[u8], l: Layout, by: Clock) -> Sketch
     requires { ⌜ Lies (now s) (readMap (now s) .map) l × ((length (now s) ≤ mapLongest) × Lawful (dotsOf by)) ⌝ }
-    ensures { λ r. ⌜ Sketches (now (s .entry)) (now (s .entry)) (sift stays (cutEntry (dotsOf by)) (entriesIn (readMap (now (s .entry)) .map))) r ⌝ }
+    ensures { λ r. ⌜ ((t : List ℕ) → Sketches (now (s .entry)) t (sift stays (cutEntry (dotsOf by)) (entriesIn (readMap (now (s .entry)) .map))) r) ⌝ }
 {
     let none = Keys::new();
     draw_cut(s, l, true, none, by)
@@ -219,7 +232,7 @@ pub fn draw_reset(s: &[u8], l: Layout, by: Clock) -> Sketch
 // What a removal leaves of the entries.
 pub fn draw_removed(s: &[u8], l: Layout, r: Removal) -> Sketch
     requires { ⌜ Lies (now s) (readMap (now s) .map) l × ((length (now s) ≤ mapLongest) × Lawful (underOf r)) ⌝ }
-    ensures { λ o. ⌜ Sketches (now (s .entry)) (now (s .entry)) (removeEntries r (entriesIn (readMap (now (s .entry)) .map))) o ⌝ }
+    ensures { λ o. ⌜ ((t : List ℕ) → Sketches (now (s .entry)) t (removeEntries r (entriesIn (readMap (now (s .entry)) .map))) o) ⌝ }
 {
     let keys = r.keys;
     let clock = r.clock;

@@ -105,32 +105,24 @@ fn write_entry(s: &[u8], t: &[u8], e: Sketched, kind: u8, out: &mut [u8], at: us
     write_sources(s, t, e, kind, out, at)
 }
 
-// The records of one kind, entry after entry.
-fn write_section(s: &[u8], t: &[u8], sk: Sketch, kind: u8, out: &mut [u8], at: usize) -> usize
-    requires { ⌜ AllReady (now s) (now t) sk × (at + length (flatFrom (entryRecords kind) 0 (drawnAll (now s) (now t) sk)) * 16 ≤ length (now out)) ⌝ }
-    ensures { λ next. ⌜ Wrote at (bytesOf (flatFrom (entryRecords kind) 0 (drawnAll (now (s .entry)) (now (t .entry)) sk))) (now (out .entry)) (now (out .exit)) next ⌝ }
-{
-    let n = sk.size();
-    let mut next = at;
-    let mut i: usize = 0;
-    while i < n {
-        let e = sk.items[i];
-        i += 1;
-        next = write_entry(s, t, e, kind, out, next);
-    }
-    next
-}
-
-// All records of the entries: one section behind the other.
+// All records of the entries: one section behind the other. One loop, so that the sketch is copied for no section.
 pub fn write_sketch(s: &[u8], t: &[u8], sk: Sketch, out: &mut [u8], at: usize) -> usize
     requires { ⌜ AllReady (now s) (now t) sk × (at + length (sectionsOf (drawnAll (now s) (now t) sk)) * 16 ≤ length (now out)) ⌝ }
     ensures { λ next. ⌜ Wrote at (bytesOf (sectionsOf (drawnAll (now (s .entry)) (now (t .entry)) sk))) (now (out .entry)) (now (out .exit)) next ⌝ }
 {
+    let n = sk.size();
     let mut next = at;
     let mut kind: u8 = 2;
+    let mut i: usize = 0;
     while kind < 5 {
-        next = write_section(s, t, sk, kind, out, next);
-        kind += 1;
+        if i < n {
+            let e = sk.items[i];
+            i += 1;
+            next = write_entry(s, t, e, kind, out, next);
+        } else {
+            i = 0;
+            kind += 1;
+        }
     }
     next
 }

@@ -56,22 +56,34 @@ pub fn compare_runs(x: &[u8], y: &[u8]) -> Order
     let mut i: usize = 0;
     let mut j: usize = 0;
     while i < n && j < m {
-        if !(over | under) {
-            return Order::Concurrent;
-        }
         let d = marks::dot_at(x, i);
         let e = marks::dot_at(y, j);
         if d.actor < e.actor {
+            if !over {
+                return Order::Concurrent;
+            }
             under = false;
             i += 1;
         } else if e.actor < d.actor {
+            if !under {
+                return Order::Concurrent;
+            }
             over = false;
             j += 1;
         } else {
-            over = over & (e.counter <= d.counter);
-            under = under & (d.counter <= e.counter);
             i += 1;
             j += 1;
+            if d.counter < e.counter {
+                if !under {
+                    return Order::Concurrent;
+                }
+                over = false;
+            } else if e.counter < d.counter {
+                if !over {
+                    return Order::Concurrent;
+                }
+                under = false;
+            }
         }
     }
     outcome(over & (m <= j), under & (n <= i))

@@ -51,7 +51,7 @@ part-marks-left-end c =
 marks-left-requires : tie.Need-marks-left-requires
 marks-left-requires c κs =
     let p = c .before .before .before .before .before .pre in
-    ((value-short (p .0 .1) _ (p .0 .2), (value-lawful (p .0 .1) _ (p .0 .2), p .1 .0 .0)), p .1 .1)
+    ((value-short (p .0 .1) _ (p .0 .2), (p .1 .0 .0, (value-lawful (p .0 .1) _ (p .0 .2), p .1 .0 .1 .0))), p .1 .1)
 
 add-place : tie.Need-add-place
 add-place c =
@@ -61,30 +61,30 @@ add-place c =
     let b = f .inside in
     search needs
 
-cast-t30 : tie.Need-cast-t30
-cast-t30 c =
-    let p = c .before .before .before .before .before .before .before .before .pre in
-    let f = value-stands (p .0 .1) _ (p .0 .2) in
-    let a = f .place in
-    let b = f .inside in
-    let d = p .1 .0 .1 in
-    search needs
-
 cast-t31 : tie.Need-cast-t31
 cast-t31 c =
     let p = c .before .before .before .before .before .before .before .before .pre in
     let f = value-stands (p .0 .1) _ (p .0 .2) in
-    let a = f .order in
-    let b = f .run in
-    let d = p .1 .0 .1 in
+    let a = f .place in
+    let b = f .inside in
+    let d = p .1 .0 .1 .1 in
     search needs
 
 cast-t32 : tie.Need-cast-t32
 cast-t32 c =
     let p = c .before .before .before .before .before .before .before .before .pre in
     let f = value-stands (p .0 .1) _ (p .0 .2) in
+    let a = f .order in
     let b = f .run in
-    let d = p .1 .0 .1 in
+    let d = p .1 .0 .1 .1 in
+    search needs
+
+cast-t33 : tie.Need-cast-t33
+cast-t33 c =
+    let p = c .before .before .before .before .before .before .before .before .pre in
+    let f = value-stands (p .0 .1) _ (p .0 .2) in
+    let b = f .run in
+    let d = p .1 .0 .1 .1 in
     search needs
 
 returns : tie.Need-returns
@@ -118,7 +118,7 @@ source-of-spec =
     part-marks-left-end
     marks-left-requires
     add-place
-    cast-t30
     cast-t31
     cast-t32
+    cast-t33
     returns)

@@ -1,12 +1,8 @@
 -- `next` meets its contract: the lower key comes first, and an equal one from both sides. Assumes nothing.
-use mathlib.Core.Path.{_≡_, ap₂, _∙_}
+use mathlib.Core.Path.{_≡_}
 use Prim.Native.Nat.{_<_}
 use native.Mathlib.Omega.{arith}
 use borrow.Author.Needs.{needs}
-use Rattle.clock.specs.Dots.{dotsOf, clockOf, cutDots, joinDots}
-use Rattle.clock.proofs.Packs.{dots-of}
-use Rattle.parts.specs.Model.{dotsIn}
-use Rattle.parts.specs.Entries.{keepDots}
 use Rattle.merging.specs.Coming.{beyondKeys}
 use Rattle.merging.proofs.Fronts.{front-first, front-above, some-key}
 use Rattle.merging.proofs.Comings.{comes-ours, comes-theirs, comes-both, first-in}
@@ -71,44 +67,27 @@ entry-at-requires-2 c κs =
     let e = some-key (p .0) (z .head .ensures .0) (z .head .ensures .1 .1) (q .1 .1) (omega arith) in
     (q .1 .0 (omega (arith, e)) .0, (p .1 .1 .1, p .1 .1 .3))
 
-own-clock-requires : tie.Need-own-clock-requires
-own-clock-requires c κs =
+meet-requires : tie.Need-meet-requires
+meet-requires c κs =
     let p = c .before .before .before .before .before .before .before .before .pre in
     let g = c .before .entry-at .ensures (p .1 .1 .0) (p .1 .1 .2) in
-    (g .entry, g .lies)
-
-own-clock-requires-2 : tie.Need-own-clock-requires-2
-own-clock-requires-2 c κs =
-    let p = c .before .before .before .before .before .before .before .before .before .pre in
-    let g = c .before .entry-at2 .ensures (p .1 .1 .1) (p .1 .1 .3) in
-    (g .entry, g .lies)
-
-keeps-requires : tie.Need-keeps-requires
-keeps-requires c κs =
-    let p = c .before .before .before .before .before .before .before .before .before .before .pre in
-    let g = c .before .before .before .entry-at .ensures (p .1 .1 .0) (p .1 .1 .2) in
-    let i = c .before .before .entry-at2 .ensures (p .1 .1 .1) (p .1 .1 .3) in
-    let a = dots-of (dotsIn (g .entry)) (c .before .own-clock .ensures (g .entry) (g .lies)) in
-    let b = dots-of (dotsIn (i .entry)) (c .own-clock2 .ensures (i .entry) (i .lies)) in
-    ((rw a (g .lies .fit .clock), rw b (i .lies .fit .clock)), (p .1 .0, rw (a, b) (p .1 .1 .4 (g .entry) (i .entry) (first-in (p .1 .1 .2) g) (first-in (p .1 .1 .3) i))))
+    let i = c .entry-at2 .ensures (p .1 .1 .1) (p .1 .1 .3) in
+    ((g .entry, i .entry, g .lies, i .lies, p .1 .1 .4 (g .entry) (i .entry) (first-in (p .1 .1 .2) g) (first-in (p .1 .1 .3) i)), p .1 .0)
 
 returns-3 : tie.Need-returns-3
 returns-3 c = λ es fs h k.
     let o = c .before .before .before in
-    let z = o .before .before .before .before .before .before in
+    let z = c .before .before .before .before .before .before .before in
     let f = z .before .head .ensures in
     let q = z .head2 .ensures in
-    let g = o .before .before .before .entry-at .ensures es h in
-    let i = o .before .before .entry-at2 .ensures fs k in
-    let a = dots-of (dotsIn (g .entry)) (o .before .own-clock .ensures (g .entry) (g .lies)) in
-    let b = dots-of (dotsIn (i .entry)) (o .own-clock2 .ensures (i .entry) (i .lies)) in
-    let j = o .before .before .before .before in
+    let g = o .before .entry-at .ensures es h in
+    let i = o .entry-at2 .ensures fs k in
+    let j = o .before .before in
     let e : z .before .head .result ≡ z .head2 .result = omega (arith, j .if2 .left, j .before .if1 .left) in
     let low = some-key (z .before .before .before .before .pre .0) (f .0) (f .1 .1) (q .1 .1) e in
-    let r = c .before .before .keeps .ensures in
-    let v = z .before .before .before .before .args in
+    let r = c .before .before .meet .ensures (g .entry) (i .entry) (g .lies) (i .lies) in
     comes-both _ _ _ _ _ _ _ _ es fs h k g i (omega (arith, e, front-first h f low (g .entry) (g .more) (g .parts), front-first k q (omega (arith, low, e)) (i .entry) (i .more) (i .parts)))
-    (r .0 ∙ ap₂ (λ x y. clockOf (keepDots (dotsOf (v .mine)) (dotsOf (v .yours)) x y)) a b) (r .1 ∙ ap₂ (λ x y. clockOf (cutDots (keepDots (dotsOf (v .mine)) (dotsOf (v .yours)) x y) (joinDots x y))) a b)
+    (r .0) (r .1)
 
 pub next-spec : {M : Type 1} → statement M
 next-spec =
@@ -124,7 +103,5 @@ next-spec =
     returns-2
     entry-at-requires
     entry-at-requires-2
-    own-clock-requires
-    own-clock-requires-2
-    keeps-requires
+    meet-requires
     returns-3)

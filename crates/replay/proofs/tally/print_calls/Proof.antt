@@ -5,10 +5,10 @@ use Rattle.replay.proofs.tally.print_calls.Statement.{statement}
 use Rattle.replay.proofs.tally.print_calls.Tie as tie
 
 abbrev Inv-loop : tie.InvT-loop
-Inv-loop cases differences first call₀ call = call ≤ 19
+Inv-loop cases differences first call₀ call = call ≤ 22
 
 abbrev μ-loop : tie.MeasureT-loop
-μ-loop cases differences first call₀ call = 19 - call
+μ-loop cases differences first call₀ call = 22 - call
 
 pub print-calls-spec : {M : Type 1} → statement M
 print-calls-spec =

@@ -1,22 +1,25 @@
 -- `draw_cut` meets its contract: one entry after the other. Assumes nothing.
-use mathlib.Core.Path.{_≡_, refl, ap, sym, _∙_, subst}
+use mathlib.Core.Path.{_≡_, refl, ap, sym, _∙_}
 use mathlib.Core.Bool.{true, false, not, cond, _||_}
-use mathlib.Core.List.{[], _∷_, _++_}
-use Prim.Native.Nat.{_-_}
+use mathlib.Core.List.{[]}
+use Prim.Native.Nat.{_-_, _<_}
+use lib.ListN.{length, length-set}
 use native.Mathlib.Omega.{arith}
 use borrow.Author.Needs.{needs}
+use Rattle.lists.proofs.Pads.{unmapped}
 use Rattle.clock.specs.Dots.{dotsOf, clockOf, cutDots}
 use Rattle.parts.specs.Model.{keysOf, dotsIn}
 use Rattle.parts.specs.Entries.{stays, listed}
 use Rattle.map.specs.Model.{entriesIn}
 use Rattle.maprecords.specs.Related.{readMap}
-use Rattle.sketch.specs.Drawn.{Sketches, cutWhere}
+use Rattle.sketch.specs.Drawn.{cutWhere}
+use Rattle.sketch.proofs.Adding.{push-one, push-over}
 use Rattle.sketch.proofs.Walked.{Walked, walked-start, walked-skip, walked-keep, walked-few, walked-end, here-lawful, left-stays, left-entry}
 use Rattle.sketch.proofs.drawing.draw_cut.Statement.{statement}
 use Rattle.sketch.proofs.drawing.draw_cut.Tie as tie
 
 abbrev Inv-loop : tie.InvT-loop
-Inv-loop s l all keys by end out₀ x₀ out x = Walked s l (cutWhere all (keysOf keys) (dotsOf by)) (entriesIn (readMap s .map)) x out
+Inv-loop s l all keys by end out₀ x₀ out x = Walked s l (cutWhere all (keysOf keys) (dotsOf by)) (entriesIn (readMap s .map)) x out × (length (out .items) ≡ 16)
 
 abbrev μ-loop : tie.MeasureT-loop
 μ-loop s l all keys by end out₀ x₀ out x = end - x .own
@@ -24,16 +27,16 @@ abbrev μ-loop : tie.MeasureT-loop
 loop-holds : tie.Need-loop-holds Inv-loop μ-loop
 loop-holds c =
     let z = c .before .before in
-    walked-start (cutWhere (z .args .all) (keysOf (z .args .keys)) (dotsOf (z .args .by))) (z .pre .0) (c .new .ensures .1 _ _)
+    (walked-start (cutWhere (z .args .all) (keysOf (z .args .keys)) (dotsOf (z .args .by))) (z .pre .0) (c .new .ensures .1 _), search (needs, unmapped))
 
 entry-at-requires : tie.Need-entry-at-requires Inv-loop μ-loop
-entry-at-requires c κs = let w = c .before .before .loop .inv in (c .if1 .taken, (w .rest, w .ahead))
+entry-at-requires c κs = let w = c .before .before .loop .inv .0 in (c .if1 .taken, (w .rest, w .ahead))
 
 own-left-requires : tie.Need-own-left-requires Inv-loop μ-loop
 own-left-requires c κs =
     let s = c .before .before .before .before .before in
     let z = s .before .before .before in
-    let w = s .loop .inv in
+    let w = s .loop .inv .0 in
     let g = c .before .before .entry-at .ensures (w .rest) (w .ahead) in (
       (g .entry, g .lies),
       here-lawful (z .args .by) (z .args .all || listed (keysOf (z .args .keys)) (c .before .before .entry-at .result .key)) _
@@ -44,7 +47,7 @@ draw-values-requires : tie.Need-draw-values-requires Inv-loop μ-loop
 draw-values-requires c κs =
     let s = c .before .before .before .before .before .before .before .before .before in
     let z = s .before .before .before in
-    let w = s .loop .inv in
+    let w = s .loop .inv .0 in
     let o = c .before .before .before .before .before .before .entry-at in
     let g = o .ensures (w .rest) (w .ahead) in
     let n = c .new2 .ensures .0 in (
@@ -59,57 +62,87 @@ draw-values-requires c κs =
       ),
     )
 
-push-requires : tie.Need-push-requires Inv-loop μ-loop
-push-requires c κs =
+add-out : tie.Need-add-out Inv-loop μ-loop
+add-out c =
     let s = c .before .before .before .before .before .before .before .before .before .before in
     let z = s .before .before .before in
-    walked-few (cutWhere (z .args .all) (keysOf (z .args .keys)) (dotsOf (z .args .by))) (s .loop .inv)
+    let f = walked-few (cutWhere (z .args .all) (keysOf (z .args .keys)) (dotsOf (z .args .by))) (s .loop .inv .0) in
+    omega arith
+
+element-set-from-d : tie.Need-element-set-from-d Inv-loop μ-loop
+element-set-from-d c = let k = c .if3 .taken in omega (arith, c .before .before .before .before .before .before .before .before .before .before .before .before .loop .inv .1)
+
+-- less is left behind an entry
+less : (c : tie.After-entry-at Inv-loop μ-loop) → let s = c .before .before .before in
+    s .before .before .before .args .l .third - c .entry-at .result .next .own < s .before .before .before .args .l .third - s .loop .x .own
+less c =
+    let s = c .before .before .before in
+    let w = s .loop .inv .0 in
+    let g = c .entry-at .ensures (w .rest) (w .ahead) in
+    let k = g .onward in
+    let t = c .before .if1 .taken in
+    omega arith
 
 loop-less : tie.Need-loop-less Inv-loop μ-loop
-loop-less c =
-    let s = c .before .before .before .before .before .before .before .before .before .before .before in
-    let w = s .loop .inv in
-    let g = c .before .before .before .before .before .before .before .before .entry-at .ensures (w .rest) (w .ahead) in
-    let k = g .onward in
-    let t = c .before .before .before .before .before .before .before .before .before .if1 .taken in
-    omega arith
+loop-less c = less (c .before .before .before .before .before .before .before .before .before)
+
+loop-less-2 : tie.Need-loop-less-2 Inv-loop μ-loop
+loop-less-2 c = less (c .before .before .before .before .before .before .before .before .before)
+
+loop-less-3 : tie.Need-loop-less-3 Inv-loop μ-loop
+loop-less-3 c = less (c .before .before .before .before .before)
 
 loop-again : tie.Need-loop-again Inv-loop μ-loop
 loop-again c =
-    let s = c .before .before .before .before .before .before .before .before .before .before .before in
+    let s = c .before .before .before .before .before .before .before .before .before .before .before .before in
     let z = s .before .before .before in
     let a = z .args in
-    let w = s .loop .inv in
-    let o = c .before .before .before .before .before .before .before .before .entry-at in
+    let w = s .loop .inv .0 in
+    let o = c .before .before .before .before .before .before .before .before .before .entry-at in
     let g = o .ensures (w .rest) (w .ahead) in
     let f = cutWhere (a .all) (keysOf (a .keys)) (dotsOf (a .by)) in
-    let here = c .before .before .before .before .before .before .cutter in
+    let here = c .before .before .before .before .before .before .before .cutter in
     let q = here .ensures ∙ ap (λ n. cond (a .all || listed (keysOf (a .keys)) n) (a .by) (clockOf [])) (g .lies .key) in
     let b = a .all || listed (keysOf (a .keys)) (g .entry .key) in
-    let left = c .before .before .before .before .before .own-left .ensures (g .entry) (g .lies) in
+    let left = c .before .before .before .before .before .before .own-left .ensures (g .entry) (g .lies) in
     let d = cutDots (dotsOf (here .result)) (dotsIn (g .entry)) in
-    let t : stays (f (g .entry)) ≡ true = left-stays (a .by) b (here .result) q (g .lies .fit) left
-    ∙ ap not (sym (c .before .before .before .before .is-empty .ensures)) ∙ c .before .before .before .if2 .taken in
-    let v = c .before .draw-values .ensures .1 (a .s .now) (a .s .now) (g .entry) (o .result .key) d [] refl (g .lies)
-    (c .before .before .new2 .ensures .1 _ _ d left) in
-    let p = c .push .ensures .1 (a .s .now) (a .s .now) (w .done) (o .result .key) d _ (w .holds) v in
-    walked-keep f w g t (subst (λ e. Sketches (a .s .now) (a .s .now) (w .done ++ (e ∷ [])) (c .push .result))
-    (left-entry (a .by) b (here .result) q (g .lies .fit) (o .result .key) (g .lies .key)) p)
-
-loop-less-2 : tie.Need-loop-less-2 Inv-loop μ-loop
-loop-less-2 c =
-    let s = c .before .before .before .before .before .before .before .before in
-    let w = s .loop .inv in
-    let g = c .before .before .before .before .before .entry-at .ensures (w .rest) (w .ahead) in
-    let k = g .onward in
-    let t = c .before .before .before .before .before .before .if1 .taken in
-    omega arith
+    let t : stays (f (g .entry)) ≡ true = left-stays (a .by) b (here .result) q (g .lies .fit) left ∙ ap not (sym (c .before .before .before .before .before .is-empty .ensures))
+    ∙ c .before .before .before .before .if2 .taken in (
+      walked-keep f w g t (left-entry (a .by) b (here .result) q (g .lies .fit) (o .result .key) (g .lies .key)) (λ other.
+          let v = c .before .before .draw-values .ensures .1 (a .s .now) other (g .entry) (o .result .key) d [] refl (g .lies)
+          (c .before .before .before .new2 .ensures .1 _ _ d left) in
+          push-one (w .holds other) v (s .loop .inv .1) (c .if3 .taken)),
+      length-set (s .loop .out .items) (s .loop .out .count) (c .before .before .draw-values .result) ∙ s .loop .inv .1,
+    )
 
 loop-again-2 : tie.Need-loop-again-2 Inv-loop μ-loop
 loop-again-2 c =
+    let s = c .before .before .before .before .before .before .before .before .before .before .before .before in
+    let z = s .before .before .before in
+    let a = z .args in
+    let w = s .loop .inv .0 in
+    let o = c .before .before .before .before .before .before .before .before .before .entry-at in
+    let g = o .ensures (w .rest) (w .ahead) in
+    let f = cutWhere (a .all) (keysOf (a .keys)) (dotsOf (a .by)) in
+    let here = c .before .before .before .before .before .before .before .cutter in
+    let q = here .ensures ∙ ap (λ n. cond (a .all || listed (keysOf (a .keys)) n) (a .by) (clockOf [])) (g .lies .key) in
+    let b = a .all || listed (keysOf (a .keys)) (g .entry .key) in
+    let left = c .before .before .before .before .before .before .own-left .ensures (g .entry) (g .lies) in
+    let d = cutDots (dotsOf (here .result)) (dotsIn (g .entry)) in
+    let t : stays (f (g .entry)) ≡ true = left-stays (a .by) b (here .result) q (g .lies .fit) left ∙ ap not (sym (c .before .before .before .before .before .is-empty .ensures))
+    ∙ c .before .before .before .before .if2 .taken in (
+      walked-keep f w g t (left-entry (a .by) b (here .result) q (g .lies .fit) (o .result .key) (g .lies .key)) (λ other.
+          let v = c .before .before .draw-values .ensures .1 (a .s .now) other (g .entry) (o .result .key) d [] refl (g .lies)
+          (c .before .before .before .new2 .ensures .1 _ _ d left) in
+          push-over (w .holds other) v (omega arith)),
+      s .loop .inv .1,
+    )
+
+loop-again-3 : tie.Need-loop-again-3 Inv-loop μ-loop
+loop-again-3 c =
     let s = c .before .before .before .before .before .before .before .before in
     let a = s .before .before .before .args in
-    let w = s .loop .inv in
+    let w = s .loop .inv .0 in
     let g = c .before .before .before .before .before .entry-at .ensures (w .rest) (w .ahead) in
     let f = cutWhere (a .all) (keysOf (a .keys)) (dotsOf (a .by)) in
     let here = c .before .before .before .cutter in
@@ -118,12 +151,12 @@ loop-again-2 c =
     let left = c .before .before .own-left .ensures (g .entry) (g .lies) in
     let t : stays (f (g .entry)) ≡ false = left-stays (a .by) b (here .result) q (g .lies .fit) left ∙ ap not (sym (c .before .is-empty .ensures))
     ∙ c .if2 .left in
-    walked-skip f w g t
+    (walked-skip f w g t, s .loop .inv .1)
 
 returns : tie.Need-returns Inv-loop μ-loop
 returns c =
     let a = c .before .before .before .before .before .args in
-    walked-end (cutWhere (a .all) (keysOf (a .keys)) (dotsOf (a .by))) (c .before .before .loop .inv) (omega arith)
+    walked-end (cutWhere (a .all) (keysOf (a .keys)) (dotsOf (a .by))) (c .before .before .loop .inv .0) (omega arith)
 
 pub draw-cut-spec : {M : Type 1} → statement M
 draw-cut-spec =
@@ -139,9 +172,13 @@ draw-cut-spec =
     (λ c κs. search needs)
     (λ c κs. search needs)
     draw-values-requires
-    push-requires
+    add-out
+    (λ c. search needs)
+    element-set-from-d
     loop-less
     loop-again
     loop-less-2
     loop-again-2
+    loop-less-3
+    loop-again-3
     returns)

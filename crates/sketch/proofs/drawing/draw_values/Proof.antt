@@ -3,9 +3,10 @@ use mathlib.Core.Path.{_≡_, refl, ap, sym, _∙_}
 use mathlib.Core.Bool.{cond}
 use mathlib.Core.List.{List}
 use Prim.Native.Nat.{ℕ, _+_, _≤_, _<_, _-_}
-use lib.ListN.{length}
+use lib.ListN.{length, length-set}
 use native.Mathlib.Omega.{arith}
 use borrow.Author.Needs.{needs}
+use Rattle.lists.proofs.Pads.{unmapped}
 use Rattle.clock.specs.declared.Dot.{Dot}
 use Rattle.clock.specs.Dots.{dotsOf}
 use Rattle.register.specs.declared.Value.{Value}
@@ -16,6 +17,7 @@ use Rattle.walks.specs.declared.Span.{Span}
 use Rattle.sketch.specs.declared.Cursor.{Cursor}
 use Rattle.sketch.specs.Walking.{LiesAt}
 use Rattle.sketch.specs.Drawn.{valueAt, Draws}
+use Rattle.sketch.proofs.Adding.{add-none, add-one, add-over}
 use Rattle.sketch.proofs.Lying.{many-values}
 use Rattle.sketch.proofs.Valued.{Drawing, drawing-start, drawing-no, drawing-yes, drawing-end, source-asks, source-value}
 use Rattle.sketch.proofs.drawing.draw_values.Statement.{statement}
@@ -23,7 +25,7 @@ use Rattle.sketch.proofs.drawing.draw_values.Tie as tie
 
 abbrev Inv-loop : tie.InvT-loop
 Inv-loop v second gone stand first n starts out₀ i₀ out i =
-    ((i ≤ n) × ((n ≤ valueLimit) × ((out₀ .len ≤ valueLimit) × ((out .len ≤ out₀ .len + i) × (length stand ≡ 4)))))
+    ((i ≤ n) × ((n ≤ valueLimit) × ((out₀ .len ≤ valueLimit) × ((out .len ≤ out₀ .len + i) × ((length stand ≡ 4) × (length (out .sources) ≡ 4))))))
     × ((s t : List ℕ) (own : ℕ) (dots : Span) (end : ℕ) (next : Cursor) (x : Entry) (key : ℕ) (d : List Dot) (l : List Value) → v ≡ cond second t s
     → LiesAt v x (record { key = own; dots = dots; values = record { from = first; to = end }; starts = starts; next = next }) → end - first ≡ n
     → Draws s t key d l out₀ → Drawing s t key d l (dotsOf gone) stand (valuesIn x) i out)
@@ -45,7 +47,7 @@ loop-holds c =
           omega (arith, many-values h),
           (
             z .pre .0,
-            (omega arith, search needs),
+            (omega arith, (search needs, search (needs, unmapped))),
           ),
         ),
       ),
@@ -60,36 +62,83 @@ source-of-requires c κs =
     let h = z .pre .1 .1 .0 .1 in
     source-asks h (s .loop .i) (omega (arith, many-values h)) (dotsOf (z .args .gone)) (z .pre .1 .0) (z .pre .1 .1 .1)
 
-add-requires : tie.Need-add-requires Inv-loop μ-loop
-add-requires c κs =
-    let s = c .before .before .before in
+sub-many : tie.Need-sub-many Inv-loop μ-loop
+sub-many c =
+    let s = c .before .before .before .before .before in
     let z = s .before .before .before .before .before in
     let h = z .pre .1 .1 .0 .1 in
     let a = source-asks h (s .loop .i) (omega (arith, many-values h)) (dotsOf (z .args .gone)) (z .pre .1 .0) (z .pre .1 .1 .1) .0 .1 in
-    let b = c .source-of .ensures .0 .1 .1 in
-    (omega arith, (omega arith, omega arith))
+    let b = c .before .before .source-of .ensures .0 .1 .1 in
+    omega arith
+
+some-marks-requires : tie.Need-some-marks-requires Inv-loop μ-loop
+some-marks-requires c κs =
+    let s = c .before .before .before .before .before in
+    let z = s .before .before .before .before .before in
+    let h = z .pre .1 .1 .0 .1 in
+    let a = source-asks h (s .loop .i) (omega (arith, many-values h)) (dotsOf (z .args .gone)) (z .pre .1 .0) (z .pre .1 .1 .1) .0 .1 in
+    let b = c .before .before .source-of .ensures .0 .1 .1 in
+    omega arith
+
+element-set-from-x : tie.Need-element-set-from-x Inv-loop μ-loop
+element-set-from-x c = let k = c .if3 .taken in omega (arith, c .before .before .before .before .before .before .before .before .loop .inv .0 .1 .1 .1 .1 .1)
 
 loop-again : tie.Need-loop-again Inv-loop μ-loop
 loop-again c =
-    let s = c .before .before .before .before in
+    let s = c .before .before .before .before .before .before .before .before in
     let z = s .before .before .before .before .before in
-    let o = c .before .source-of in
+    let o = c .before .before .before .before .before .source-of in
     let long = s .loop .inv .0 .1 .1 .1 .1 in
     let v = s .loop .inv .0 in
-    let a : c .add .result .len ≤ s .loop .out .len + 1 = c .add .ensures .0 in
-    let few : c .add .result .len ≤ z .args .before .len + (s .loop .i + 1) = omega arith in (
-      (omega arith, (omega arith, (omega arith, (few, long)))),
+    let on = c .before .before .before .before .before .before .before .loop-test .taken in (
+      (omega (arith, on), (omega arith, (omega arith, (omega arith, (long .0, length-set (s .loop .out .sources) (s .loop .out .len) (o .result) ∙ long .1))))),
       λ u t own dots end next x key d l q h m g.
-          let k : s .loop .i < length (valuesIn x) = omega (arith, many-values h) in
+          let k : s .loop .i < length (valuesIn x) = omega (arith, on, many-values h) in
           let w = source-value h (s .loop .i) k u t (dotsOf (z .args .gone)) (o .result) (q
           ∙ ap (λ b. cond b t u) (sym (o .ensures .0 .0))) (o .ensures .0 .1) (o .ensures .1) in
           drawing-yes (dotsOf (z .args .gone)) (z .args .t5) (valuesIn x) (s .loop .inv .1 u t own dots end next x key d l q h m g) (omega arith) k
-          (c .before .before .if1 .taken)
-          (valueAt u t (o .result)) (w .0) _ (λ y r. c .add .ensures .1 u t key d y r (w .1)),
+          (c .before .before .before .before .before .before .if1 .taken)
+          (valueAt u t (o .result)) (w .0) _ (λ y r. add-one r (o .result) (w .1) (c .before .before .some-marks .ensures) (c .before .if2 .taken) (long .1) (c .if3 .taken)),
     )
 
 loop-again-2 : tie.Need-loop-again-2 Inv-loop μ-loop
 loop-again-2 c =
+    let s = c .before .before .before .before .before .before .before .before in
+    let z = s .before .before .before .before .before in
+    let o = c .before .before .before .before .before .source-of in
+    let long = s .loop .inv .0 .1 .1 .1 .1 in
+    let v = s .loop .inv .0 in
+    let on = c .before .before .before .before .before .before .before .loop-test .taken in (
+      (omega (arith, on), (omega arith, (omega arith, (omega arith, long)))),
+      λ u t own dots end next x key d l q h m g.
+          let k : s .loop .i < length (valuesIn x) = omega (arith, on, many-values h) in
+          let w = source-value h (s .loop .i) k u t (dotsOf (z .args .gone)) (o .result) (q
+          ∙ ap (λ b. cond b t u) (sym (o .ensures .0 .0))) (o .ensures .0 .1) (o .ensures .1) in
+          drawing-yes (dotsOf (z .args .gone)) (z .args .t5) (valuesIn x) (s .loop .inv .1 u t own dots end next x key d l q h m g) (omega arith) k
+          (c .before .before .before .before .before .before .if1 .taken)
+          (valueAt u t (o .result)) (w .0) _ (λ y r. add-over r (o .result) (w .1) (c .before .before .some-marks .ensures) (c .before .if2 .taken) (omega arith)),
+    )
+
+loop-again-3 : tie.Need-loop-again-3 Inv-loop μ-loop
+loop-again-3 c =
+    let s = c .before .before .before .before .before .before .before in
+    let z = s .before .before .before .before .before in
+    let o = c .before .before .before .before .source-of in
+    let long = s .loop .inv .0 .1 .1 .1 .1 in
+    let v = s .loop .inv .0 in
+    let on = c .before .before .before .before .before .before .loop-test .taken in (
+      (omega (arith, on), (omega arith, (omega arith, (omega arith, long)))),
+      λ u t own dots end next x key d l q h m g.
+          let k : s .loop .i < length (valuesIn x) = omega (arith, on, many-values h) in
+          let w = source-value h (s .loop .i) k u t (dotsOf (z .args .gone)) (o .result) (q
+          ∙ ap (λ b. cond b t u) (sym (o .ensures .0 .0))) (o .ensures .0 .1) (o .ensures .1) in
+          drawing-yes (dotsOf (z .args .gone)) (z .args .t5) (valuesIn x) (s .loop .inv .1 u t own dots end next x key d l q h m g) (omega arith) k
+          (c .before .before .before .before .before .if1 .taken)
+          (valueAt u t (o .result)) (w .0) _ (λ y r. add-none r (o .result) (w .1) (c .before .some-marks .ensures) (c .if2 .left)),
+    )
+
+loop-again-4 : tie.Need-loop-again-4 Inv-loop μ-loop
+loop-again-4 c =
     let s = c .before .before in
     let z = s .before .before .before .before .before in
     let long = s .loop .inv .0 .1 .1 .1 .1 in (
@@ -126,9 +175,18 @@ draw-values-spec =
     (λ c. search needs)
     (λ c. search needs)
     source-of-requires
-    add-requires
+    sub-many
+    (λ c. search needs)
+    some-marks-requires
+    (λ c. search needs)
+    (λ c. search needs)
+    element-set-from-x
     (λ c. search needs)
     loop-again
     (λ c. search needs)
     loop-again-2
+    (λ c. search needs)
+    loop-again-3
+    (λ c. search needs)
+    loop-again-4
     returns)

@@ -1,53 +1,100 @@
--- `write_sketch` meets its contract: one section behind the other. Assumes nothing.
-use mathlib.Core.Path.{refl}
+-- `write_sketch` meets its contract: one entry after the other, and one section behind the other. Assumes nothing.
+use mathlib.Core.Path.{refl, _∙_}
 use mathlib.Core.List.{[]}
-use Prim.Native.Nat.{_≤_, _-_}
+use Prim.Native.Nat.{_≤_, _<_, _-_, _+_, _*_}
+use lib.ListN.{length, getD}
 use native.Mathlib.Omega.{arith}
 use borrow.Author.Needs.{needs}
-use Rattle.records.proofs.Writing.{Writing, write-start, write-room, write-on, write-end}
-use Rattle.mapimage.specs.MapImage.{flatFrom, entryRecords}
-use Rattle.sketch.specs.Drawn.{drawnAll, sectionsOf}
-use Rattle.sketch.proofs.Sources.{sectionsFrom, sections-on, sections-end}
+use Rattle.lists.proofs.Rests.{in-list}
+use Rattle.records.proofs.Writing.{write-start, write-room, write-on, write-end}
+use Rattle.mapimage.specs.MapImage.{entryRecords}
+use Rattle.sketch.specs.Drawn.{drawn, itemsOf, drawnAll}
+use Rattle.sketch.proofs.Sources.{noSketchedRead, sections-end, leftFrom, section-start, section-on, section-end, Sectioned}
 use Rattle.sketch.proofs.writing.write_sketch.Statement.{statement}
 use Rattle.sketch.proofs.writing.write_sketch.Tie as tie
 
 abbrev Inv-loop : tie.InvT-loop
-Inv-loop s t sk out₀ at next₀ kind₀ out next kind = ((2 ≤ kind) × (kind ≤ 5)) × Writing (sectionsOf (drawnAll s t sk))
-    (sectionsFrom kind (drawnAll s t sk)) at out₀ out next
+Inv-loop s t out₀ at sk n next₀ kind₀ i₀ out next kind i = ((2 ≤ kind) × (kind ≤ 5)) × ((i ≤ n) × Sectioned s t sk kind i at out₀ out next)
 
+-- a section has at most sixteen entries
 abbrev μ-loop : tie.MeasureT-loop
-μ-loop s t sk out₀ at next₀ kind₀ out next kind = 5 - kind
+μ-loop s t out₀ at sk n next₀ kind₀ i₀ out next kind i = (5 - kind) * 17 + (n - i)
 
 loop-holds : tie.Need-loop-holds Inv-loop μ-loop
-loop-holds c = ((omega arith, omega arith), write-start _ _ _ (c .before .before .before .pre .1))
+loop-holds c =
+    let z = c .before .before .before .before in
+    let a = z .args in (
+      (omega arith, omega arith),
+      (
+        omega arith,
+        record {
+          rest = _;
+          wrote = write-start _ _ _ (z .pre .1);
+          inside = λ h. section-start (a .s .now) (a .t .now) (a .t3) 2 (omega arith) (omega arith);
+          beyond = λ h. absurd (omega arith);
+        },
+      ),
+    )
 
-write-section-requires : tie.Need-write-section-requires Inv-loop μ-loop
-write-section-requires c κs =
-    let s = c .before .before in
-    let z = s .before .before .before .before in
-    let l = drawnAll (z .args .s .now) (z .args .t .now) (z .args .sk) in (
-      z .pre .0,
-      write-room _ _ _ (flatFrom (entryRecords (s .loop .kind)) 0 l) _ (s .loop .inv .1)
-          (sections-on (s .loop .kind) l (omega arith) (omega arith)) .0,
+write-entry-requires : tie.Need-write-entry-requires Inv-loop μ-loop
+write-entry-requires c κs =
+    let s = c .before .before .before .before in
+    let z = s .before .before .before .before .before in
+    let a = z .args in
+    let g = s .loop .inv .1 .1 in
+    let k : s .loop .i < length (itemsOf (a .t3)) = omega (arith, s .before .size .ensures .0) in
+    let x = getD (a .t3 .items) (s .loop .i) noSketchedRead in (
+      z .pre .0 .each x (in-list (a .t3 .items) (a .t3 .count) (s .loop .i) noSketchedRead k),
+      write-room _ _ _ (entryRecords (s .loop .kind) (s .loop .i) (drawn (a .s .now) (a .t .now) x)) _ (g .wrote)
+          (g .inside (omega arith) ∙ section-on (a .s .now) (a .t .now) (a .t3) (s .loop .kind) (s .loop .i) k) .0,
     )
 
 loop-again : tie.Need-loop-again Inv-loop μ-loop
 loop-again c =
-    let s = c .before .before .before .before .before in
-    let a = s .before .before .before .before .args in
-    let l = drawnAll (a .s .now) (a .t .now) (a .sk) in (
+    let s = c .before .before .before .before .before .before .before in
+    let a = s .before .before .before .before .before .args in
+    let g = s .loop .inv .1 .1 in
+    let on : s .loop .kind < 5 = c .before .before .before .before .before .before .loop-test .taken in
+    let k : s .loop .i < length (itemsOf (a .t3)) = omega (arith, s .before .size .ensures .0, c .before .before .before .before .before .if1 .taken) in
+    let x = getD (a .t3 .items) (s .loop .i) noSketchedRead in (
       (omega arith, omega arith),
-      write-on _ _ _ (flatFrom (entryRecords (s .loop .kind)) 0 l) (s .loop .inv .1)
-          (sections-on (s .loop .kind) l (omega arith) (omega arith)) (c .before .before .write-section .ensures),
+      (
+        omega (arith, c .before .before .before .before .before .if1 .taken),
+        record {
+          rest = leftFrom (a .s .now) (a .t .now) (a .t3) (s .loop .kind) (s .loop .i + 1);
+          wrote = write-on _ _ _ (entryRecords (s .loop .kind) (s .loop .i) (drawn (a .s .now) (a .t .now) x)) (g .wrote)
+              (g .inside on ∙ section-on (a .s .now) (a .t .now) (a .t3) (s .loop .kind) (s .loop .i) k) (c .before .before .write-entry .ensures);
+          inside = λ h. refl;
+          beyond = λ h. absurd (omega (arith, on));
+        },
+      ),
+    )
+
+loop-again-2 : tie.Need-loop-again-2 Inv-loop μ-loop
+loop-again-2 c =
+    let s = c .before .before in
+    let a = s .before .before .before .before .before .args in
+    let g = s .loop .inv .1 .1 in
+    let on : s .loop .kind < 5 = c .before .loop-test .taken in
+    let l = drawnAll (a .s .now) (a .t .now) (a .t3) in
+    let e = g .inside on ∙ section-end (a .s .now) (a .t .now) (a .t3) (s .loop .kind) (s .loop .i) (omega (arith, s .before .size .ensures .0, c .if1 .left)) in (
+      (omega arith, omega arith),
+      (
+        omega arith,
+        record {
+          rest = g .rest;
+          wrote = g .wrote;
+          inside = λ h. e ∙ section-start (a .s .now) (a .t .now) (a .t3) (s .loop .kind + 1) (omega arith) h;
+          beyond = λ h. e ∙ sections-end (s .loop .kind + 1) l (omega arith);
+        },
+      ),
     )
 
 same-length : tie.Need-same-length Inv-loop μ-loop
-same-length c = write-room _ _ _ [] _ (c .before .loop .inv .1) refl .1
+same-length c = write-room _ _ _ [] _ (c .before .loop .inv .1 .1 .wrote) refl .1
 
 returns : tie.Need-returns Inv-loop μ-loop
-returns c =
-    let a = c .before .before .before .before .before .args in
-    write-end _ _ _ (c .before .loop .inv .1) (sections-end (c .before .loop .kind) (drawnAll (a .s .now) (a .t .now) (a .sk)) (omega arith))
+returns c = let g = c .before .loop .inv .1 .1 in write-end _ _ _ (g .wrote) (g .beyond (omega arith))
 
 pub write-sketch-spec : {M : Type 1} → statement M
 write-sketch-spec =
@@ -55,10 +102,16 @@ write-sketch-spec =
     (tie.spec
     Inv-loop
     μ-loop
+    (λ c κs. search needs)
     loop-holds
-    write-section-requires
     (λ c. search needs)
+    (λ c. search needs)
+    (λ c. search needs)
+    write-entry-requires
     (λ c. search needs)
     loop-again
+    (λ c. search needs)
+    (λ c. search needs)
+    loop-again-2
     same-length
     returns)

@@ -1,0 +1,4 @@
+pub mod Numbers
+pub mod Drafts
+pub mod Results
+pub mod Waits

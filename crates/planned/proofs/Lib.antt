@@ -1,0 +1,11 @@
+pub mod Seats
+pub mod Uniting
+pub mod Going
+pub mod Leaving
+pub mod Lefts
+pub mod Comparing
+pub mod Inserting
+pub mod Planning
+pub mod Gathering
+pub mod Joining
+pub mod Results

@@ -1,0 +1,5 @@
+pub mod Puts
+pub mod Nexts
+pub mod Lying
+pub mod Values
+pub mod Updates

@@ -1,0 +1,26 @@
+-- `draw_updated` meets its contract: where nothing waits, no removals lie anywhere. Assumes nothing.
+use mathlib.Core.Path.{sym, subst}
+use native.Mathlib.Omega.{arith}
+use borrow.Author.Needs.{needs}
+use Rattle.queued.specs.Queue.{Keyed, Queued}
+use Rattle.queued.proofs.Starts.{keyed-image, keyed-none}
+use Rattle.merging.proofs.Weaving.{nothing}
+use Rattle.updating.proofs.drawing.draw_updated.Statement.{statement}
+use Rattle.updating.proofs.drawing.draw_updated.Tie as tie
+
+draw-keys-requires : tie.Need-draw-keys-requires
+draw-keys-requires c κs =
+    let p = c .before .before .before .before .before .pre in
+    let n = p .0 .1 .count in
+    let k = c .before .if1 .taken in
+    ((p .0 .0, subst (Queued _ _) (sym (nothing _ (omega arith))) (c .none .ensures _)), (p .1 .0, (p .1 .1 .0, (p .1 .1 .1 .0, (p .1 .1 .1 .1, subst (Keyed _ _ _ _) (sym (nothing _ (omega arith))) (keyed-none _ 0 (omega arith)))))))
+
+draw-keys-requires-2 : tie.Need-draw-keys-requires-2
+draw-keys-requires-2 c κs =
+    let p = c .before .before .before .before .pre in
+    (p .0, (p .1 .0, (p .1 .1 .0, (p .1 .1 .1 .0, (p .1 .1 .1 .1, keyed-image (p .0 .0))))))
+
+pub draw-updated-spec : {M : Type 1} → statement M
+draw-updated-spec =
+    tie.close
+    (tie.spec (λ c κs. search needs) draw-keys-requires (λ c. search needs) draw-keys-requires-2 (λ c. search needs))
