@@ -1,6 +1,5 @@
-// A map image from standard input, printed a line a record: kind, index, actor, key and number; or only `refused N`.
+// A map image from a file, printed a line a record: kind, index, actor, key and number; or only `refused N`.
 use libc::STDERR_FILENO;
-use libc::STDIN_FILENO;
 use libc::STDOUT_FILENO;
 use mapimage::MAP_LONGEST;
 use records::Record;
@@ -40,20 +39,20 @@ fn show(map: &[u8]) {
     print_all(map);
 }
 
-// Whether the input has ended: a read that fails, as one that brings more, says that it has not.
-fn ended() -> bool {
+// Whether a file has ended: a read that fails, as one that brings more, says that it has not.
+fn ended(file: i32) -> bool {
     let mut more = [0u8; 1];
-    let got = libc::read(STDIN_FILENO, &mut more);
+    let got = libc::read(file, &mut more);
     got == 0
 }
 
-// One byte more than the longest image is read, so that a longer input is seen to be longer. An input whose end was not
+// One byte more than the longest image is read, so that a longer file is seen to be longer. A file whose end was not
 // reached is no image: nothing is printed of it, and standard error says so.
-pub fn run() {
+pub fn print_from(file: i32) {
     let mut space = [0u8; ROOM];
-    let n = io::read_full(STDIN_FILENO, &mut space);
+    let n = io::read_full(file, &mut space);
     if n < ROOM {
-        if !ended() {
+        if !ended(file) {
             io::write_all(
                 STDERR_FILENO,
                 b"mapdump: the input could not be read to its end\n",

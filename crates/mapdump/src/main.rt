@@ -1,4 +1,6 @@
-// Prints the map M of document 01, section "Twelve settled examples".
+// Prints a map image from standard input. Its stored run is the map M of document 01, section "Twelve settled examples".
+use libc::STDIN_FILENO;
+
 fn main() {
-    dump::run();
+    dump::print_from(STDIN_FILENO);
 }

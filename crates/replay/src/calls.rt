@@ -1,64 +1,11 @@
 // The calls of castribba.h, by their number in the file, and behind them the plain form of the first three.
-use crate::file::BUFFER;
-use crate::file::Question;
-use clock::Clock;
-use clock::Dot;
-use records::Record;
-
-fn dot(image: &[u8; BUFFER], place: usize) -> Dot {
-    let at = (place % 9) * 16;
-    let r = records::read_record(image, at);
-    Dot {
-        actor: r.actor,
-        counter: r.number,
-    }
-}
-
-fn put(out: &mut [u8; BUFFER], place: usize, d: Dot) {
-    let at = (place % 9) * 16;
-    let record = Record {
-        kind: 1,
-        index: 0,
-        actor: d.actor,
-        key: 0,
-        number: d.counter,
-    };
-    records::write_record(out, at, record);
-}
+use questions::BUFFER;
+use questions::Question;
 
 // What `castribba_clock_advance` stores back, by value: lending a local struct would be a proof by hand.
-// A lent clock is written as its eight places and, in a ninth record, its length.
 pub fn advance(asked: Question, lent: &[u8; BUFFER], out: &mut [u8; BUFFER]) -> u64 {
-    let dots = [
-        dot(lent, 0),
-        dot(lent, 1),
-        dot(lent, 2),
-        dot(lent, 3),
-        dot(lent, 4),
-        dot(lent, 5),
-        dot(lent, 6),
-        dot(lent, 7),
-    ];
-    let last = dot(lent, 8);
-    let given = Clock {
-        dots,
-        len: last.counter as usize,
-    };
-    let a = advance::advance(given, asked.actor, asked.value);
-    let after = a.clock;
-    put(out, 0, after.dots[0]);
-    put(out, 1, after.dots[1]);
-    put(out, 2, after.dots[2]);
-    put(out, 3, after.dots[3]);
-    put(out, 4, after.dots[4]);
-    put(out, 5, after.dots[5]);
-    put(out, 6, after.dots[6]);
-    put(out, 7, after.dots[7]);
-    let length = Dot {
-        actor: 0,
-        counter: after.len as u64,
-    };
-    put(out, 8, length);
+    let a = advance::advance(questions::lent_clock(lent), asked.actor, asked.value);
+    questions::write_lent_clock(out, a.clock);
     a.word
 }
 

@@ -1,24 +1,13 @@
 // Replays a sample of the oracle's answers: makes each call of the file on the file's images, those that change a map also in their plain form, and counts the answers that differ from the file's.
 mod calls;
-mod file;
-mod tally;
 
-use crate::file::BUFFER;
-use crate::file::Question;
-use crate::tally::PLACES;
 use libc::STDIN_FILENO;
+use questions::BUFFER;
+use questions::Question;
+use tally::PLACES;
 
 // Every byte of an output buffer before a call.
 const PAINT: u8 = 165;
-
-fn same(a: &[u8; BUFFER], b: &[u8; BUFFER]) -> bool {
-    for i in 0..BUFFER {
-        if a[i] != b[i] {
-            return false;
-        }
-    }
-    true
-}
 
 // One case: the call into a painted buffer, and whether the word and every byte of the buffer are as the file says.
 fn agrees(
@@ -35,7 +24,7 @@ fn agrees(
     } else {
         calls::ask(asked, first, first_len, second, second_len, &mut out)
     };
-    (word == asked.word) & same(&out, wanted)
+    (word == asked.word) & questions::same(&out, wanted)
 }
 
 fn replay(file: &[u8]) {
@@ -47,22 +36,22 @@ fn replay(file: &[u8]) {
     let mut numbers = [0u64; PLACES];
     let mut first_len = 0;
     let mut second_len = 0;
-    let start = file::number(file, 0);
+    let start = questions::number(file, 0);
     let mut at = start.at;
     let end = start.value % 65536;
     for case in 0..end {
         let name = case + 1;
-        let asked = file::read_question(file, at);
+        let asked = questions::read_question(file, at);
         at = asked.at;
         if asked.fresh {
-            let one = file::read_image(file, at, &mut first);
-            let two = file::read_image(file, one.at, &mut second);
+            let one = questions::read_image(file, at, &mut first);
+            let two = questions::read_image(file, one.at, &mut second);
             at = two.at;
             first_len = one.len;
             second_len = two.len;
         }
         let mut wanted = [PAINT; BUFFER];
-        let three = file::read_image(file, at, &mut wanted);
+        let three = questions::read_image(file, at, &mut wanted);
         at = three.at;
         if tally::answers_number(asked.call) {
             tally::count(&mut numbers, asked.number);
@@ -85,14 +74,6 @@ fn replay(file: &[u8]) {
     tally::print_numbers(&numbers);
 }
 
-fn print_file(file: &[u8]) {
-    tally::say(b"file of ");
-    tally::say_number(file.len() as u64);
-    tally::say(b" bytes, adler-32 ");
-    tally::say_number(file::sum(file));
-    tally::say(b"\n");
-}
-
 // The longest file.
 const LONGEST: usize = 524288;
 
@@ -101,5 +82,5 @@ fn main() {
     let mut space = [0u8; LONGEST + 1];
     let n = io::read_full(STDIN_FILENO, &mut space);
     replay(&space[..n]);
-    print_file(&space[..n]);
+    tally::print_file(n, questions::sum(&space[..n]));
 }

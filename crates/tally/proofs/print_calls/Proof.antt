@@ -1,19 +1,17 @@
--- `sum` stays within the file, and its two halves below 65521. Assumes nothing.
-use mathlib.Core.Path.{_≡_}
+-- `print_calls` stays within the tables. Assumes nothing.
 use Prim.Native.Nat.{_≤_, _-_}
-use lib.ListN.{length}
 use borrow.Author.Needs.{needs}
-use Rattle.replay.proofs.file.sum.Statement.{statement}
-use Rattle.replay.proofs.file.sum.Tie as tie
+use Rattle.tally.proofs.print_calls.Statement.{statement}
+use Rattle.tally.proofs.print_calls.Tie as tie
 
 abbrev Inv-loop : tie.InvT-loop
-Inv-loop file low₀ high₀ i₀ i-end low high i = (i-end ≡ length file) × (i ≤ i-end)
+Inv-loop cases differences first call₀ call = call ≤ 22
 
 abbrev μ-loop : tie.MeasureT-loop
-μ-loop file low₀ high₀ i₀ i-end low high i = i-end - i
+μ-loop cases differences first call₀ call = 22 - call
 
-pub sum-spec : {M : Type 1} → statement M
-sum-spec =
+pub print-calls-spec : {M : Type 1} → statement M
+print-calls-spec =
     tie.close
     (tie.spec
     Inv-loop
@@ -25,6 +23,7 @@ sum-spec =
     (λ c. search needs)
     (λ c. search needs)
     (λ c. search needs)
+    (λ c κs. search needs)
     (λ c. search needs)
     (λ c. search needs)
     (λ c. search needs)

@@ -1,8 +1,8 @@
 -- `print_numbers` stays within the table. Assumes nothing.
 use Prim.Native.Nat.{_≤_, _-_}
 use borrow.Author.Needs.{needs}
-use Rattle.replay.proofs.tally.print_numbers.Statement.{statement}
-use Rattle.replay.proofs.tally.print_numbers.Tie as tie
+use Rattle.tally.proofs.print_numbers.Statement.{statement}
+use Rattle.tally.proofs.print_numbers.Tie as tie
 
 abbrev Inv-loop : tie.InvT-loop
 Inv-loop numbers number₀ number = number ≤ 13

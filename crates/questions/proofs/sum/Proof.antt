@@ -1,17 +1,19 @@
--- `print_calls` stays within the tables. Assumes nothing.
+-- `sum` stays within the file, and its two halves below 65521. Assumes nothing.
+use mathlib.Core.Path.{_≡_}
 use Prim.Native.Nat.{_≤_, _-_}
+use lib.ListN.{length}
 use borrow.Author.Needs.{needs}
-use Rattle.replay.proofs.tally.print_calls.Statement.{statement}
-use Rattle.replay.proofs.tally.print_calls.Tie as tie
+use Rattle.questions.proofs.sum.Statement.{statement}
+use Rattle.questions.proofs.sum.Tie as tie
 
 abbrev Inv-loop : tie.InvT-loop
-Inv-loop cases differences first call₀ call = call ≤ 22
+Inv-loop file low₀ high₀ i₀ i-end low high i = (i-end ≡ length file) × (i ≤ i-end)
 
 abbrev μ-loop : tie.MeasureT-loop
-μ-loop cases differences first call₀ call = 22 - call
+μ-loop file low₀ high₀ i₀ i-end low high i = i-end - i
 
-pub print-calls-spec : {M : Type 1} → statement M
-print-calls-spec =
+pub sum-spec : {M : Type 1} → statement M
+sum-spec =
     tie.close
     (tie.spec
     Inv-loop
@@ -23,7 +25,6 @@ print-calls-spec =
     (λ c. search needs)
     (λ c. search needs)
     (λ c. search needs)
-    (λ c κs. search needs)
     (λ c. search needs)
     (λ c. search needs)
     (λ c. search needs)

@@ -1,4 +1,6 @@
-// The file of cases: decimal numbers in a fixed order, and between them whatever helps a reader.
+// The file of cases that replay makes: decimal numbers in a fixed order, and between them whatever helps a reader.
+use clock::Clock;
+use clock::Dot;
 use records::Record;
 use std::num::wrapping_add_u64;
 
@@ -122,6 +124,72 @@ pub fn read_image(file: &[u8], from: usize, into: &mut [u8; BUFFER]) -> Extent {
         }
     }
     Extent { len, at }
+}
+
+// Whether two buffers hold the same bytes.
+pub fn same(a: &[u8; BUFFER], b: &[u8; BUFFER]) -> bool {
+    for i in 0..BUFFER {
+        if a[i] != b[i] {
+            return false;
+        }
+    }
+    true
+}
+
+fn dot(image: &[u8; BUFFER], place: usize) -> Dot {
+    let at = (place % 9) * 16;
+    let r = records::read_record(image, at);
+    Dot {
+        actor: r.actor,
+        counter: r.number,
+    }
+}
+
+fn put(out: &mut [u8; BUFFER], place: usize, d: Dot) {
+    let at = (place % 9) * 16;
+    let record = Record {
+        kind: 1,
+        index: 0,
+        actor: d.actor,
+        key: 0,
+        number: d.counter,
+    };
+    records::write_record(out, at, record);
+}
+
+// A lent clock is written as its eight places and, in a ninth record, its length.
+pub fn lent_clock(image: &[u8; BUFFER]) -> Clock {
+    let dots = [
+        dot(image, 0),
+        dot(image, 1),
+        dot(image, 2),
+        dot(image, 3),
+        dot(image, 4),
+        dot(image, 5),
+        dot(image, 6),
+        dot(image, 7),
+    ];
+    let last = dot(image, 8);
+    Clock {
+        dots,
+        len: last.counter as usize,
+    }
+}
+
+pub fn write_lent_clock(out: &mut [u8; BUFFER], clock: Clock) {
+    put(out, 0, clock.dots[0]);
+    put(out, 1, clock.dots[1]);
+    put(out, 2, clock.dots[2]);
+    put(out, 3, clock.dots[3]);
+    put(out, 4, clock.dots[4]);
+    put(out, 5, clock.dots[5]);
+    put(out, 6, clock.dots[6]);
+    put(out, 7, clock.dots[7]);
+    let length = Dot {
+        actor: 0,
+        counter: clock.len as u64,
+    };
+    put(out, 8, length);
 }
 
 fn wide(x: u8) -> u64 {

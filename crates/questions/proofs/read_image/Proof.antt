@@ -1,8 +1,8 @@
 -- `read_image` writes its records within the buffer. Assumes nothing.
 use Prim.Native.Nat.{_≤_, _-_}
 use borrow.Author.Needs.{needs}
-use Rattle.replay.proofs.file.read_image.Statement.{statement}
-use Rattle.replay.proofs.file.read_image.Tie as tie
+use Rattle.questions.proofs.read_image.Statement.{statement}
+use Rattle.questions.proofs.read_image.Tie as tie
 
 abbrev Inv-loop : tie.InvT-loop
 Inv-loop file from into₀ len at₀ i₀ into at i = i ≤ 916

@@ -2,8 +2,8 @@
 use Prim.Native.Nat.{_-_}
 use lib.ListN.{length}
 use borrow.Author.Needs.{needs}
-use Rattle.replay.proofs.file.number.Statement.{statement}
-use Rattle.replay.proofs.file.number.Tie as tie
+use Rattle.questions.proofs.number.Statement.{statement}
+use Rattle.questions.proofs.number.Tie as tie
 
 abbrev Inv-loop : tie.InvT-loop
 Inv-loop file from value₀ begun₀ at₀ value begun at = Unit {0}

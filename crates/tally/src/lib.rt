@@ -1,15 +1,15 @@
-// What is counted, in tables with a place for each call (from 1) or for each number (from 0), and how it is printed.
+// What replay counts, in tables with a place for each call (from 1) or for each number (from 0), and how it is printed.
 use libc::STDOUT_FILENO;
 use std::num::wrapping_add_u64;
 
 // One more than there are calls.
 pub const PLACES: usize = 22;
 
-pub fn say(text: &[u8]) {
+fn say(text: &[u8]) {
     io::write_all(STDOUT_FILENO, text);
 }
 
-pub fn say_number(x: u64) {
+fn say_number(x: u64) {
     io::print_decimal(STDOUT_FILENO, x);
 }
 
@@ -100,4 +100,13 @@ pub fn print_numbers(numbers: &[u64; PLACES]) {
     for number in 0..13 {
         print_number(number as u64, numbers[number]);
     }
+}
+
+// The file that was replayed: its length in bytes, and its sum.
+pub fn print_file(bytes: usize, sum: u64) {
+    say(b"file of ");
+    say_number(bytes as u64);
+    say(b" bytes, adler-32 ");
+    say_number(sum);
+    say(b"\n");
 }

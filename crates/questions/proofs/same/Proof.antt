@@ -1,8 +1,8 @@
 -- `same` stays within the buffers. Assumes nothing.
 use Prim.Native.Nat.{_≤_, _-_}
 use borrow.Author.Needs.{needs}
-use Rattle.replay.proofs.same.Statement.{statement}
-use Rattle.replay.proofs.same.Tie as tie
+use Rattle.questions.proofs.same.Statement.{statement}
+use Rattle.questions.proofs.same.Tie as tie
 
 abbrev Inv-loop : tie.InvT-loop
 Inv-loop a b i₀ i = i ≤ 14656
