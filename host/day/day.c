@@ -130,18 +130,28 @@ static void replace(map *m, uint64_t word, const map *fresh)
 
 static map fresh; /* an output must not overlap an input */
 
-static void deliver(map *to, const operation *op)
+/* Answers how many dots the operation took from the entries. */
+static uint64_t deliver(map *to, const operation *op)
 {
+    uint64_t taken = castribba_apply_deleted(to->bytes, to->len, op->bytes, op->len,
+                                             sizeof fresh.bytes);
     replace(to, castribba_apply(to->bytes, to->len, op->bytes, op->len, fresh.bytes,
                                 sizeof fresh.bytes), &fresh);
+    return taken;
 }
 
 static void deliver_again(map *to, const operation *op)
 {
     static map before;
     before = *to;
-    deliver(to, op);
+    check(deliver(to, op) == 0, "an operation delivered twice took something");
     check(same(to, &before), "an operation delivered twice changed the map");
+}
+
+static void show_taken(const char *party, uint64_t taken, uint64_t expected)
+{
+    check(taken == expected, "another number of dots was taken");
+    printf("  %-10s %" PRIu64 " dots were taken from the entries\n", party, taken);
 }
 
 static void merge(map *into, const map *other)
@@ -168,10 +178,13 @@ static void send_map(const char *sender, const map *from, map *to)
     printf("  %-10s sends %zu bytes, in %d pieces of at most %d\n", sender, to->len, pieces, MAILBOX);
 }
 
-static void reset(map *m, const uint8_t *clock, size_t clock_length)
+static uint64_t reset(map *m, const uint8_t *clock, size_t clock_length)
 {
+    uint64_t taken = castribba_reset_remove_deleted(m->bytes, m->len, clock, clock_length,
+                                                    sizeof fresh.bytes);
     replace(m, castribba_reset_remove(m->bytes, m->len, clock, clock_length, fresh.bytes,
                                       sizeof fresh.bytes), &fresh);
+    return taken;
 }
 
 /* A party picks an image for a bay: makes the operation, and is the first to apply it. */
@@ -184,12 +197,12 @@ static void pick(map *m, uint16_t actor, uint32_t bay, uint64_t image, operation
     deliver(m, op);
 }
 
-static void withdraw(map *m, uint32_t bay, operation *op)
+static uint64_t withdraw(map *m, uint32_t bay, operation *op)
 {
     uint64_t word = castribba_rm_get(m->bytes, m->len, bay, op->bytes, sizeof op->bytes);
     check(CASTRIBBA_NUMBER(word) == 0, "a removal was not made");
     op->len = CASTRIBBA_LENGTH(word);
-    deliver(m, op);
+    return deliver(m, op);
 }
 
 static uint64_t count(const map *m)
@@ -277,19 +290,19 @@ static void removal_comes_first(void)
     begin("6. Drive A picks 44 for bay 5, the controller hears of it and withdraws the setting.");
     pick(&drive_a, DRIVE_A, BAY_5, 44, &update);
     deliver(&controller, &update);
-    withdraw(&controller, BAY_5, &removal);
+    show_taken("controller", withdraw(&controller, BAY_5, &removal), 2);
     check_withdrawn(&controller, BAY_5);
     show_all();
 
     begin("7. At drive B the removal arrives before the update that it removes: it waits.");
-    deliver(&drive_b, &removal);
+    show_taken("drive B", deliver(&drive_b, &removal), 2);
     check_withdrawn(&drive_b, BAY_5);
     check(!same(&drive_b, &controller), "the removal was to wait");
     show("drive B", &drive_b);
 
     begin("8. The update arrives, late: the waiting removal meets it, and bay 5 stays withdrawn.");
-    deliver(&drive_b, &update);
-    deliver(&drive_a, &removal);
+    show_taken("drive B", deliver(&drive_b, &update), 0);
+    show_taken("drive A", deliver(&drive_a, &removal), 2);
     check(same(&drive_a, &controller) && same(&drive_b, &controller), "the parties differ");
     deliver_again(&drive_a, &update);
     deliver_again(&drive_b, &update);
@@ -405,9 +418,9 @@ static void handed_on(void)
     begin("16. The sled is handed on: what the console has seen is reset, what is newer stays.");
     seen = controller;
     pick(&drive_b, DRIVE_B, BAY_6, 63, &newer);
-    reset(&controller, seen.bytes, clock_len(&seen));
-    reset(&drive_a, seen.bytes, clock_len(&seen));
-    reset(&drive_b, seen.bytes, clock_len(&seen));
+    show_taken("controller", reset(&controller, seen.bytes, clock_len(&seen)), 3);
+    show_taken("drive A", reset(&drive_a, seen.bytes, clock_len(&seen)), 3);
+    show_taken("drive B", reset(&drive_b, seen.bytes, clock_len(&seen)), 2);
     check(controller.len == 0 && drive_a.len == 0, "the empty map has no bytes");
     check(count(&drive_b) == 1, "one bay was to stay set");
     check_boots(&drive_b, BAY_6, 63);

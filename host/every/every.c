@@ -38,6 +38,10 @@ static void changing(void)
 {
     gives("apply", castribba_apply(IMAGE(M), IMAGE(REMOVAL), OUT), IMAGE(ONLY_CLOCK));
     refuses("apply, a bad kind", castribba_apply(IMAGE(M), IMAGE(BAD_KIND), OUT), 1);
+    is("apply_deleted", castribba_apply_deleted(IMAGE(M), IMAGE(REMOVAL), sizeof ONLY_CLOCK), 1);
+    is("apply_deleted, a short buffer",
+       castribba_apply_deleted(IMAGE(M), IMAGE(REMOVAL), sizeof ONLY_CLOCK - 1), 0);
+    is("apply_deleted, an update", castribba_apply_deleted(IMAGE(M), IMAGE(UPDATE), sizeof out), 0);
     gives("merge", castribba_merge(IMAGE(ONLY_CLOCK), IMAGE(OTHER_CLOCK), OUT),
           IMAGE(BOTH_CLOCKS));
     refuses("merge, related records", castribba_merge(IMAGE(M), IMAGE(OUTSIDE_CLOCK), OUT), 3);
@@ -45,6 +49,11 @@ static void changing(void)
           IMAGE(ONLY_CLOCK));
     refuses("reset_remove, a clock too long",
             castribba_reset_remove(IMAGE(M), TOO_LONG, CASTRIBBA_LONGEST_CLOCK + 1, OUT), 2);
+    is("reset_remove_deleted", castribba_reset_remove_deleted(IMAGE(M), IMAGE(ONLY_CLOCK), 0), 1);
+    is("reset_remove_deleted, a short buffer",
+       castribba_reset_remove_deleted(IMAGE(M), IMAGE(OTHER_CLOCK), sizeof M - 1), 0);
+    is("reset_remove_deleted, a bad length",
+       castribba_reset_remove_deleted(IMAGE(M), ONLY_CLOCK, sizeof ONLY_CLOCK - 1, sizeof out), 0);
 }
 
 static void making(void)
@@ -409,6 +418,6 @@ int main(void)
     bytes_of_the_page();
     clocks_and_images();
     texts();
-    printf("every: %d checks of the 21 calls and the rules, %d differences\n", checks, failures);
+    printf("every: %d checks of the 23 calls and the rules, %d differences\n", checks, failures);
     return failures != 0;
 }

@@ -171,6 +171,7 @@ static castribba_pieces reader;
 #define FIRST first->bytes, first->len
 #define SECOND second->bytes, second->len
 #define OUT out, sizeof out
+#define ROOM sizeof out
 #define CALL(name, ...)                             \
     static void run_##name(void)                    \
     {                                               \
@@ -190,8 +191,10 @@ CALL(bay, FIRST, FIRST_KEY, OUT)
 CALL(bays, FIRST, OUT)
 #else
 CALL(apply, FIRST, SECOND, OUT)
+CALL(apply_deleted, FIRST, SECOND, ROOM)
 CALL(merge, FIRST, SECOND, OUT)
 CALL(reset_remove, FIRST, SECOND, OUT)
+CALL(reset_remove_deleted, FIRST, SECOND, ROOM)
 CALL(update, FIRST, 1, FIRST_KEY, 7, OUT)
 CALL(rm_get, FIRST, FIRST_KEY, OUT)
 CALL(rm_read_ctx, FIRST, FIRST_KEY, OUT)
@@ -288,8 +291,10 @@ int main(void)
         {"castribba_bays", run_bays, clocks, 1},
 #else
         {"castribba_apply", run_apply, operations, OPERATIONS},
+        {"castribba_apply_deleted", run_apply_deleted, operations, OPERATIONS},
         {"castribba_merge", run_merge, maps, MAPS},
         {"castribba_reset_remove", run_reset_remove, clocks, CLOCKS},
+        {"castribba_reset_remove_deleted", run_reset_remove_deleted, clocks, CLOCKS},
         {"castribba_update", run_update, clocks, 1},
         {"castribba_rm_get", run_rm_get, clocks, 1},
         {"castribba_rm_read_ctx", run_rm_read_ctx, clocks, 1},

@@ -1,17 +1,17 @@
 -- How each way out of a call answers, and that an answer leaves nothing open. Every call's proof cites these.
 -- Assumes nothing.
-use mathlib.Core.Path.{_≡_, sym, _∙_}
+use mathlib.Core.Path.{_≡_, refl, sym, _∙_}
 use mathlib.Core.Bool.{true, false}
 use mathlib.Core.List.{List, [], _∷_}
 use Prim.Native.Nat.{ℕ, _*_, _^_, _≤_, _<_}
 use native.Mathlib.Omega.{arith}
 use lib.Dec.{eqb}
-use lib.ListN.{length}
+use lib.ListN.{length, replicate, length-replicate}
 use borrow.Author.Tests.{ne-eqb, lt-ltb, le-ltb}
 use Rattle.scan.proofs.Eachs.{decide}
 use Rattle.records.specs.Records.{Wrote}
 use Rattle.records.proofs.Placing.{placed-first}
-use Rattle.answers.specs.Answer.{Answer, firstOf, numberOf, wordOf, outOf, Answered}
+use Rattle.answers.specs.Answer.{Answer, firstOf, numberOf, wordOf, outOf, Answered, Counted}
 
 -- the number, by the first that is not 0: each takes the n that the code found, with what says that it is the answer's
 module _ (a : Answer) (o : List ℕ) {n : ℕ} where
@@ -78,3 +78,14 @@ pub record Same (d e : List ℕ) (r s : ℕ) : Type 0 where
 
 pub same-answer : {a : Answer} {o d e : List ℕ} {r s : ℕ} → Answered a o d r → Answered a o e s → Same d e r s
 same-answer p q = record { words = same (p .packed) (q .packed); outputs = same (p .left) (q .left) }
+
+-- so of two counts, and of the number that a call of any output of that length answers
+pub same-count : {a : Answer} {room n r s : ℕ} → Counted a room n r → Counted a room n s → r ≡ s
+same-count {room = room} p q = same (p .counts (replicate room 0) (length-replicate room 0)) (q .counts (replicate room 0) (length-replicate room 0))
+
+module _ {a : Answer} {n r : ℕ} (out : List ℕ) (p : Counted a (length out) n r) where
+  pub count-done : numberOf a out ≡ 0 → r ≡ n
+  count-done z = p .counts out refl ∙ rw z refl
+
+  pub count-refused : (numberOf a out ≡ 0 → ⊥) → r ≡ 0
+  count-refused h = p .counts out refl ∙ rw (ne-eqb (numberOf a out) 0 h) refl

@@ -23,7 +23,7 @@ use Rattle.answers.proofs.Distinct.{length-order, keys-distinct}
 
 -- the records of each kind
 module _ (e : List Entry) where
-  entry-dots : length (flatFrom (entryRecords 2) 0 e) ≡ totalOf (λ x. length (dotsIn x)) e
+  pub entry-dots : length (flatFrom (entryRecords 2) 0 e) ≡ totalOf (λ x. length (dotsIn x)) e
   entry-dots = length-flat _ (entryRecords 2) (λ i x. length-map (dotsIn x) _) 0 e
 
   entry-values : length (flatFrom (entryRecords 3) 0 e) ≡ totalOf (λ x. totalOf (λ v. 1) (valuesIn x)) e

@@ -1,10 +1,11 @@
 -- Totals over lists: as a loop counts them, and as the lengths of what each element gives.
 -- Assumes nothing.
 use mathlib.Core.Path.{_≡_, refl, ap, _∙_}
-use mathlib.Core.List.{List, [], _∷_}
+use mathlib.Core.List.{List, [], _∷_, List·Memᴰ·head, List·Memᴰ·tail}
 use Prim.Native.Nat.{ℕ, _+_, _≤_, _<_}
 use native.Mathlib.Omega.{arith}
 use lib.ListN.{length, take, drop, getD, length-append}
+use Rattle.lists.specs.Order.{_∈_}
 use Rattle.lists.proofs.Rests.{drop-step, drop-end}
 use Rattle.mapimage.specs.MapImage.{flatFrom}
 use Rattle.answers.specs.Sizes.{totalOf}
@@ -34,3 +35,9 @@ pub total-same : {A : Type 0} (f g : A → ℕ) → ((x : A) → f x ≡ g x) �
 unfolding totalOf
 total-same f g e [] = refl
 total-same f g e (x ∷ l) = let h = total-same f g e l in let p = e x in omega arith
+
+-- nothing of each is nothing of all
+pub total-none : {A : Type 0} (f : A → ℕ) (l : List A) → ((x : A) → x ∈ l → f x ≡ 0) → totalOf f l ≡ 0
+unfolding totalOf
+total-none f [] e = refl
+total-none f (x ∷ l) e = let h = total-none f l (λ y i. e y (List·Memᴰ·tail i)) in let p = e x (List·Memᴰ·head refl) in omega arith

@@ -44,3 +44,7 @@ pub record Answered (a : Answer) (entry exit : List ℕ) (word : ℕ) : Type 0 w
 -- and "0 whenever that number isn't carried"
 unfoldable pub carriedOf : ℕ → Answer → ℕ → ℕ
 carriedOf with a n = cond (eqb (firstOf (a .first ∷ a .second ∷ [])) 0 && eqb (a .own) with) n 0
+
+-- what the call of a count promises: the count where the call beside it answers 0 with an output of so many bytes, and 0 where it is refused
+pub record Counted (a : Answer) (room n word : ℕ) : Type 0 where
+  pub counts : (out : List ℕ) → length out ≡ room → word ≡ cond (eqb (numberOf a out) 0) n 0

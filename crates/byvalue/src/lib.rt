@@ -1,6 +1,8 @@
 // The three calls that change a map, on maps by value: the form that is read beside the Rust.
 ghost use Rattle.promises.specs.Promises.{ApplyPromise, MergePromise, ResetRemovePromise};
 
+pub mod counting;
+
 pub fn apply(map: &[u8], op: &[u8], out: &mut [u8]) -> u64
     ensures { λ r. ⌜ ApplyPromise (now (map .entry)) (now (op .entry)) (now (out .entry)) (now (out .exit)) r ⌝ }
 {

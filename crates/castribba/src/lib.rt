@@ -1,5 +1,5 @@
 // The calls of castribba.h, on images and numbers.
-ghost use Rattle.promises.specs.Promises.{ApplyPromise, MergePromise, ResetRemovePromise, UpdatePromise, RmGetPromise, RmReadCtxPromise, GetPromise, LenPromise, LenCountPromise, ValidateOpPromise, ValidateOpStartPromise, ValidateOpEndPromise, ValidateMergePromise, ValidateMergeActorPromise, ValidateMergeCounterPromise, ValidateMergeOurKeyPromise, ValidateMergeTheirKeyPromise, ClockAdvancePromise, PiecesBeginPromise, PiecesTakePromise, PiecesEndPromise};
+ghost use Rattle.promises.specs.Promises.{ApplyPromise, ApplyDeletedPromise, MergePromise, ResetRemovePromise, ResetRemoveDeletedPromise, UpdatePromise, RmGetPromise, RmReadCtxPromise, GetPromise, LenPromise, LenCountPromise, ValidateOpPromise, ValidateOpStartPromise, ValidateOpEndPromise, ValidateMergePromise, ValidateMergeActorPromise, ValidateMergeCounterPromise, ValidateMergeOurKeyPromise, ValidateMergeTheirKeyPromise, ClockAdvancePromise, PiecesBeginPromise, PiecesTakePromise, PiecesEndPromise};
 use clock::Clock;
 use memory::READER;
 
@@ -8,6 +8,13 @@ pub extern "C" fn castribba_apply(map: &[u8], op: &[u8], out: &mut [u8]) -> u64
     ensures { λ r. ⌜ ApplyPromise (now (map .entry)) (now (op .entry)) (now (out .entry)) (now (out .exit)) r ⌝ }
 {
     changing::apply(map, op, out)
+}
+
+#[no_mangle]
+pub extern "C" fn castribba_apply_deleted(map: &[u8], op: &[u8], room: usize) -> u64
+    ensures { λ r. ⌜ ApplyDeletedPromise (now (map .entry)) (now (op .entry)) room r ⌝ }
+{
+    deleted::apply_deleted(map, op, room)
 }
 
 #[no_mangle]
@@ -22,6 +29,13 @@ pub extern "C" fn castribba_reset_remove(map: &[u8], clock: &[u8], out: &mut [u8
     ensures { λ r. ⌜ ResetRemovePromise (now (map .entry)) (now (clock .entry)) (now (out .entry)) (now (out .exit)) r ⌝ }
 {
     changing::reset_remove(map, clock, out)
+}
+
+#[no_mangle]
+pub extern "C" fn castribba_reset_remove_deleted(map: &[u8], clock: &[u8], room: usize) -> u64
+    ensures { λ r. ⌜ ResetRemoveDeletedPromise (now (map .entry)) (now (clock .entry)) room r ⌝ }
+{
+    deleted::reset_remove_deleted(map, clock, room)
 }
 
 #[no_mangle]

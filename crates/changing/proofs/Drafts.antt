@@ -38,20 +38,21 @@ module _ {s t : List ℕ} {ours theirs : Span} {clock : Clock} {sk : Sketch} {pl
     pub ready : AllReady s t sk
     ready = let h = settled l w z in d .entries .items (h .few) (h .narrow) .1
 
+    pub drawn-whole : drawnAll s t sk ≡ l
+    drawn-whole = let h = settled l w z in d .entries .items (h .few) (h .narrow) .0
+
     pub waits-well : waitingNumber w ≡ 0
     waits-well = settled l w z .waits
 
     same-records : mapRecords (mapAs c l w) ≡ whole
     same-records =
-        let h = settled l w z in
-        draft-records c l w ∙ ap₂ (λ a b. dotRecords 1 0 0 a ++ (sectionsOf b ++ waitingRecords w)) (sym (dots-of c (d .seen))) (sym (d .entries .items (h .few) (h .narrow) .0))
+        draft-records c l w ∙ ap₂ (λ a b. dotRecords 1 0 0 a ++ (sectionsOf b ++ waitingRecords w)) (sym (dots-of c (d .seen))) (sym drawn-whole)
 
     -- how long the image is, by what the code counts
     pub counted : {n k r : ℕ} → n ≡ length (dotsOf clock) → k ≡ length (sectionsOf (drawnAll s t sk)) → r ≡ length (waitingRecords w) → length (mapImage (mapAs c l w)) ≡ (n + (k + r)) * 16
     counted p q r =
-        let h = settled l w z in
         let x = ap length (dots-of c (d .seen)) in
-        let y = ap (λ h. length (sectionsOf h)) (d .entries .items (h .few) (h .narrow) .0) in
+        let y = ap (λ h. length (sectionsOf h)) drawn-whole in
         draft-length c l w ∙ omega (arith, x, y, p, q, r)
 
     module _ (o : List ℕ) (room : length (mapImage (mapAs c l w)) ≤ length o) where

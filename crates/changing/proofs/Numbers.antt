@@ -93,5 +93,8 @@ module _ (c : List Dot) (l : List Entry) (w : List Removal) (d : overDots (mapAs
       pub short-room : length o < length (mapImage (mapAs c l w)) → 10 ≡ number
       short-room h = short-number (mapAs c l w) o itself h
 
+      pub done-room : length (mapImage (mapAs c l w)) ≤ length o → 0 ≡ number
+      done-room h = done-number (mapAs c l w) o itself h
+
       pub whole-room : {x : List ℕ} {r : ℕ} → length (mapImage (mapAs c l w)) ≤ length o → Wrote 0 (mapImage (mapAs c l w)) o x r → Answered (mapAnswer 0 0 (judged (mapAs c l w))) o x r
-      whole-room h x = written (mapAs c l w) o itself (done-number (mapAs c l w) o itself h) x
+      whole-room h x = written (mapAs c l w) o itself (done-room h) x

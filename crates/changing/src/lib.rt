@@ -30,10 +30,10 @@ use queued::STARTS;
 use walks::Span;
 
 mod finishing;
-mod waiting;
+pub mod waiting;
 
 // Where the dots of a removal stand in its image, where it waits.
-fn held_queue(op: &[u8], r: Removal, seen: Clock) -> Queue
+pub fn held_queue(op: &[u8], r: Removal, seen: Clock) -> Queue
     requires { ⌜ RemovalWithin r × (removalRecords r ≡ recordsOf (now op)) ⌝ }
     ensures { λ k. ⌜ Queued (now (op .entry)) k (held (dotsOf seen) r) ⌝ }
 {
@@ -47,7 +47,7 @@ fn held_queue(op: &[u8], r: Removal, seen: Clock) -> Queue
 }
 
 // Where the keys of a removal stand in its image, where it waits.
-fn held_keys(op: &[u8], r: Removal, seen: Clock) -> Span
+pub fn held_keys(op: &[u8], r: Removal, seen: Clock) -> Span
     requires { ⌜ ValidRemoval r × (removalRecords r ≡ recordsOf (now op)) ⌝ }
     ensures { λ k. ⌜ Keyed (now (op .entry)) (k .from) (k .to) 0 (held (dotsOf seen) r) ⌝ }
 {
@@ -188,7 +188,7 @@ fn reset_by(map: &[u8], a: Laid, by: Clock, out: &mut [u8]) -> u64
 {
     let seen = a.clock;
     let l = a.layout;
-    let clock = seen.cut(by);
+    let clock = seen.cut(by).clock;
     let q = queued::queue_of(map, l, a.waits);
     let plan = planned::reset_plan(map, q, by);
     let sk = sketch::drawing::draw_reset(map, l, by);

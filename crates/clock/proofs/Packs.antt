@@ -14,8 +14,9 @@ use Rattle.lists.proofs.Limits.{within-fits, within-exceeds, flag-set, flag-cle
 use Rattle.lists.proofs.Weaves.{weave-longer}
 use Rattle.clock.specs.declared.Dot.{Dot}
 use Rattle.clock.specs.declared.Clock.{Clock}
+use Rattle.clock.specs.declared.Cut.{Cut}
 use Rattle.clock.specs.declared.Joined.{Joined}
-use Rattle.clock.specs.Dots.{dotLimit, noDot, dotsOf, clockOf, fitted, beyond, cutDots, largerDot, joinDots}
+use Rattle.clock.specs.Dots.{dotLimit, noDot, dotsOf, clockOf, fitted, beyond, cutDots, cutOf, largerDot, joinDots}
 
 -- the dots of the clock of a list are the list
 pub dots-of : {c : Clock} (l : List Dot) → c ≡ clockOf l → dotsOf c ≡ l
@@ -52,6 +53,13 @@ within-clock l e t = ap (λ k. k .clock) (e ∙ fits l (within-means l e t))
 pub cut-length : (c x : List Dot) → length (cutDots c x) ≤ length x
 unfolding cutDots
 cut-length c x = length-sift (beyond c) (λ d. d) x
+
+-- what a cut answers: the clock that is left, and as many dots deleted as are missing from it
+pub cut-left : {r : Cut} (c x : List Dot) → r ≡ cutOf c x → r .clock ≡ clockOf (cutDots c x)
+cut-left c x e = ap (λ k. k .clock) e
+
+pub cut-deleted : {r : Cut} (c x : List Dot) → r ≡ cutOf c x → length (cutDots c x) + r .deleted ≡ length x
+cut-deleted c x e = omega (arith, ap (λ k. k .deleted) e, cut-length c x)
 
 -- nothing joined is the clock itself
 pub join-nil : (a : List Dot) → joinDots a [] ≡ a

@@ -2,7 +2,7 @@
 -- Assumes nothing.
 use mathlib.Core.Bool.{Bool, true, false, cond}
 use mathlib.Core.List.{List, [], _∷_}
-use Prim.Native.Nat.{ℕ}
+use Prim.Native.Nat.{ℕ, _-_}
 use lib.Dec.{ltb, eqb}
 use lib.ListN.{length, take}
 use Rattle.lists.specs.Pad.{pad}
@@ -13,6 +13,7 @@ use Rattle.lists.specs.Order.{by}
 use Rattle.lists.specs.Limit.{within}
 use Rattle.clock.specs.declared.Dot.{Dot}
 use Rattle.clock.specs.declared.Clock.{Clock}
+use Rattle.clock.specs.declared.Cut.{Cut}
 use Rattle.clock.specs.declared.Joined.{Joined}
 use Rattle.clock.specs.declared.Order.{Order}
 use Rattle.clock.specs.declared.Order.the-variants.{Equal, Greater, Less, Concurrent}
@@ -64,6 +65,10 @@ orderOf a b = outcome (covers a b) (covers b a)
 -- "Cutting X by C deletes each dot of X whose counter is at most C's, and keeps other dots as they are."
 unfoldable pub cutDots : List Dot → List Dot → List Dot
 cutDots c x = those (beyond c) x
+
+-- "A cut of a clock should return, besides the clock, how many dots it deleted": as many as it has less
+abbrev pub cutOf : List Dot → List Dot → Cut
+cutOf c x = record { clock = clockOf (cutDots c x); deleted = length x - length (cutDots c x) }
 
 -- of two dots of one actor, the one with the larger counter
 abbrev pub largerDot : Dot → Dot → Dot

@@ -6,7 +6,7 @@ ghost use Prim.Native.Nat.{_≤_, _<_};
 ghost use lib.ListN.{length, drop};
 ghost use Rattle.clock.specs.declared.Dot.{Dot};
 ghost use Rattle.lists.specs.Sift.{those};
-ghost use Rattle.clock.specs.Dots.{dotLimit, dotsOf, clockOf, fitted, counterIn, isEmpty, covers, outcome, orderOf, staysAt, kept, cutDots, commonDots, largerDot, joinDots, addDot};
+ghost use Rattle.clock.specs.Dots.{dotLimit, dotsOf, clockOf, fitted, counterIn, isEmpty, covers, outcome, orderOf, staysAt, kept, cutDots, cutOf, commonDots, largerDot, joinDots, addDot};
 ghost use Rattle.clock.specs.Lawful.{Lawful, isLawful, sameActors};
 
 // The most dots that a clock can hold.
@@ -36,6 +36,12 @@ pub enum Order {
 pub struct Joined {
     pub over: bool,
     pub clock: Clock,
+}
+
+// What a cut leaves of a clock, and how many dots it deleted.
+pub struct Cut {
+    pub clock: Clock,
+    pub deleted: usize,
 }
 
 // What two coverings say together.
@@ -149,11 +155,16 @@ impl Clock {
         true
     }
 
-    // Without the dots that `by` has seen: the Rust's `reset_remove` and `clone_without`.
-    pub fn cut(self, by: Clock) -> Clock
-        ensures { λ r. ⌜ r ≡ clockOf (cutDots (dotsOf by) (dotsOf self)) ⌝ }
+    // Without the dots that `by` has seen: the Rust's `reset_remove` and `clone_without`. The sizes say how many those were.
+    pub fn cut(self, by: Clock) -> Cut
+        ensures { λ r. ⌜ r ≡ cutOf (dotsOf by) (dotsOf self) ⌝ }
     {
-        self.sift(by, false)
+        let left = self.sift(by, false);
+        let deleted = self.size() - left.len;
+        Cut {
+            clock: left,
+            deleted: deleted,
+        }
     }
 
     // The dots that both have, at equal counters: the Rust's `intersection`.

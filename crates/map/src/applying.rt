@@ -107,7 +107,7 @@ impl Map {
         requires { ⌜ Within self ⌝ }
         ensures { λ o. ⌜ o ≡ judged (reset self (dotsOf by)) ⌝ }
     {
-        let clock = self.clock.cut(by);
+        let clock = self.clock.cut(by).clock;
         let entries = self.entries.reset(by);
         let left = self.waiting.reset(by);
         if left.over {

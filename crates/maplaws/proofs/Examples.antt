@@ -32,7 +32,7 @@ abbrev pub one : ℕ → ℕ → List Dot
 one a n = dot a n ∷ []
 
 -- clock {1:1}, entry 5 {1:1} holding ({1:1}, 40)
-abbrev M : Map
+abbrev pub M : Map
 M = mapAs (one 1 1) (entryAs 5 (one 1 1) (record { clock = clockOf (one 1 1); value = 40 } ∷ []) ∷ []) []
 
 -- clock {1:1,2:1}, entry 5 under a clock, holding values

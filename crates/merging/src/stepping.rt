@@ -57,7 +57,7 @@ fn alone(s: &[u8], l: Layout, x: Cursor, other: Clock) -> Alone
 {
     let entry = sketch::walking::entry_at(s, l, x);
     let keep = leaving::own_left(s, entry, other);
-    let gone = other.cut(keep);
+    let gone = other.cut(keep).clock;
     Alone { entry, keep, gone }
 }
 

@@ -42,7 +42,8 @@ use Rattle.order.proofs.Trades.{maps-trade}
 use Rattle.oneimage.specs.One.{GoodMap}
 use Rattle.readsback.proofs.Goods.{good-apply}
 use Rattle.readsback.proofs.Images.{map-bytes}
-use Rattle.readsback.proofs.Back.{zeros, judged-number, judged-map}
+use Rattle.promises.proofs.Ways.{judged-number, judged-map}
+use Rattle.readsback.proofs.Back.{zeros}
 use Rattle.oneimage.proofs.Fields.{op-narrow}
 use Rattle.oneimage.proofs.Sizes.{image-most}
 use Rattle.oneimage.proofs.Again.{reads-written}

@@ -8,3 +8,4 @@ pub mod AnyOrder
 pub mod Leaves
 pub mod Resets
 pub mod Itself
+pub mod Deletes

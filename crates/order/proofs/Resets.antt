@@ -19,7 +19,8 @@ use Rattle.maplaws.specs.Ties.{TieBreak}
 use Rattle.maplaws.proofs.Ties.{reset-breaks-ties}
 use Rattle.order.specs.Calls.{MapImage}
 use Rattle.readsback.proofs.Goods.{good-reset}
-use Rattle.readsback.proofs.Back.{zeros, judged-number, judged-map}
+use Rattle.promises.proofs.Ways.{judged-number, judged-map}
+use Rattle.readsback.proofs.Back.{zeros}
 use Rattle.order.proofs.Images.{ImageOf, reads, start, image-accepted}
 use Rattle.order.proofs.Leaves.{answers-zero, first-bytes}
 

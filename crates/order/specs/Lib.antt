@@ -1,3 +1,4 @@
 pub mod Ends
 pub mod Calls
 pub mod AnyOrder
+pub mod Deleted

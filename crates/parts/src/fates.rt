@@ -55,7 +55,7 @@ impl Entry {
     pub fn cut(self, by: Clock) -> Entry
         ensures { λ r. ⌜ r ≡ cutEntry (dotsOf by) self ⌝ }
     {
-        let clock = self.clock.cut(by);
+        let clock = self.clock.cut(by).clock;
         let register = self.register.cut(by);
         Entry {
             key: self.key,
@@ -107,8 +107,8 @@ impl Entry {
         if other.covers(self.clock) {
             return Left::none();
         }
-        let clock = self.clock.cut(other);
-        let deleted = other.cut(clock);
+        let clock = self.clock.cut(other).clock;
+        let deleted = other.cut(clock).clock;
         let wide = self.register.wide().cut(deleted);
         let hand = Hand {
             key: self.key,
@@ -124,15 +124,15 @@ impl Entry {
         ensures { λ r. ⌜ r ≡ leftOf (together (dotsOf ours) (dotsOf theirs) self other) ⌝ }
     {
         let common = self.clock.common(other.clock);
-        let mine = self.clock.cut(theirs);
-        let yours = other.clock.cut(ours);
+        let mine = self.clock.cut(theirs).clock;
+        let yours = other.clock.cut(ours).clock;
         let keep = common.join(mine).join(yours);
         let clock = keep.clock;
         if clock.is_empty() {
             return Left::none();
         }
         let all = self.clock.join(other.clock);
-        let deleted = all.clock.cut(clock);
+        let deleted = all.clock.cut(clock).clock;
         let wide = self.register.merge(other.register).cut(deleted);
         let hand = Hand {
             key: self.key,
@@ -166,7 +166,7 @@ impl Hand {
             let w = waiting.items[i];
             i += 1;
             if w.keys.contains(key) {
-                clock = clock.cut(w.clock);
+                clock = clock.cut(w.clock).clock;
                 wide = wide.cut(w.clock);
             }
         }

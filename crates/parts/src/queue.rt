@@ -69,7 +69,7 @@ impl Removal {
     fn cut(self, by: Clock) -> Removal
         ensures { λ r. ⌜ r ≡ cutRemoval (dotsOf by) self ⌝ }
     {
-        let clock = self.clock.cut(by);
+        let clock = self.clock.cut(by).clock;
         let keys = self.keys;
         Removal { clock, keys }
     }

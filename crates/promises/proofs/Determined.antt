@@ -4,9 +4,9 @@ use mathlib.Core.Path.{_≡_}
 use mathlib.Core.List.{List}
 use Prim.Native.Nat.{ℕ}
 use Rattle.clock.specs.declared.Clock.{Clock}
-use Rattle.answers.proofs.Answers.{same, Same, same-answer}
+use Rattle.answers.proofs.Answers.{same, Same, same-answer, same-count}
 use Rattle.delivery.proofs.Whole.{SameEnd, same-end}
-use Rattle.promises.specs.Promises.{ApplyPromise, MergePromise, ResetRemovePromise, UpdatePromise, RmGetPromise, RmReadCtxPromise, GetPromise, LenPromise, LenCountPromise, ValidateOpPromise, ValidateOpStartPromise, ValidateOpEndPromise, ValidateMergePromise, ValidateMergeActorPromise, ValidateMergeCounterPromise, ValidateMergeOurKeyPromise, ValidateMergeTheirKeyPromise, ClockAdvancePromise, PiecesBeginPromise, PiecesTakePromise, PiecesEndPromise}
+use Rattle.promises.specs.Promises.{ApplyPromise, MergePromise, ResetRemovePromise, UpdatePromise, RmGetPromise, RmReadCtxPromise, GetPromise, LenPromise, LenCountPromise, ValidateOpPromise, ValidateOpStartPromise, ValidateOpEndPromise, ValidateMergePromise, ValidateMergeActorPromise, ValidateMergeCounterPromise, ValidateMergeOurKeyPromise, ValidateMergeTheirKeyPromise, ApplyDeletedPromise, ResetRemoveDeletedPromise, ClockAdvancePromise, PiecesBeginPromise, PiecesTakePromise, PiecesEndPromise}
 
 -- a call with an output, one with a number alone, and one that leaves something lent beside its number
 abbrev Written : (List ℕ → List ℕ → ℕ → Type 0) → Type 0
@@ -36,6 +36,8 @@ pub record Determined : Type 0 where
   pub validate-merge-counter : (map other : List ℕ) → Numbered (ValidateMergeCounterPromise map other)
   pub validate-merge-our-key : (map other : List ℕ) → Numbered (ValidateMergeOurKeyPromise map other)
   pub validate-merge-their-key : (map other : List ℕ) → Numbered (ValidateMergeTheirKeyPromise map other)
+  pub apply-deleted : (map op : List ℕ) (room : ℕ) → Numbered (ApplyDeletedPromise map op room)
+  pub reset-remove-deleted : (map clock : List ℕ) (room : ℕ) → Numbered (ResetRemoveDeletedPromise map clock room)
   pub clock-advance : (clock : Clock) (actor counter : ℕ) → Lent (ClockAdvancePromise clock actor counter)
   pub pieces-begin : (reader : List ℕ) → Lent (PiecesBeginPromise reader)
   pub pieces-take : (reader piece : List ℕ) → Lent (PiecesTakePromise reader piece)
@@ -60,6 +62,8 @@ determined = record {
   validate-merge-counter = λ map other r s p q. same p q;
   validate-merge-our-key = λ map other r s p q. same p q;
   validate-merge-their-key = λ map other r s p q. same p q;
+  apply-deleted = λ map op room r s p q. same-count p q;
+  reset-remove-deleted = λ map clock room r s p q. same-count p q;
   clock-advance = λ clock actor counter x y r s p q. (same (p .0) (q .0), same (p .1) (q .1));
   pieces-begin = λ reader x y r s p q. (same (p .0) (q .0), same (p .1) (q .1));
   pieces-take = λ reader piece x y r s p q. (same (p .0) (q .0), same (p .1) (q .1));

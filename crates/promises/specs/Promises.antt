@@ -5,10 +5,11 @@ use mathlib.Core.List.{List, []}
 use Prim.Native.Nat.{ℕ}
 use Rattle.clock.specs.declared.Clock.{Clock}
 use Rattle.asking.specs.Asking.{orderStart, orderEnd}
-use Rattle.answers.specs.Answer.{Answered, wordOf, carriedOf}
+use Rattle.answers.specs.Answer.{Answered, wordOf, carriedOf, Counted}
 use Rattle.advance.specs.Advancing.{advancedOf}
 use Rattle.mailbox.specs.Machine.{begun, takeWord, takeIn}
 use Rattle.delivery.specs.Delivery.{Ended}
+use Rattle.promises.specs.Deleted.{applyDeleted, resetDeleted}
 use Rattle.promises.specs.Calls.{applyAnswer, mergeAnswer, resetAnswer, updateAnswer, rmGetAnswer, rmReadCtxAnswer, getAnswer, lenAnswer, countOf, orderOf, orderAnswer, spentOf, spentAnswer, spentActor, spentCounter, spentOurs, spentTheirs}
 
 -- calls with an output: of what they are given and the output at entry, the output at exit and the word
@@ -68,6 +69,14 @@ module _ (map other : List ℕ) (word : ℕ) where
 
   abbrev pub ValidateMergeTheirKeyPromise : Type 0
   ValidateMergeTheirKeyPromise = word ≡ carriedOf 12 (spentAnswer map other) (spentTheirs (spentOf map other))
+
+-- calls that answer how many dots the call beside them deletes from entry clocks, with an output of so many bytes
+module _ (map other : List ℕ) (room word : ℕ) where
+  abbrev pub ApplyDeletedPromise : Type 0
+  ApplyDeletedPromise = Counted (applyAnswer map other) room (applyDeleted map other) word
+
+  abbrev pub ResetRemoveDeletedPromise : Type 0
+  ResetRemoveDeletedPromise = Counted (resetAnswer map other) room (resetDeleted map other) word
 
 -- the lent clock, at entry and at exit
 abbrev pub ClockAdvancePromise : Clock → ℕ → ℕ → Clock → ℕ → Type 0

@@ -74,7 +74,7 @@ pub fn read_question(file: &[u8], from: usize) -> Question {
     let refusal = number(file, room.at);
     let length = number(file, refusal.at);
     Question {
-        call: (call.value % 19) as usize,
+        call: (call.value % 21) as usize,
         fresh: fresh.value != 0,
         actor: (actor.value % 65536) as u16,
         key: (key.value % 4294967296) as u32,

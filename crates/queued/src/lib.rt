@@ -137,7 +137,7 @@ pub fn cut_listed(s: &[u8], q: Queue, under: [bool; WAITING], clock: Clock) -> C
         i += 1;
         if under[k] {
             let by = clock_at(s, q, k);
-            out = out.cut(by);
+            out = out.cut(by).clock;
         }
     }
     out

@@ -24,16 +24,17 @@ use Rattle.oneimage.proofs.Fields.{map-narrow, op-narrow}
 use Rattle.oneimage.proofs.Maps.{one-map-image}
 use Rattle.oneimage.proofs.Ops.{one-op-image}
 use Rattle.promises.specs.Calls.{mapAnswer, opAnswer}
+use Rattle.promises.proofs.Ways.{judged-number, judged-map}
 use Rattle.readsback.specs.Reads.{Reads, ReadsMap, ReadsOp, Written, ReadsBack}
 use Rattle.readsback.proofs.Images.{map-bytes, op-bytes}
 use Rattle.readsback.proofs.Goods.{good-apply, good-merge, good-reset, good-read, good-seen, good-at, good-removal, good-update}
 
 -- where the word's number is 0, so is the answer's, and the word is the length
-record Done (a : Answer) (entry : List ℕ) (word : ℕ) : Type 0 where
-  number : numberOf a entry ≡ 0
-  long : word % 2 ^ 32 ≡ length (a .bytes)
+pub record Done (a : Answer) (entry : List ℕ) (word : ℕ) : Type 0 where
+  pub number : numberOf a entry ≡ 0
+  pub long : word % 2 ^ 32 ≡ length (a .bytes)
 
-word-done : (a : Answer) (entry : List ℕ) {word : ℕ} → word ≡ wordOf a entry → word / 2 ^ 32 ≡ 0 → Done a entry word
+pub word-done : (a : Answer) (entry : List ℕ) {word : ℕ} → word ≡ wordOf a entry → word / 2 ^ 32 ≡ 0 → Done a entry word
 unfolding wordOf
 word-done a entry {word} e z = decide (eqb (numberOf a entry) 0) done (λ f. absurd (eqb-false (numberOf a entry) 0 f (omega arith)))
   where
@@ -72,14 +73,6 @@ module _ {T : Type 0} {Good : T → Type 0} {image : T → List ℕ} {number : L
       let e : take (word % 2 ^ 32) exit ≡ image x =
       rw (d .long, w .left, d .number) (take-at (a .bytes) (drop (length (a .bytes)) entry) (length (a .bytes)) refl ∙ g .1) in
       rw e (record { bytes = bytes x (g .0); accepted = one .back x (g .0) .0; same = one .back x (g .0) .1 })
-
-pub judged-number : (m : Map) → judged m .number ≡ overNumber m
-unfolding judged
-judged-number m = decide (eqb (overNumber m) 0) (λ t. rw t (sym (eqb-true (overNumber m) 0 t))) (λ f. rw f refl)
-
-pub judged-map : (m : Map) → judged m .number ≡ 0 → judged m .map ≡ m
-unfolding judged
-judged-map m z = decide (eqb (overNumber m) 0) (λ t. rw t refl) (λ f. absurd (eqb-false (overNumber m) 0 f (sym (judged-number m) ∙ z)))
 
 -- a judged map, and a made operation
 judged-back : (first second : ℕ) (m : Map) → (overNumber m ≡ 0 → GoodMap m) → Written (mapAnswer first second (judged m)) (ReadsMap m)

@@ -69,7 +69,7 @@ impl Value {
     pub fn cut(self, by: Clock) -> Value
         ensures { λ r. ⌜ r ≡ cutValue (dotsOf by) self ⌝ }
     {
-        let c = self.clock.cut(by);
+        let c = self.clock.cut(by).clock;
         Value {
             clock: c,
             value: self.value,

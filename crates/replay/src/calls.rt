@@ -1,4 +1,4 @@
-// The calls of castribba.h, by their number in the file, and behind them the plain form of the first three.
+// The calls of castribba.h, by their number in the file, and behind them the plain form of those that change a map.
 use questions::BUFFER;
 use questions::Question;
 
@@ -29,16 +29,31 @@ fn ask_within(asked: Question, first: &[u8], second: &[u8], out: &mut [u8]) -> u
         15 => castribba::castribba_validate_merge_counter(first, second),
         16 => castribba::castribba_validate_merge_our_key(first, second),
         17 => castribba::castribba_validate_merge_their_key(first, second),
-        19 => byvalue::apply(first, second, out),
-        20 => byvalue::merge(first, second, out),
-        _ => byvalue::reset_remove(first, second, out),
+        19 => castribba::castribba_apply_deleted(first, second, out.len()),
+        20 => castribba::castribba_reset_remove_deleted(first, second, out.len()),
+        21 => byvalue::apply(first, second, out),
+        22 => byvalue::merge(first, second, out),
+        23 => byvalue::reset_remove(first, second, out),
+        24 => byvalue::counting::apply_deleted(first, second, out.len()),
+        _ => byvalue::counting::reset_remove_deleted(first, second, out.len()),
     }
 }
 
-// The same question to the plain form of a call that has one: 1 to 3.
+// The number of the plain form of a call that has one.
+fn plain_form(call: usize) -> usize {
+    match call {
+        1 => 21,
+        2 => 22,
+        3 => 23,
+        19 => 24,
+        _ => 25,
+    }
+}
+
+// The same question to it.
 pub fn plainly(asked: Question) -> Question {
     let mut plain = asked;
-    plain.call = asked.call % 4 + 18;
+    plain.call = plain_form(asked.call);
     plain
 }
 

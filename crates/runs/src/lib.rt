@@ -36,7 +36,7 @@ pub fn cut_run(run: &[u8], by: Clock) -> Clock
     requires { ⌜ length (now run) ≤ dotLimit * 16 ⌝ }
     ensures { λ r. ⌜ r ≡ clockOf (cutDots (dotsOf by) (runDots (now (run .entry)))) ⌝ }
 {
-    clock_of(run).cut(by)
+    clock_of(run).cut(by).clock
 }
 
 // How the clocks of two runs of dots stand to each other.

@@ -23,7 +23,7 @@ use Rattle.sketch.specs.declared.Sketch.{Sketch}
 use Rattle.sketch.specs.Drawn.{between, valueIn, valueAt, Placed, sourceSize, sourcesOf, drawn, Ready, itemsOf, AllReady, drawnAll, sectionsOf}
 
 -- a total over elements that g has changed
-total-map : {A B : Type 0} (size : A → ℕ) (other : B → ℕ) (g : A → B) (l : List A) → ((x : A) → x ∈ l → size x ≡ other (g x))
+pub total-map : {A B : Type 0} (size : A → ℕ) (other : B → ℕ) (g : A → B) (l : List A) → ((x : A) → x ∈ l → size x ≡ other (g x))
     → totalOf size l ≡ totalOf other (map g l)
 unfolding totalOf
 total-map size other g [] f = refl

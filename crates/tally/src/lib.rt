@@ -3,7 +3,7 @@ use libc::STDOUT_FILENO;
 use std::num::wrapping_add_u64;
 
 // One more than there are calls.
-pub const PLACES: usize = 22;
+pub const PLACES: usize = 26;
 
 fn say(text: &[u8]) {
     io::write_all(STDOUT_FILENO, text);
@@ -33,16 +33,20 @@ fn say_name(call: usize) {
         16 => say(b"castribba_validate_merge_our_key"),
         17 => say(b"castribba_validate_merge_their_key"),
         18 => say(b"castribba_clock_advance"),
-        19 => say(b"byvalue::apply"),
-        20 => say(b"byvalue::merge"),
-        _ => say(b"byvalue::reset_remove"),
+        19 => say(b"castribba_apply_deleted"),
+        20 => say(b"castribba_reset_remove_deleted"),
+        21 => say(b"byvalue::apply"),
+        22 => say(b"byvalue::merge"),
+        23 => say(b"byvalue::reset_remove"),
+        24 => say(b"byvalue::counting::apply_deleted"),
+        _ => say(b"byvalue::counting::reset_remove_deleted"),
     }
 }
 
 // Whether a call answers a number of 01's; the others answer what such a call carries.
 pub fn answers_number(call: usize) -> bool {
     match call {
-        9 | 11 | 12 | 14 | 15 | 16 | 17 => false,
+        9 | 11 | 12 | 14 | 15 | 16 | 17 | 19 | 20 => false,
         _ => true,
     }
 }
@@ -50,7 +54,7 @@ pub fn answers_number(call: usize) -> bool {
 // Whether a call also stands as a function on maps by value.
 pub fn has_plain_form(call: usize) -> bool {
     match call {
-        1 | 2 | 3 => true,
+        1 | 2 | 3 | 19 | 20 => true,
         _ => false,
     }
 }

@@ -16,14 +16,14 @@ macro_rules! from_map {
     };
 }
 
-/// A call on two images, with an output buffer or without.
+/// A call on two images, with an output buffer, with such a one's length alone, or without.
 macro_rules! from_two {
-    ($call:ident, $first:expr, $second:expr $(, $out:expr)?) => {
+    ($call:ident, $first:expr, $second:expr $(, $out:expr)? $(; $room:expr)?) => {
         // SAFETY: each pointer goes with the length of the slice that it comes from.
         unsafe {
             declared::$call(
                 $first.as_ptr(), $first.len(), $second.as_ptr(), $second.len()
-                $(, $out.as_mut_ptr(), $out.len())?
+                $(, $out.as_mut_ptr(), $out.len())? $(, $room)?
             )
         }
     };
@@ -36,11 +36,17 @@ impl Calls for Archive {
     fn apply(&self, map: &[u8], op: &[u8], out: &mut [u8]) -> u64 {
         from_two!(castribba_apply, map, op, out)
     }
+    fn apply_deleted(&self, map: &[u8], op: &[u8], out_len: usize) -> u64 {
+        from_two!(castribba_apply_deleted, map, op; out_len)
+    }
     fn merge(&self, map: &[u8], other: &[u8], out: &mut [u8]) -> u64 {
         from_two!(castribba_merge, map, other, out)
     }
     fn reset_remove(&self, map: &[u8], clock: &[u8], out: &mut [u8]) -> u64 {
         from_two!(castribba_reset_remove, map, clock, out)
+    }
+    fn reset_remove_deleted(&self, map: &[u8], clock: &[u8], out_len: usize) -> u64 {
+        from_two!(castribba_reset_remove_deleted, map, clock; out_len)
     }
     fn update(&self, map: &[u8], actor: u16, key: u32, value: u64, out: &mut [u8]) -> u64 {
         from_map!(castribba_update, map, (actor, key, value), out)

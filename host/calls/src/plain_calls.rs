@@ -11,11 +11,17 @@ impl Calls for Plain {
     fn apply(&self, map: &[u8], op: &[u8], out: &mut [u8]) -> u64 {
         plain::castribba_apply(map, op, out)
     }
+    fn apply_deleted(&self, map: &[u8], op: &[u8], out_len: usize) -> u64 {
+        plain::castribba_apply_deleted(map, op, out_len)
+    }
     fn merge(&self, map: &[u8], other: &[u8], out: &mut [u8]) -> u64 {
         plain::castribba_merge(map, other, out)
     }
     fn reset_remove(&self, map: &[u8], clock: &[u8], out: &mut [u8]) -> u64 {
         plain::castribba_reset_remove(map, clock, out)
+    }
+    fn reset_remove_deleted(&self, map: &[u8], clock: &[u8], out_len: usize) -> u64 {
+        plain::castribba_reset_remove_deleted(map, clock, out_len)
     }
     fn update(&self, map: &[u8], actor: u16, key: u32, value: u64, out: &mut [u8]) -> u64 {
         plain::castribba_update(map, actor, key, value, out)

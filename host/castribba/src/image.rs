@@ -128,6 +128,39 @@ impl Map {
         Ok(())
     }
 
+    /// How many dots [`Map::apply`] would delete from entry clocks: 0 for an update, also where it sets off
+    /// a waiting removal, for a removal that only waits, and for an operation that is refused.
+    ///
+    /// ```
+    /// use castribba::Map;
+    ///
+    /// let mut map = Map::new();
+    /// map.apply(&map.update(1, 5, 40)?)?;
+    /// let removal = map.rm_get(5)?;
+    /// assert_eq!(map.apply_deleted(&removal), 1);
+    /// map.apply(&removal)?;
+    /// assert_eq!(map.apply_deleted(&removal), 0);
+    /// # Ok::<(), castribba::Refusal>(())
+    /// ```
+    pub fn apply_deleted(&self, op: &Operation) -> usize {
+        slices::apply_deleted(&self.0, &op.0, LONGEST_MAP) as usize
+    }
+
+    /// How many dots [`Map::reset_remove`] would delete from entry clocks: 0 where it is refused.
+    ///
+    /// ```
+    /// use castribba::Map;
+    ///
+    /// let mut map = Map::new();
+    /// map.apply(&map.update(1, 5, 40)?)?;
+    /// map.apply(&map.update(1, 6, 60)?)?;
+    /// assert_eq!(map.reset_remove_deleted(&map.clock()), 2);
+    /// # Ok::<(), castribba::Refusal>(())
+    /// ```
+    pub fn reset_remove_deleted(&self, clock: &Clock) -> usize {
+        slices::reset_remove_deleted(&self.0, &clock.0, LONGEST_MAP) as usize
+    }
+
     /// Makes the operation by which an actor puts a value under a key; the map stays as it is.
     pub fn update(&self, actor: u16, key: u32, value: u64) -> Result<Operation, Refusal> {
         let call = |out: &mut [u8]| slices::update(&self.0, actor, key, value, out);

@@ -94,6 +94,30 @@ pub fn reset_remove(map: &[u8], clock: &[u8], out: &mut [u8]) -> Result<usize, R
     judged(with_two!(castribba_reset_remove, map, clock; out))
 }
 
+/// How many dots [`apply`] deletes from entry clocks, given a buffer of `room` bytes: the dots in all entry
+/// clocks before, less those after. 0 for an update, for a removal that only waits, and where the call is
+/// refused.
+///
+/// ```
+/// use castribba::{slices, Refusal, LONGEST_MAP, LONGEST_OPERATION};
+///
+/// let (mut op, mut map) = ([0; LONGEST_OPERATION], [0; LONGEST_MAP]);
+/// let update = slices::update(&[], 1, 5, 40, &mut op)?;
+/// let len = slices::apply(&[], &op[..update], &mut map)?;
+/// let removal = slices::rm_get(&map[..len], 5, &mut op)?;
+/// assert_eq!(slices::apply_deleted(&map[..len], &op[..removal], LONGEST_MAP), 1);
+/// assert_eq!(slices::apply_deleted(&map[..len], &op[..removal], 0), 0);
+/// # Ok::<(), Refusal>(())
+/// ```
+pub fn apply_deleted(map: &[u8], op: &[u8], room: usize) -> u64 {
+    with_one!(castribba_apply_deleted, map, op.as_ptr(), op.len(), room)
+}
+
+/// The same of [`reset_remove`].
+pub fn reset_remove_deleted(map: &[u8], clock: &[u8], room: usize) -> u64 {
+    with_one!(castribba_reset_remove_deleted, map, clock.as_ptr(), clock.len(), room)
+}
+
 /// The operation by which an actor puts a value under a key.
 pub fn update(
     map: &[u8],

@@ -138,9 +138,15 @@ impl Question {
     pub fn ask(&self, calls: &dyn Calls, images: &[&[u8]], out: &mut [u8]) -> (u64, Vec<u64>) {
         let (first, second) = (images[0], images[images.len() - 1]);
         match self.call {
-            Call::Apply => (calls.apply(first, second, out), vec![]),
+            Call::Apply => {
+                let deleted = calls.apply_deleted(first, second, out.len());
+                (calls.apply(first, second, out), vec![deleted])
+            }
             Call::Merge => (calls.merge(first, second, out), vec![]),
-            Call::ResetRemove => (calls.reset_remove(first, second, out), vec![]),
+            Call::ResetRemove => {
+                let deleted = calls.reset_remove_deleted(first, second, out.len());
+                (calls.reset_remove(first, second, out), vec![deleted])
+            }
             Call::Update => (calls.update(first, self.actor, self.key, self.value, out), vec![]),
             Call::RmGet => (calls.rm_get(first, self.key, out), vec![]),
             Call::RmReadCtx => (calls.rm_read_ctx(first, self.key, out), vec![]),

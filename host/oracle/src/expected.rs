@@ -22,7 +22,7 @@ impl Answer {
     /// The same answer to a call whose buffer has only this room: 10 comes after all others.
     pub fn in_room(&self, room: usize) -> Answer {
         if self.number == 0 && self.bytes.len() > room {
-            refused(10)
+            Answer { number: 10, bytes: vec![], carried: vec![0; self.carried.len()] }
         } else {
             self.clone()
         }
@@ -49,11 +49,31 @@ fn after_reading(answer: impl FnOnce() -> Result<Answer, u32>) -> Answer {
     answer().unwrap_or_else(refused)
 }
 
+/// The dots in all entry clocks.
+fn entry_dots(map: &Map) -> usize {
+    map.entries.values().map(|entry| entry.clock.len()).sum()
+}
+
+/// The same answer, with what was deleted from entry clocks: 0 where it is refused.
+fn carrying(answer: Answer, deleted: usize) -> Answer {
+    let carried = vec![if answer.number == 0 { deleted as u64 } else { 0 }];
+    Answer { carried, ..answer }
+}
+
+/// Carries what a removal deleted from entry clocks.
 pub fn apply(map: &[u8], op: &[u8]) -> Answer {
-    after_reading(|| {
-        let (map, operation) = (read_map(map)?, read_operation(op)?);
-        Ok(written_map(&published::apply(&map, &operation)))
-    })
+    let read = || Ok((read_map(map)?, read_operation(op)?));
+    match read() {
+        Err(number) => carrying(refused(number), 0),
+        Ok((map, operation)) => {
+            let after = published::apply(&map, &operation);
+            let deleted = match operation {
+                Operation::Removal { .. } => entry_dots(&map) - entry_dots(&after),
+                Operation::Update { .. } => 0,
+            };
+            carrying(written_map(&after), deleted)
+        }
+    }
 }
 
 pub fn merge(map: &[u8], other: &[u8]) -> Answer {
@@ -63,12 +83,14 @@ pub fn merge(map: &[u8], other: &[u8]) -> Answer {
     })
 }
 
-/// An error is a disagreement of the published crate with document 01, other than those listed.
+/// Carries what was deleted from entry clocks. An error is a disagreement of the published crate with
+/// document 01, other than those listed.
 pub fn reset_remove(map: &[u8], clock: &[u8]) -> Result<Answer, String> {
     let read = || Ok((read_map(map)?, read_clock(clock)?));
     match read() {
-        Err(number) => Ok(refused(number)),
-        Ok((map, clock)) => published::reset_remove(&map, &clock).map(|after| written_map(&after)),
+        Err(number) => Ok(carrying(refused(number), 0)),
+        Ok((map, clock)) => published::reset_remove(&map, &clock)
+            .map(|after| carrying(written_map(&after), entry_dots(&map) - entry_dots(&after))),
     }
 }
 

@@ -1,7 +1,8 @@
 //! The calls of castribba.h over slices: same names, same arguments, same words.
 
-use crate::image::read_map_into;
-use crate::{number, read_clock, read_op, write_map, write_op, Clock, Dot, DoubleSpent, Gap, Map};
+use crate::image::{fits, read_map_into};
+use crate::{number, read_clock, read_op, write_map, write_op};
+use crate::{Clock, Dot, DoubleSpent, Gap, Map, Operation};
 
 /// number * 2^32 + length
 pub(crate) fn word(answer: impl FnOnce() -> Result<usize, u32>) -> u64 {
@@ -20,6 +21,23 @@ pub fn castribba_apply(map: &[u8], op: &[u8], out: &mut [u8]) -> u64 {
     })
 }
 
+/// How many dots a change deletes from entry clocks, where its answer has room in so many bytes.
+fn deleted(map: &[u8], room: usize, change: impl FnOnce(&mut Map) -> Result<(), u32>) -> Result<u64, u32> {
+    let mut ours = Map::EMPTY;
+    read_map_into(map, &mut ours)?;
+    let before = ours.entry_dots();
+    change(&mut ours)?;
+    fits(&ours, room)?;
+    Ok((before - ours.entry_dots()) as u64)
+}
+
+pub fn castribba_apply_deleted(map: &[u8], op: &[u8], out_len: usize) -> u64 {
+    match read_op(op) {
+        Ok(Operation::Update { .. }) | Err(_) => 0,
+        Ok(removal) => deleted(map, out_len, |ours| ours.apply(&removal)).unwrap_or(0),
+    }
+}
+
 pub fn castribba_merge(map: &[u8], other: &[u8], out: &mut [u8]) -> u64 {
     word(|| {
         let (mut ours, mut theirs) = (Map::EMPTY, Map::EMPTY);
@@ -36,6 +54,10 @@ pub fn castribba_reset_remove(map: &[u8], clock: &[u8], out: &mut [u8]) -> u64 {
         ours.reset_remove(&read_clock(clock)?)?;
         write_map(&ours, out)
     })
+}
+
+pub fn castribba_reset_remove_deleted(map: &[u8], clock: &[u8], out_len: usize) -> u64 {
+    deleted(map, out_len, |ours| ours.reset_remove(&read_clock(clock)?)).unwrap_or(0)
 }
 
 pub fn castribba_update(map: &[u8], actor: u16, key: u32, value: u64, out: &mut [u8]) -> u64 {

@@ -339,11 +339,17 @@ fn map_records(map: &Map) -> usize {
         + map.waiting().iter().map(of_removal).sum::<usize>()
 }
 
-/// The length written; nothing is written when the buffer is shorter than the image.
-pub fn write_map(map: &Map, out: &mut [u8]) -> Result<usize, u32> {
-    if out.len() < map_records(map) * RECORD_LENGTH {
+/// Whether the image has room in a buffer of so many bytes.
+pub fn fits(map: &Map, room: usize) -> Result<(), u32> {
+    if room < map_records(map) * RECORD_LENGTH {
         return Err(number::SHORT_BUFFER);
     }
+    Ok(())
+}
+
+/// The length written; nothing is written when the buffer is shorter than the image.
+pub fn write_map(map: &Map, out: &mut [u8]) -> Result<usize, u32> {
+    fits(map, out.len())?;
     let mut writer = Writer { out, len: 0 };
     writer.clock(MAP_CLOCK_DOT, 0, 0, &map.clock);
     for entry in map.entries() {

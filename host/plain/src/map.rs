@@ -472,6 +472,11 @@ impl Map {
         read
     }
 
+    /// The dots in all entry clocks.
+    pub fn entry_dots(&self) -> usize {
+        self.entries().iter().map(|entry| entry.clock.dots().len()).sum()
+    }
+
     pub fn len(&self) -> usize {
         self.entries_len
     }

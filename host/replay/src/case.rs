@@ -3,8 +3,8 @@
 use oracle::image::records_of;
 use std::fmt::Write as _;
 
-/// The calls in castribba.h's order, and whether each answers a number of 01's.
-pub const CALLS: [(&str, bool); 18] = [
+/// The calls by their numbers in the file, and whether each answers a number of 01's.
+pub const CALLS: [(&str, bool); 20] = [
     ("castribba_apply", true),
     ("castribba_merge", true),
     ("castribba_reset_remove", true),
@@ -23,6 +23,17 @@ pub const CALLS: [(&str, bool); 18] = [
     ("castribba_validate_merge_our_key", false),
     ("castribba_validate_merge_their_key", false),
     ("castribba_clock_advance", true),
+    ("castribba_apply_deleted", false),
+    ("castribba_reset_remove_deleted", false),
+];
+
+/// The functions on maps by value that are asked beside a call, which is named by its place from 1.
+pub const PLAIN_FORMS: [(&str, usize); 5] = [
+    ("byvalue::apply", 1),
+    ("byvalue::merge", 2),
+    ("byvalue::reset_remove", 3),
+    ("byvalue::counting::apply_deleted", 19),
+    ("byvalue::counting::reset_remove_deleted", 20),
 ];
 
 pub struct Case {

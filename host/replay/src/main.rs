@@ -4,7 +4,7 @@ mod case;
 mod sampler;
 
 use calls::LONGEST_MAP;
-use case::{Case, CALLS};
+use case::{Case, CALLS, PLAIN_FORMS};
 use compare::asks::Asks;
 use compare::random::Random;
 use compare::{panics, rounds};
@@ -59,6 +59,10 @@ fn printed(cases: &[Case], file: &str) -> String {
     for (place, (name, _)) in CALLS.iter().enumerate() {
         let amount = cases.iter().filter(|case| case.call == place + 1).count();
         assert_ne!(amount, 0, "{name} is never called");
+        writeln!(text, "{name} {amount} cases, 0 differences").unwrap();
+    }
+    for (name, call) in PLAIN_FORMS {
+        let amount = cases.iter().filter(|case| case.call == call).count();
         writeln!(text, "{name} {amount} cases, 0 differences").unwrap();
     }
     for number in 0..=12 {

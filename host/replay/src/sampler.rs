@@ -33,7 +33,16 @@ pub struct Sampler {
     pub cases: Vec<Case>,
 }
 
-/// The place in castribba.h of a question's call; those that carry follow it.
+/// The number in the file of the first call that answers what a question's call carries.
+fn carries_at(call: Call) -> usize {
+    match call {
+        Call::Apply => 19,
+        Call::ResetRemove => 20,
+        call => place_of(call) + 1,
+    }
+}
+
+/// The number in the file of a question's call.
 fn place_of(call: Call) -> usize {
     match call {
         Call::Apply => 1,
@@ -126,7 +135,8 @@ impl Asks for Sampler {
             let length = answer.bytes.len() as u64;
             self.cases.push(case(place, answer.number, length, answer.bytes));
             for (beside, carried) in answer.carried.iter().enumerate() {
-                self.cases.push(case(place + 1 + beside, 0, *carried, vec![]));
+                let call = carries_at(question.call) + beside;
+                self.cases.push(case(call, 0, *carried, vec![]));
             }
         }
         Some(full)

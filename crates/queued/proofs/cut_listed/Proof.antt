@@ -6,6 +6,7 @@ use native.Mathlib.Omega.{arith}
 use Rattle.lists.proofs.Folding.{folding-start}
 use Rattle.clock.specs.declared.Dot.{Dot}
 use Rattle.clock.specs.Dots.{clockOf}
+use Rattle.clock.proofs.Packs.{cut-left}
 use Rattle.parts.specs.declared.Removal.{Removal}
 use Rattle.queued.specs.Queue.{Queued, Marked}
 use Rattle.queued.proofs.Cutting.{Cutting, cut-on, cut-not, cut-end}
@@ -32,12 +33,12 @@ clock-at-requires c κs =
 
 loop-again : tie.Need-loop-again Inv-loop μ-loop
 loop-again c =
-    let t = c .before .before .before .before in (
+    let t = c .before .before .before .before .before in (
       omega arith,
       λ w key d h m f.
           let k = h .count in
           let l = h .few in
-          cut-on w key (t .loop .inv .1 w key d h m f) (omega arith) (c .before .clock-at .ensures w h (omega arith)) (sym (m .each _ (omega arith)) ∙ c .before .before .if1 .taken) (c .cut .ensures),
+          cut-on w key (t .loop .inv .1 w key d h m f) (omega arith) (c .before .before .clock-at .ensures w h (omega arith)) (sym (m .each _ (omega arith)) ∙ c .before .before .before .if1 .taken) (cut-left _ _ (c .before .cut .ensures)),
     )
 
 loop-again-2 : tie.Need-loop-again-2 Inv-loop μ-loop

@@ -5,10 +5,10 @@ use Rattle.tally.proofs.print_calls.Statement.{statement}
 use Rattle.tally.proofs.print_calls.Tie as tie
 
 abbrev Inv-loop : tie.InvT-loop
-Inv-loop cases differences first call₀ call = call ≤ 22
+Inv-loop cases differences first call₀ call = call ≤ 26
 
 abbrev μ-loop : tie.MeasureT-loop
-μ-loop cases differences first call₀ call = 22 - call
+μ-loop cases differences first call₀ call = 26 - call
 
 pub print-calls-spec : {M : Type 1} → statement M
 print-calls-spec =

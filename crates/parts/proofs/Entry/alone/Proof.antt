@@ -1,7 +1,7 @@
 -- `Entry::alone` meets its contract. Assumes nothing.
 use mathlib.Core.Path.{ap, sym, _∙_}
 use mathlib.Core.Bool.{true}
-use Rattle.clock.proofs.Packs.{dots-of}
+use Rattle.clock.proofs.Packs.{dots-of, cut-left}
 use Rattle.register.proofs.Packs.{wide-values}
 use Rattle.parts.specs.Entries.{cutAlone, alone}
 use Rattle.parts.proofs.Packs.{hand-as}
@@ -18,11 +18,12 @@ returns-2 : tie.Need-returns-2
 unfolding alone cutAlone
 returns-2 c =
     let w = c .before in
-    let d = w .before in
-    let k = d .before in
+    let d = w .before .before in
+    let k = d .before .before in
     let i = k .before in
+    let left = cut-left _ _ (k .cut .ensures) in
     rw (sym (i .before .covers .ensures) ∙ i .if1 .left)
-    (rw (k .cut .ensures, c .cut3 .ensures, wide-values _ (w .wide .ensures), dots-of _ (d .cut2 .ensures), dots-of _ (k .cut .ensures)) (ap (λ h. record { stays = true; hand = h }) (sym (hand-as _ _ _))))
+    (rw (left, c .cut3 .ensures, wide-values _ (w .wide .ensures), dots-of _ (cut-left _ _ (d .cut2 .ensures)), dots-of _ left) (ap (λ h. record { stays = true; hand = h }) (sym (hand-as _ _ _))))
 
 pub alone-spec : {M : Type 1} → statement M
 alone-spec =

@@ -1,4 +1,5 @@
 -- `Entry::cut` meets its contract, by the clock's and the register's. Assumes nothing.
+use Rattle.clock.proofs.Packs.{cut-left}
 use Rattle.parts.specs.Entries.{cutEntry}
 use borrow.Author.Needs.{needs}
 use Rattle.parts.proofs.Entry.cut.Statement.{statement}
@@ -6,7 +7,7 @@ use Rattle.parts.proofs.Entry.cut.Tie as tie
 
 returns : tie.Need-returns
 unfolding cutEntry
-returns c = rw (c .before .cut .ensures, c .cut2 .ensures)
+returns c = rw (cut-left _ _ (c .before .before .cut .ensures), c .cut2 .ensures)
 
 pub cut-spec : {M : Type 1} → statement M
 cut-spec =

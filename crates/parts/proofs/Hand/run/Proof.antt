@@ -5,6 +5,7 @@ use Prim.Native.Nat.{ℕ, _≤_, _-_}
 use Rattle.lists.proofs.Folding.{Folding, folding-start, folding-on, folding-end}
 use Rattle.clock.specs.declared.Clock.{Clock}
 use Rattle.clock.specs.Dots.{dotsOf, clockOf, cutDots}
+use Rattle.clock.proofs.Packs.{cut-left}
 use Rattle.register.specs.declared.Wide.{Wide}
 use Rattle.register.specs.Values.{wideValues, wideOf, cutValues}
 use Rattle.register.proofs.Packs.{wide-values}
@@ -45,10 +46,10 @@ loop-holds c = (search needs, λ e q. folding-start q)
 
 loop-again : tie.Need-loop-again Inv-loop μ-loop
 loop-again c =
-    let k = c .before .before .before in
+    let k = c .before .before .before .before in
     let s = k .before .before .before in
-    let t = sym (k .contains .ensures) ∙ c .before .before .if1 .taken in
-    (search needs, λ e q. folding-on noRemovalRead (s .loop .inv .1 e q) (omega arith) (λ x p. cut-hand _ x p t (c .before .cut .ensures) (c .cut2 .ensures)))
+    let t = sym (k .contains .ensures) ∙ c .before .before .before .if1 .taken in
+    (search needs, λ e q. folding-on noRemovalRead (s .loop .inv .1 e q) (omega arith) (λ x p. cut-hand _ x p t (cut-left _ _ (c .before .before .cut .ensures)) (c .cut2 .ensures)))
 
 loop-again-2 : tie.Need-loop-again-2 Inv-loop μ-loop
 loop-again-2 c =

@@ -1,10 +1,11 @@
 -- `Removal::cut` meets its contract, by the clock's. Assumes nothing.
+use Rattle.clock.proofs.Packs.{cut-left}
 use borrow.Author.Needs.{needs}
 use Rattle.parts.proofs.Removal.cut.Statement.{statement}
 use Rattle.parts.proofs.Removal.cut.Tie as tie
 
 returns : tie.Need-returns
-returns c = rw (c .before .cut .ensures)
+returns c = rw (cut-left _ _ (c .before .before .cut .ensures))
 
 pub cut-spec : {M : Type 1} → statement M
 cut-spec =

@@ -1,10 +1,11 @@
 -- `Value::cut` meets its contract, by the clock's. Assumes nothing.
+use Rattle.clock.proofs.Packs.{cut-left}
 use borrow.Author.Needs.{needs}
 use Rattle.register.proofs.Value.cut.Statement.{statement}
 use Rattle.register.proofs.Value.cut.Tie as tie
 
 returns : tie.Need-returns
-returns c = rw (c .cut .ensures)
+returns c = rw (cut-left _ _ (c .before .cut .ensures))
 
 pub cut-spec : {M : Type 1} → statement M
 cut-spec =

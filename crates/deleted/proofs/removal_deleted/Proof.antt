@@ -1,0 +1,73 @@
+-- `removal_deleted` meets its contract: the draft of a removal, counted. Assumes nothing.
+use mathlib.Core.Path.{refl}
+use mathlib.Core.List.{[]}
+use native.Mathlib.Omega.{arith}
+use Rattle.clock.proofs.Packs.{dots-of}
+use Rattle.clock.proofs.Joins.{lawful-nil}
+use Rattle.changing.proofs.Results.{held-valid, removed-laid, removed-draft, map-short}
+use Rattle.deleted.proofs.Counts.{removed-most, removed-rest, counted-as}
+use borrow.Author.Needs.{needs}
+use Rattle.deleted.proofs.removal_deleted.Statement.{statement}
+use Rattle.deleted.proofs.removal_deleted.Tie as tie
+
+held-keys-requires : tie.Need-held-keys-requires
+held-keys-requires f κs = let p = f .before .before .before .before .before .before .pre .1 in (p .0 .valid, p .1)
+
+join-plan-requires : tie.Need-join-plan-requires
+join-plan-requires f κs = (
+  (_, f .before .before .before .queue-of .ensures),
+  ((_, f .before .before .held-queue .ensures), rw (dots-of [] (f .new .ensures)) lawful-nil),
+)
+
+draw-removed-requires : tie.Need-draw-removed-requires
+draw-removed-requires f κs = let p = f .before .before .before .before .before .before .before .before .before .pre in
+    (p .0 .0 .lies, (map-short _ (p .0 .1), p .1 .0 .valid .clock))
+
+sub-had : tie.Need-sub-had
+sub-had f = omega (arith, f .before .before .before .before .before .before .before .before .before .before .before .pre .0 .0 .lies .places .second)
+
+fewer-requires : tie.Need-fewer-requires
+fewer-requires f κs =
+    let c = f .before .before in
+    let p = c .before .before .before .before .before .before .before .before .before .pre in
+    let h = p .0 .0 in
+    let j = p .1 .0 in (
+      _,
+      (
+        _,
+        (
+          _,
+          (
+            removed-draft h _ j (c .before .new .ensures) (f .before .draw-removed .ensures _)
+                (c .join-plan .ensures _ _ (c .before .before .before .before .queue-of .ensures) (c .before .before .before .held-queue .ensures)
+                (h .lies .within .valid .waiting) (held-valid (j .valid) _)) (c .before .before .held-keys .ensures),
+            removed-most (h .lies) _ refl,
+          ),
+        ),
+      ),
+    )
+
+returns : tie.Need-returns
+returns f n e =
+    let c = f .before .before .before in
+    let p = c .before .before .before .before .before .before .before .before .before .pre in
+    let h = p .0 .0 in
+    let j = p .1 .0 in
+    counted-as (removed-laid (h .lies .within .valid) _)
+    (f .fewer .ensures _ _ _ n (removed-draft h _ j (c .before .new .ensures) (f .before .before .draw-removed .ensures _)
+    (c .join-plan .ensures _ _ (c .before .before .before .before .queue-of .ensures) (c .before .before .before .held-queue .ensures)
+    (h .lies .within .valid .waiting) (held-valid (j .valid) _)) (c .before .before .held-keys .ensures)) (removed-rest (h .lies) _ n refl e))
+
+pub removal-deleted-spec : {M : Type 1} → statement M
+removal-deleted-spec =
+    tie.close
+    (tie.spec
+    (λ c κs. search needs)
+    (λ c κs. search needs)
+    held-keys-requires
+    (λ c κs. search needs)
+    join-plan-requires
+    draw-removed-requires
+    sub-had
+    fewer-requires
+    returns)
