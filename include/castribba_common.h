@@ -43,9 +43,9 @@ enum castribba_number {
     CASTRIBBA_OVER_LIMIT = 2,       /* an image is over its longest length, or over a limit below */
     CASTRIBBA_UNRELATED = 3,        /* records of an image that belong together do not */
     CASTRIBBA_TOO_MANY_DOTS = 4,    /* the result would have a clock of more than 8 dots */
-    CASTRIBBA_TOO_MANY_ENTRIES = 5, /* the result would have more than 16 entries */
+    CASTRIBBA_TOO_MANY_ENTRIES = 5, /* the result would have more than 32 entries */
     CASTRIBBA_TOO_MANY_VALUES = 6,  /* the result would have more than 4 values side by side */
-    CASTRIBBA_TOO_MANY_WAITING = 7, /* the result would have more than 8 waiting removals */
+    CASTRIBBA_TOO_MANY_WAITING = 7, /* the result would have more than 16 waiting removals */
     CASTRIBBA_TOO_MANY_KEYS = 8,    /* the result would have a waiting removal of more than 16 keys */
     CASTRIBBA_COUNTER_SPENT = 9,    /* the actor's counter is 2^64-1: no update can be made */
     CASTRIBBA_SHORT_BUFFER = 10,    /* the output buffer is shorter than the answer */
@@ -80,16 +80,16 @@ enum castribba_kind {
 
 /* Bytes of a record, and the longest image of each sort. The empty map has no bytes. */
 #define CASTRIBBA_RECORD 16
-#define CASTRIBBA_LONGEST_MAP 14464
+#define CASTRIBBA_LONGEST_MAP 28800
 #define CASTRIBBA_LONGEST_OPERATION 400
 #define CASTRIBBA_LONGEST_CLOCK 128
 
 /* The limits: dots in any clock, entries of a map, values of an entry, waiting removals, keys in each
  * of those or in a removal. */
 #define CASTRIBBA_MOST_DOTS 8
-#define CASTRIBBA_MOST_ENTRIES 16
+#define CASTRIBBA_MOST_ENTRIES 32
 #define CASTRIBBA_MOST_VALUES 4
-#define CASTRIBBA_MOST_WAITING 8
+#define CASTRIBBA_MOST_WAITING 16
 #define CASTRIBBA_MOST_KEYS 16
 
 #endif

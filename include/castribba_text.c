@@ -16,11 +16,11 @@ const char *castribba_number_text(uint32_t number)
     case CASTRIBBA_TOO_MANY_DOTS:
         return "a clock would have more than 8 dots";
     case CASTRIBBA_TOO_MANY_ENTRIES:
-        return "the map would have more than 16 entries";
+        return "the map would have more than 32 entries";
     case CASTRIBBA_TOO_MANY_VALUES:
         return "an entry would have more than 4 values";
     case CASTRIBBA_TOO_MANY_WAITING:
-        return "more than 8 removals would wait";
+        return "more than 16 removals would wait";
     case CASTRIBBA_TOO_MANY_KEYS:
         return "a waiting removal would have more than 16 keys";
     case CASTRIBBA_COUNTER_SPENT:

@@ -23,7 +23,7 @@ static const uint8_t REORDERED[] = {
     ROW(4, 1, 1, 1, 2),   ROW(4, 2, 1, 1, 1)};
 static const uint8_t BAD_KIND[] = {ROW(13, 0, 0, 0, 0)};
 static const uint8_t OUTSIDE_CLOCK[] = {ROW(2, 0, 1, 5, 1)};
-static const uint8_t TOO_LONG[14465];
+static const uint8_t TOO_LONG[CASTRIBBA_LONGEST_MAP + 1];
 
 static const uint8_t BAY_1[] = {2, 1, 1, EIGHT(300)};
 static const uint8_t BAY_3[] = {2, 0, 1, EIGHT(70)};

@@ -32,18 +32,18 @@ pub not-over : {s t : List ℕ} {ours theirs : Span} {plan : Plan} {w : List Rem
 not-over {w = w} p z = p .made .over ∙ le-ltb _ _ (few-waiting w z)
 
 -- a total, where each is small
-bound : (f : Removal → ℕ) (w : List Removal) → ((r : Removal) → r ∈ w → f r ≤ 16) → totalOf f w ≤ length w * 16
+bound : (f : Removal → ℕ) (w : List Removal) → ((r : Removal) → r ∈ w → f r ≤ keyLimit) → totalOf f w ≤ length w * keyLimit
 unfolding totalOf
 bound f [] h = omega arith
 bound f (r ∷ w) h = omega (arith, h r (List·Memᴰ·head refl), bound f w (λ x i. h x (List·Memᴰ·tail i)))
 
 -- how many dots there can be, and how many keys
-pub few-dots : {w : List Removal} → ((r : Removal) → r ∈ w → length (underOf r) ≤ dotLimit) → length w ≤ waitingLimit → length (flatFrom waitingDots 0 w) ≤ 128
+pub few-dots : {w : List Removal} → ((r : Removal) → r ∈ w → length (underOf r) ≤ dotLimit) → length w ≤ waitingLimit → length (flatFrom waitingDots 0 w) ≤ waitingLimit * keyLimit
 few-dots {w} s h =
     let k = length-flat (λ r. length (underOf r)) waitingDots (λ i r. length-map (underOf r) _) 0 w in
     omega (arith, bound (λ r. length (underOf r)) w (λ r i. omega (arith, s r i)))
 
-pub few-keys : {w : List Removal} → ValidWaiting w → length w ≤ waitingLimit → some overlong w ≡ false → length (waitingKeys w) ≤ 128
+pub few-keys : {w : List Removal} → ValidWaiting w → length w ≤ waitingLimit → some overlong w ≡ false → length (waitingKeys w) ≤ waitingLimit * keyLimit
 few-keys {w} v h t =
     let k = length-flat (λ r. length (listedIn r)) keyNumbers (λ i r. length-map (listedIn r) _) 0 w in
     let o = length-order (flatFrom keyNumbers 0 w) (keys-distinct 0 w (omega arith) (λ r i. v .each r i .keys)) in

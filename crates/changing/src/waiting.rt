@@ -6,7 +6,7 @@ ghost use lib.ListN.{length};
 ghost use Rattle.lists.specs.First.{some};
 ghost use Rattle.parts.specs.declared.Entry.{Entry};
 ghost use Rattle.parts.specs.declared.Removal.{Removal};
-ghost use Rattle.parts.specs.Model.{overfull};
+ghost use Rattle.parts.specs.Model.{waitingLimit, keyLimit, overfull};
 ghost use Rattle.records.specs.Records.{bytesOf, Wrote};
 ghost use Rattle.changing.specs.Drafted.{waitingRecords, waitingNumber, limitNumber, Planned};
 use parts::ENTRIES;
@@ -37,7 +37,7 @@ pub fn weigh(
 ) -> Weighed
     requires { ⌜ ((w : List Removal) × Planned (now s) (now t) ours theirs plan w) ⌝ }
     ensures { λ r. ⌜ ((l : List Entry) (w : List Removal) → count ≡ length l → wide ≡ some overfull l → Planned (now (s .entry)) (now (t .entry)) ours theirs plan w
-        → (r .number ≡ limitNumber l w) × (r .number ≡ 0 → r .records ≡ length (waitingRecords w))) × (r .records ≤ 256) ⌝ }
+        → (r .number ≡ limitNumber l w) × (r .number ≡ 0 → r .records ≡ length (waitingRecords w))) × (r .records ≤ 2 * (waitingLimit * keyLimit)) ⌝ }
 {
     if ENTRIES < count {
         return refused(5);

@@ -10,17 +10,21 @@ use Rattle.register.specs.declared.Value.{Value}
 use Rattle.register.specs.Values.{valueLimit}
 use Rattle.parts.specs.declared.Entry.{Entry}
 use Rattle.parts.specs.declared.Removal.{Removal}
-use Rattle.parts.specs.Model.{entryLimit, waitingLimit, keyLimit, dotsIn, valuesIn, underOf, listedIn}
+use Rattle.parts.specs.Model.{keyLimit, dotsIn, valuesIn, underOf, listedIn}
 use Rattle.map.specs.declared.Map.{Map}
 use Rattle.map.specs.Model.{seenBy, entriesIn, waitingIn}
 use Rattle.records.specs.declared.Record.{Record}
 use Rattle.records.specs.Records.{bytesOf}
+use Rattle.scan.specs.Limits.{Limits, today}
 use Rattle.clockimage.specs.Image.{dotRecords}
 use Rattle.mapimage.specs.Sorted.{inOrder}
 
 -- a map clock, entries with their dots, values and value dots, waiting removals with their dots and keys
+abbrev pub longestBy : Limits → ℕ
+longestBy t = (dotLimit + t .entries * (dotLimit + valueLimit * (1 + dotLimit)) + t .waiting * (dotLimit + keyLimit)) * 16
+
 abbrev pub mapLongest : ℕ
-mapLongest = (dotLimit + entryLimit * (dotLimit + valueLimit * (1 + dotLimit)) + waitingLimit * (dotLimit + keyLimit)) * 16
+mapLongest = longestBy today
 
 -- what f gives of each element and its place, counted from i
 unfoldable pub flatFrom : {A B : Type 0} → (ℕ → A → List B) → ℕ → List A → List B

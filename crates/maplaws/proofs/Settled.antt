@@ -62,8 +62,8 @@ pub record Settled : Type 0 where
   pub w6 : remove M (removalAs (one 2 1) []) ≡ record { clock = M .clock; entries = M .entries; waiting = mapAs [] [] (removalAs (one 2 1) [] ∷ []) .waiting }
   pub w7 : merge (mapAs both (entryAs 5 (one 1 1) [] ∷ []) []) (mapAs both (entryAs 5 (one 2 1) [] ∷ []) []) ≡ mapAs both [] []
   pub w8 : reset (mapAs [] [] (removalAs (dot 1 4 ∷ dot 2 1 ∷ []) (6 ∷ []) ∷ removalAs (dot 1 5 ∷ dot 2 1 ∷ []) (5 ∷ []) ∷ [])) (one 1 5) ≡ mapAs [] [] (removalAs (one 2 1) (5 ∷ 6 ∷ []) ∷ [])
-  pub w9 : judged (update (mapAs (one 1 16) (entriesTo 16) (removalAs (one 9 1) (77 ∷ []) ∷ [])) (updates 9 1 77 7)) ≡ record { number = 0; map = mapAs (dot 1 16 ∷ dot 9 1 ∷ []) (entriesTo 16) [] }
-  pub w9-without : judged (update (mapAs (one 1 16) (entriesTo 16) []) (updates 9 1 77 7)) ≡ record { number = 5; map = noMap }
+  pub w9 : judged (update (mapAs (one 1 32) (entriesTo 32) (removalAs (one 9 1) (77 ∷ []) ∷ [])) (updates 9 1 77 7)) ≡ record { number = 0; map = mapAs (dot 1 32 ∷ dot 9 1 ∷ []) (entriesTo 32) [] }
+  pub w9-without : judged (update (mapAs (one 1 32) (entriesTo 32) []) (updates 9 1 77 7)) ≡ record { number = 5; map = noMap }
   pub w10 : validateUpdate M (updates 1 2 6 0) ≡ Missing 1 2
   pub w11 : makeUpdate (mapAs (one 1 (2 ^ 64 - 1)) [] []) 1 5 0 ≡ record { number = 9; op = noOp }
   pub w12 : putValues (value (one 1 1) 7 ∷ []) (value (one 1 1) 8) ≡ value (one 1 1) 8 ∷ []

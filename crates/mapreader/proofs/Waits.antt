@@ -22,7 +22,7 @@ use Rattle.records.specs.declared.Record.{Record}
 use Rattle.records.specs.Kinds.{recordOk}
 use Rattle.scan.specs.Each.{each}
 use Rattle.scan.specs.Formed.{follows, wellFormed}
-use Rattle.scan.specs.Limits.{outer, middle, middleLimits, limitAt, tally}
+use Rattle.scan.specs.Limits.{outer, middle, Limits, today, outerBy, middleBy, middleLimits, limitAt, sameKind, sameOuter, tally, roomBy, withinBy, within}
 use Rattle.scan.specs.Scanned.{scanNumber}
 use Rattle.scan.proofs.Eachs.{decide, both, both-left, both-right, each-snoc, some-none}
 use Rattle.scan.proofs.Tallies.{tally-new}
@@ -117,25 +117,35 @@ waits-room l r p z k i =
     let d = waits-counted l p w in
     omega arith
 
--- they are few
-waits-most : (l : List Record) → each placed l ≡ true → scanNumber 1 6 l ≡ 0 → waitingCount l ≤ waitingLimit
+-- limits leave no more waiting removals than they say
+pub waits-under : (t : Limits) (l : List Record) → each placed l ≡ true → wellFormed 1 6 l ≡ true → withinBy t l ≡ true → waitingCount l ≤ t .waiting
 unfolding waitingCount fold
-waits-most l = by-records (λ m. each placed m ≡ true → scanNumber 1 6 m ≡ 0 → waitingCount m ≤ waitingLimit) (λ p z. omega arith) more l
+waits-under t = by-records (λ m. each placed m ≡ true → wellFormed 1 6 m ≡ true → withinBy t m ≡ true → waitingCount m ≤ t .waiting) (λ p w h. omega arith) more
   where
-    more : (m : List Record) (r : Record) → (each placed m ≡ true → scanNumber 1 6 m ≡ 0 → waitingCount m ≤ waitingLimit) → each placed (m ++ (r ∷ [])) ≡ true → scanNumber 1 6 (m ++ (r ∷ [])) ≡ 0 → waitingCount (m ++ (r ∷ [])) ≤ waitingLimit
-    more m r h p z =
-        let pm = sym (each-snoc placed m r) ∙ p in
-        let before = both-left (each placed m) (placed m r) pm in
-        let old = h before (scan-before 1 6 m r z) in
+    more : (m : List Record) (r : Record) → (each placed m ≡ true → wellFormed 1 6 m ≡ true → withinBy t m ≡ true → waitingCount m ≤ t .waiting)
+        → each placed (m ++ (r ∷ [])) ≡ true → wellFormed 1 6 (m ++ (r ∷ [])) ≡ true → withinBy t (m ++ (r ∷ [])) ≡ true → waitingCount (m ++ (r ∷ [])) ≤ t .waiting
+    more m r h p w s =
+        let sm = sym (each-snoc (roomBy t) m r) ∙ s in
+        let wm = sym (formed-snoc 1 6 m r) ∙ w in
         decide (eqb (r .kind) 5)
-        (λ t. let k = eqb-true (r .kind) 5 t in
-        let e = count-more m r k in
-        decide (eqb (r .index) (waitingCount m))
-        (λ a. let q = eqb-true (r .index) (waitingCount m) a in let b = waits-room m r before z k q in omega arith)
-        (λ a. let q = eqb-false (r .index) (waitingCount m) a in
-        let fit = both-right (entryFits (Rattle.maprecords.specs.Reading.entriesFor m) r) (waitingFits (waitingCount m) r) (both-right (each placed m) (placed m r) pm) in
-        let i = leb-true (r .index) (waitingCount m) (rw t at fit) in omega arith))
-        (λ f. let e = count-same m r (eqb-false (r .kind) 5 f) in omega arith)
+        (λ a. let k = eqb-true (r .kind) 5 a in
+        let good = both-left (recordOk 1 6 r) _ (both-right (wellFormed 1 6 m) (follows 1 6 m r) wm) in
+        let y = no-key 1 6 r good k refl in
+        let keys = leb (tally (sameKind r) outer (m ++ (r ∷ []))) (limitAt (outerBy t) (r .kind)) in
+        let all = tally (sameOuter r) middle (m ++ (r ∷ [])) in
+        let most = limitAt (middleBy t) (r .kind) in
+        let b : all ≤ most = leb-true all most (both-left (leb all most) _ (both-right keys _ (both-right (withinBy t m) (roomBy t m r) sm))) in
+        let e : most ≡ t .waiting = ap (limitAt (middleBy t)) k in
+        let same : all ≡ tally clocked middle (m ++ (r ∷ [])) = ap₂ (λ a o. tally (λ x. eqb (x .kind) a && eqb (outer x) o) middle (m ++ (r ∷ []))) k (outer-key r (λ q. omega arith) ∙ y) in
+        let c = waits-counted (m ++ (r ∷ [])) p w in
+        omega arith)
+        (λ f. let old = h (both-left (each placed m) (placed m r) (sym (each-snoc placed m r) ∙ p)) (both-left (wellFormed 1 6 m) (follows 1 6 m r) wm) (both-left (withinBy t m) (roomBy t m r) sm) in
+        let e = count-same m r (eqb-false (r .kind) 5 f) in omega arith)
+
+-- so they are few
+waits-most : (l : List Record) → each placed l ≡ true → scanNumber 1 6 l ≡ 0 → waitingCount l ≤ waitingLimit
+unfolding within
+waits-most l p z = let g = scan-good 1 6 l z in waits-under today l p (g .0) (g .1)
 
 pub removal-keys-few : (l : List Record) (r : Record) → scanNumber 1 6 (l ++ (r ∷ [])) ≡ 0 → r .kind ≡ 6 → length (map (λ x. x .key) (those (underIndex 6 (r .index)) l)) < keyLimit
 removal-keys-few l r good k = rw (length-map (those (underIndex 6 (r .index)) l) (λ (x : Record). x .key)) (waiting-keys-room l r good k)

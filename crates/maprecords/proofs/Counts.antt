@@ -6,9 +6,9 @@ use mathlib.Core.Logic.{⊎-elim}
 use mathlib.Core.List.{List, [], _∷_, _++_, append-nil, append-assoc, List·Memᴰ·not-nil, List·Memᴰ·append-cases, List·Memᴰ·eq-of-singleton, Memᴰ·append-left}
 use Prim.Native.Nat.{ℕ, _+_, _≤_, _<_}
 use native.Mathlib.Omega.{arith}
-use lib.Dec.{eqb}
+use lib.Dec.{eqb, leb}
 use lib.ListN.{length, length-append, length-map}
-use borrow.Author.Tests.{eq-eqb, eqb-true, eqb-false}
+use borrow.Author.Tests.{eq-eqb, eqb-true, eqb-false, leb-true}
 use Rattle.lists.specs.Order.{_∈_}
 use Rattle.lists.specs.Sift.{those}
 use Rattle.lists.specs.First.{some}
@@ -21,9 +21,9 @@ use Rattle.parts.specs.Model.{entryLimit, keyLimit}
 use Rattle.records.specs.declared.Record.{Record}
 use Rattle.records.specs.Kinds.{before, recordOk}
 use Rattle.scan.specs.Formed.{follows, wellFormed}
-use Rattle.scan.specs.Limits.{outer, middle, outerLimits, middleLimits, innerLimits, limitAt, sameKind, sameOuter, sameMiddle, tally, within}
+use Rattle.scan.specs.Limits.{outer, middle, Limits, outerBy, outerLimits, middleLimits, innerLimits, limitAt, sameKind, sameOuter, sameMiddle, tally, roomBy, withinBy, within}
 use Rattle.scan.specs.Scanned.{scanNumber}
-use Rattle.scan.proofs.Eachs.{decide, both, both-left, both-right, every-at, some-snoc, some-none}
+use Rattle.scan.proofs.Eachs.{decide, both, both-left, both-right, every-at, each-snoc, some-snoc, some-none}
 use Rattle.scan.proofs.Befores.{before-fields}
 use Rattle.scan.proofs.Tallies.{tally-snoc, tally-new, tally-other}
 use Rattle.scan.proofs.Scans.{formed-snoc, alike, alike-outer, alike-middle, alike-index, outer-key}
@@ -199,6 +199,25 @@ keys-counted l = by-records KeysCounted (record { few = omega arith; all = λ s 
             let y = sym (outer-key s (λ e. omega arith)) ∙ eqb-true (outer s) (outer r) (both-right (isKind 2 s) (eqb (outer s) (outer r)) t) ∙ outer-key r (λ e. omega arith) in
             apart (sym (c .all s i sk) ∙ ap (λ q. some (λ x. eqb x q) (entryKeys m)) y ∙ f))
             (λ n. n)
+
+-- limits leave no more entries than they say
+pub entries-most : (t : Limits) (l : List Record) → withinBy t l ≡ true → length (entryKeys l) ≤ t .entries
+unfolding entryKeys fold
+entries-most t = by-records (λ l. withinBy t l ≡ true → length (entryKeys l) ≤ t .entries) (λ h. omega arith) more
+  where
+    more : (l : List Record) (r : Record) → (withinBy t l ≡ true → length (entryKeys l) ≤ t .entries) → withinBy t (l ++ (r ∷ [])) ≡ true → length (entryKeys (l ++ (r ∷ []))) ≤ t .entries
+    more l r p h =
+        let s = sym (each-snoc (roomBy t) l r) ∙ h in
+        decide (eqb (r .kind) 2)
+        (λ a. let k = eqb-true (r .kind) 2 a in
+        let all = tally (sameKind r) outer (l ++ (r ∷ [])) in
+        let most = limitAt (outerBy t) (r .kind) in
+        let b : all ≤ most = leb-true all most (both-left (leb all most) _ (both-right (withinBy t l) (roomBy t l r) s)) in
+        let e : most ≡ t .entries = ap (limitAt (outerBy t)) k in
+        let c = keys-counted (l ++ (r ∷ [])) .few in
+        let same = ap (λ j. tally (λ x. eqb (x .kind) j) outer (l ++ (r ∷ []))) k in
+        omega arith)
+        (λ a. let old = p (both-left (withinBy t l) (roomBy t l r) s) in let e = ap length (keys-same l r (eqb-false (r .kind) 2 a)) in omega arith)
 
 -- a new entry
 pub entries-room : (l : List Record) (r : Record) → scanNumber 1 6 (l ++ (r ∷ [])) ≡ 0 → r .kind ≡ 2 → some (λ x. eqb x (r .key)) (entryKeys l) ≡ false → length (entryKeys l) < entryLimit

@@ -73,5 +73,5 @@ full-longest : length (mapRecords full) * 16 ≡ mapLongest
 unfolding full dots below dot flatFrom inOrder insert fold pad
 full-longest = refl
 
-longest : mapLongest ≡ 14464
+longest : mapLongest ≡ 28800
 longest = refl

@@ -19,7 +19,7 @@ use Rattle.register.specs.declared.Value.{Value}
 use Rattle.register.specs.Values.{alive, cutValues, mergeValues}
 use Rattle.parts.specs.Valid.{ValidValue}
 use Rattle.parts.specs.declared.Entry.{Entry}
-use Rattle.parts.specs.Model.{dotsIn, valuesIn, entryAs}
+use Rattle.parts.specs.Model.{entryLimit, dotsIn, valuesIn, entryAs}
 use Rattle.parts.specs.Entries.{stays, run}
 use Rattle.parts.proofs.Finish.{one-stays, one-goes}
 use Rattle.parts.proofs.Fits.{both-fit}
@@ -61,7 +61,7 @@ pub record Drawing (m n : Map) (s t : List ℕ) (l k : Layout) (out : Sketch) (f
   pub over : (e : Entry) → e ∈ fs → low ≤ e .key
   pub listed : Keyed s f (l .end) (keyNumber 0 low) (waitingIn m)
   pub others : Keyed t g (k .end) (keyNumber 0 low) (waitingIn n)
-  pub few : out .count + (length es + length fs) ≤ 32
+  pub few : out .count + (length es + length fs) ≤ 2 * entryLimit
   pub grown : Grown (Sketches s t) (mergedEntries m n) (sift stays (fate m n) (woven (seenBy m) (seenBy n) es fs)) out
 
 -- the keys of an image's waiting removals

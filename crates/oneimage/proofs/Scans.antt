@@ -16,16 +16,16 @@ use Rattle.clock.specs.Dots.{dotsOf}
 use Rattle.register.specs.declared.Value.{Value}
 use Rattle.parts.specs.declared.Entry.{Entry}
 use Rattle.parts.specs.declared.Removal.{Removal}
-use Rattle.parts.specs.Model.{entryLimit, dotsIn, valuesIn, underOf, listedIn}
+use Rattle.parts.specs.Model.{dotsIn, valuesIn, underOf, listedIn}
 use Rattle.map.specs.declared.Map.{Map}
 use Rattle.map.specs.Model.{seenBy, entriesIn, waitingIn}
 use Rattle.map.specs.Valid.{Within}
 use Rattle.map.proofs.Accepts.{Fits, fits-means}
 use Rattle.records.specs.declared.Record.{Record}
-use Rattle.scan.specs.Limits.{outer, middle, inner, sameKind, sameOuter, sameMiddle}
+use Rattle.scan.specs.Limits.{outer, middle, inner, Limits, today, sameKind, sameOuter, sameMiddle}
 use Rattle.scan.specs.Scanned.{scanNumber}
 use Rattle.scan.proofs.Eachs.{both-left, both-right}
-use Rattle.scan.proofs.Builds.{Among, scan-of}
+use Rattle.scan.proofs.Builds.{AmongBy, scan-of}
 use Rattle.clockimage.specs.Image.{dotRecord}
 use Rattle.opimage.specs.OpImage.{keyRecord}
 use Rattle.mapimage.specs.MapImage.{valueRecord, mapRecords}
@@ -69,17 +69,18 @@ few-actors l p = rw (length-map l (λ (d : Dot). d .actor)) p
 few-below : (k : ℕ) {n : ℕ} → k ≤ n → length (below k) ≤ n
 few-below k p = rw (length-below k) p
 
-module _ {m : Map} (h : Within m) where
+-- a map with so many entries and waiting removals as limits allow
+module _ {m : Map} (h : Within m) (t : Limits) (entries : length (entriesIn m) ≤ t .entries) (waiting : length (waitingIn m) ≤ t .waiting) where
   fits : Fits m
   fits = fits-means m (h .limits)
 
   abbrev keys : List ℕ
   keys = map (λ e. e .key) (entriesIn m)
 
-  keys-few : length keys ≤ entryLimit
-  keys-few = rw (length-map (entriesIn m) (λ (e : Entry). e .key)) (fits .count)
+  keys-few : length keys ≤ t .entries
+  keys-few = rw (length-map (entriesIn m) (λ (e : Entry). e .key)) entries
 
-  clock-among : (d : Dot) → Among (mapRecords m) (dotRecord 1 0 0 d)
+  clock-among : (d : Dot) → AmongBy t (mapRecords m) (dotRecord 1 0 0 d)
   clock-among d =
       let r = dotRecord 1 0 0 d in
       record {
@@ -96,7 +97,7 @@ module _ {m : Map} (h : Within m) where
 
   -- records of an entry
   module _ {e : Entry} (b : e ∈ entriesIn m) where
-    entry-among : (d : Dot) → Among (mapRecords m) (dotRecord 2 0 (e .key) d)
+    entry-among : (d : Dot) → AmongBy t (mapRecords m) (dotRecord 2 0 (e .key) d)
     entry-among d =
         let r = dotRecord 2 0 (e .key) d in
         record {
@@ -114,7 +115,7 @@ module _ {m : Map} (h : Within m) where
           few-inners = few-actors (dotsIn e) (fits .entries e b .dots);
         }
 
-    value-among : (j : ℕ) (v : Value) → Among (mapRecords m) (valueRecord (e .key) j v)
+    value-among : (j : ℕ) (v : Value) → AmongBy t (mapRecords m) (valueRecord (e .key) j v)
     value-among n v =
         let r = valueRecord (e .key) n v in
         record {
@@ -131,7 +132,7 @@ module _ {m : Map} (h : Within m) where
           few-inners = omega arith;
         }
 
-    value-dot-among : (j : ℕ) (v : Value) → Place v j (valuesIn e) → (d : Dot) → Among (mapRecords m) (dotRecord 4 j (e .key) d)
+    value-dot-among : (j : ℕ) (v : Value) → Place v j (valuesIn e) → (d : Dot) → AmongBy t (mapRecords m) (dotRecord 4 j (e .key) d)
     value-dot-among n v z d =
         let r = dotRecord 4 n (e .key) d in
         record {
@@ -155,7 +156,7 @@ module _ {m : Map} (h : Within m) where
 
   -- records of a waiting removal: its dots by index, and its keys under the index
   module _ {w : Removal} {n : ℕ} (z : Place w n (waitingIn m)) where
-    waiting-among : (d : Dot) → Among (mapRecords m) (dotRecord 5 n 0 d)
+    waiting-among : (d : Dot) → AmongBy t (mapRecords m) (dotRecord 5 n 0 d)
     waiting-among d =
         let r = dotRecord 5 n 0 d in
         record {
@@ -169,11 +170,11 @@ module _ {m : Map} (h : Within m) where
               let one : u ≡ w = place-one (rw here at p) z in
               Memᴰ·cast (ap inner q) (Memᴰ·map (λ (d : Dot). d .actor) (rw one at k));
           few-outers = omega arith;
-          few-middles = few-below (length (waitingIn m)) (fits .number);
+          few-middles = few-below (length (waitingIn m)) waiting;
           few-inners = few-actors (underOf w) (fits .waiting w (place-in z) .dots);
         }
 
-    key-among : (y : ℕ) → Among (mapRecords m) (keyRecord 6 n y)
+    key-among : (y : ℕ) → AmongBy t (mapRecords m) (keyRecord 6 n y)
     key-among y =
         let r = keyRecord 6 n y in
         record {
@@ -186,18 +187,21 @@ module _ {m : Map} (h : Within m) where
               let one : u ≡ w = place-one (rw here at p) z in
               Memᴰ·cast (ap middle q) (rw one at b);
           in-inners = λ x i t. let (j, u, p, k, b, q) = of-key h x i (by-kind r x (outer-kind r x (middle-outer r x t))) in List·Memᴰ·head (ap inner q);
-          few-outers = few-below (length (waitingIn m)) (fits .number);
+          few-outers = few-below (length (waitingIn m)) waiting;
           few-middles = fits .waiting w (place-in z) .keys;
           few-inners = omega arith;
         }
 
-  pub records-scan : scanNumber 1 6 (mapRecords m) ≡ 0
-  records-scan = scan-of 1 6 (mapRecords m) (records-ascend h) (records-ok h) (λ r i. go (stands-part (seenBy m) (entriesIn m) (waitingIn m) r i))
+  pub records-among : (r : Record) → r ∈ mapRecords m → AmongBy t (mapRecords m) r
+  records-among r i = go (stands-part (seenBy m) (entriesIn m) (waitingIn m) r i)
     where
-      go : {r : Record} → Part (seenBy m) (entriesIn m) (waitingIn m) r → Among (mapRecords m) r
+      go : {r : Record} → Part (seenBy m) (entriesIn m) (waitingIn m) r → AmongBy t (mapRecords m) r
       go (clock-dot d i e) = rw e (clock-among d)
       go (entry-dot e i d k q) = rw q (entry-among i d)
       go (value e i j v p q) = rw q (value-among i j v)
       go (value-dot e i j v p d k q) = rw q (value-dot-among i j v p d)
       go (waiting-dot j q p d k e) = rw e (waiting-among p d)
       go (waiting-key j q p k i e) = rw (e ∙ key-record j k (index-low h p)) (key-among p k)
+
+pub records-scan : {m : Map} → Within m → scanNumber 1 6 (mapRecords m) ≡ 0
+records-scan {m} h = let f = fits-means m (h .limits) in scan-of 1 6 (mapRecords m) (records-ascend h) (records-ok h) (records-among h today (f .count) (f .number))

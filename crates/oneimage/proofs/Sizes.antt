@@ -12,7 +12,8 @@ use Rattle.map.specs.declared.Map.{Map}
 use Rattle.map.specs.Model.{entriesIn, waitingIn}
 use Rattle.map.specs.Valid.{Within}
 use Rattle.map.proofs.Accepts.{fits-means}
-use Rattle.mapimage.specs.MapImage.{mapLongest, mapImage}
+use Rattle.scan.specs.Limits.{Limits, today}
+use Rattle.mapimage.specs.MapImage.{longestBy, mapLongest, mapImage}
 use Rattle.answers.specs.Sizes.{valueMost, entryMost, removalMost, totalOf, valueSize, entrySize, removalSize, mapSize}
 use Rattle.answers.proofs.Lengths.{length-image}
 
@@ -21,16 +22,20 @@ unfolding totalOf
 total-most size b [] f = omega arith
 total-most size b (x ∷ l) f = rw suc-mul (omega (arith, f x (List·Memᴰ·head refl), total-most size b l (λ y i. f y (List·Memᴰ·tail i))))
 
-pub image-most : {m : Map} → Within m → length (mapImage m) ≤ mapLongest
+-- under each limits
+pub image-under : {m : Map} → Within m → (t : Limits) → length (entriesIn m) ≤ t .entries → length (waitingIn m) ≤ t .waiting → length (mapImage m) ≤ longestBy t
 unfolding mapSize
-image-most {m} h =
+image-under {m} h t entries waiting =
     let f = fits-means m (h .limits) in
     omega (
       arith,
       length-image (h .valid) (f .number),
       f .clock,
-      f .count,
-      f .number,
+      entries,
+      waiting,
       total-most entrySize entryMost (entriesIn m) (λ e i. omega (arith, f .entries e i .dots, f .entries e i .count, total-most valueSize valueMost (valuesIn e) (λ v j. omega (arith, f .entries e i .each v j)))),
       total-most removalSize removalMost (waitingIn m) (λ r i. omega (arith, f .waiting r i .dots, f .waiting r i .keys)),
     )
+
+pub image-most : {m : Map} → Within m → length (mapImage m) ≤ mapLongest
+image-most {m} h = let f = fits-means m (h .limits) in image-under h today (f .count) (f .number)

@@ -29,10 +29,10 @@ use Rattle.parts.specs.declared.Remnant.{Remnant}
 
 -- the limits: so many entries, so many waiting removals, so many keys in each
 abbrev pub entryLimit : ℕ
-entryLimit = 16
+entryLimit = 32
 
 abbrev pub waitingLimit : ℕ
-waitingLimit = 8
+waitingLimit = 16
 
 abbrev pub keyLimit : ℕ
 keyLimit = 16

@@ -10,10 +10,10 @@ use register::Value;
 use register::Wide;
 
 // The most entries of a map.
-pub const ENTRIES: usize = 16;
+pub const ENTRIES: usize = 32;
 
 // The most removals that can wait.
-pub const WAITING: usize = 8;
+pub const WAITING: usize = 16;
 
 // The most keys of a removal.
 pub const KEYS: usize = 16;

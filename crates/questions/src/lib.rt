@@ -5,9 +5,9 @@ use records::Record;
 use std::num::wrapping_add_u64;
 
 // The records that a buffer has room for, some more than the longest map has, and their bytes.
-pub const RECORDS: usize = 916;
+pub const RECORDS: usize = 1812;
 
-pub const BUFFER: usize = 14656;
+pub const BUFFER: usize = RECORDS * 16;
 
 // A number of the file, and the place behind it.
 pub struct Found {
@@ -79,7 +79,7 @@ pub fn read_question(file: &[u8], from: usize) -> Question {
         actor: (actor.value % 65536) as u16,
         key: (key.value % 4294967296) as u32,
         value: value.value,
-        room: (room.value % 14657) as usize,
+        room: (room.value % 28993) as usize,
         number: (refusal.value % 13) as usize,
         word: wrapping_add_u64((refusal.value % 13) * 4294967296, length.value),
         at: length.at,
@@ -114,7 +114,7 @@ fn line(file: &[u8], from: usize) -> Placed {
 // Reads an image: its length in bytes, and records until there are that many; the last may be cut.
 pub fn read_image(file: &[u8], from: usize, into: &mut [u8; BUFFER]) -> Extent {
     let length = number(file, from);
-    let len = (length.value % 14657) as usize;
+    let len = (length.value % 28993) as usize;
     let mut at = length.at;
     for i in 0..RECORDS {
         if i * 16 < len {

@@ -65,7 +65,7 @@ later n w r m =
     let q = ap (λ (x : Record). x .index) e in omega arith
 
 module _ {s : List ℕ} {end : ℕ} {w : List Removal} (fits : WaitingFits s end w) where
-  pub take-start : {at : ℕ} → at ≤ end → part s at end ≡ flatFrom waitingDots 0 w → Taking s end w at 0 (replicate 9 at)
+  pub take-start : {at : ℕ} → at ≤ end → part s at end ≡ flatFrom waitingDots 0 w → Taking s end w at 0 (replicate (waitingLimit + 1) at)
   take-start h e = record { done = []; rest = w; parts = refl; count = refl; order = h; records = e; here = refl; lies = λ j g. absurd (omega arith) }
 
   module _ {at i : ℕ} {starts : List ℕ} (t : Taking s end w at i starts) where

@@ -26,7 +26,7 @@ use walks::BY_INDEX;
 use walks::Layout;
 
 // Where a queue's runs begin, and where the last ends.
-pub const STARTS: usize = 9;
+pub const STARTS: usize = WAITING + 1;
 
 // Where the dots of an image's waiting removals begin: numbers of records.
 pub struct Queue {

@@ -56,18 +56,26 @@ fn replay(file: &[u8]) {
         if tally::answers_number(asked.call) {
             tally::count(&mut numbers, asked.number);
         }
-        tally::count(&mut cases, asked.call);
-        if !agrees(asked, &first, first_len, &second, second_len, &wanted) {
-            tally::count(&mut differences, asked.call);
-            tally::note(&mut first_case, asked.call, name);
-        }
+        let agreed = agrees(asked, &first, first_len, &second, second_len, &wanted);
+        tally::count_case(
+            &mut cases,
+            &mut differences,
+            &mut first_case,
+            asked.call,
+            name,
+            agreed,
+        );
         if tally::has_plain_form(asked.call) {
             let plain = calls::plainly(asked);
-            tally::count(&mut cases, plain.call);
-            if !agrees(plain, &first, first_len, &second, second_len, &wanted) {
-                tally::count(&mut differences, plain.call);
-                tally::note(&mut first_case, plain.call, name);
-            }
+            let agreed = agrees(plain, &first, first_len, &second, second_len, &wanted);
+            tally::count_case(
+                &mut cases,
+                &mut differences,
+                &mut first_case,
+                plain.call,
+                name,
+                agreed,
+            );
         }
     }
     tally::print_calls(&cases, &differences, &first_case);

@@ -16,7 +16,7 @@ use Rattle.records.specs.declared.Record.{Record}
 use Rattle.records.specs.Kinds.{before, recordOk}
 use Rattle.scan.specs.Each.{eachAfter, countAfter}
 use Rattle.scan.specs.Formed.{follows, wellFormed}
-use Rattle.scan.specs.Limits.{outer, middle, inner, outerLimits, middleLimits, innerLimits, limitAt, sameKind, sameOuter, sameMiddle, fresh, tally, within, room}
+use Rattle.scan.specs.Limits.{outer, middle, inner, Limits, today, outerBy, middleBy, innerLimits, limitAt, sameKind, sameOuter, sameMiddle, fresh, tally, roomBy, withinBy, within}
 use Rattle.scan.specs.Scanned.{scanNumber}
 use Rattle.scan.proofs.Eachs.{both-left, both-right, both, decide, every-at, every-of, some-snoc}
 use Rattle.scan.proofs.Tallies.{tally-none}
@@ -110,30 +110,33 @@ tally-among f (k ∷ ks) group l h =
         (λ j. j)
         (List·Memᴰ·cases-cons (h x i (both-left (group x) (not (eqb (f x) k)) t)))
 
--- numbers among which lie all that the groups of a record give
-pub record Among (l : List Record) (r : Record) : Type 0 where
+-- numbers among which lie all that the groups of a record give, and that are no more than limits allow
+pub record AmongBy (t : Limits) (l : List Record) (r : Record) : Type 0 where
   pub outers : List ℕ
   pub middles : List ℕ
   pub inners : List ℕ
   pub in-outers : (x : Record) → x ∈ l → sameKind r x ≡ true → outer x ∈ outers
   pub in-middles : (x : Record) → x ∈ l → sameOuter r x ≡ true → middle x ∈ middles
   pub in-inners : (x : Record) → x ∈ l → sameMiddle r x ≡ true → inner x ∈ inners
-  pub few-outers : length outers ≤ limitAt outerLimits (r .kind)
-  pub few-middles : length middles ≤ limitAt middleLimits (r .kind)
+  pub few-outers : length outers ≤ limitAt (outerBy t) (r .kind)
+  pub few-middles : length middles ≤ limitAt (middleBy t) (r .kind)
   pub few-inners : length inners ≤ limitAt innerLimits (r .kind)
 
-within-after : (seen l whole : List Record) → ((x : Record) → x ∈ seen → x ∈ whole) → ((x : Record) → x ∈ l → x ∈ whole) → ((r : Record) → r ∈ whole → Among whole r) → eachAfter room seen l ≡ true
+abbrev pub Among : List Record → Record → Type 0
+Among = AmongBy today
+
+within-after : (t : Limits) (seen l whole : List Record) → ((x : Record) → x ∈ seen → x ∈ whole) → ((x : Record) → x ∈ l → x ∈ whole) → ((r : Record) → r ∈ whole → AmongBy t whole r) → eachAfter (roomBy t) seen l ≡ true
 unfolding eachAfter
-within-after seen [] whole a b h = refl
-within-after seen (r ∷ l) whole a b h =
+within-after t seen [] whole a b h = refl
+within-after t seen (r ∷ l) whole a b h =
     let m = h r (b r (List·Memᴰ·head refl)) in
-    both (room seen r) _
-    (both (leb (tally (sameKind r) outer (seen ++ (r ∷ []))) (limitAt outerLimits (r .kind))) _
+    both (roomBy t seen r) _
+    (both (leb (tally (sameKind r) outer (seen ++ (r ∷ []))) (limitAt (outerBy t) (r .kind))) _
     (le-leb _ _ (fits (sameKind r) outer (m .outers) (m .few-outers) (m .in-outers)))
-    (both (leb (tally (sameOuter r) middle (seen ++ (r ∷ []))) (limitAt middleLimits (r .kind))) _
+    (both (leb (tally (sameOuter r) middle (seen ++ (r ∷ []))) (limitAt (middleBy t) (r .kind))) _
     (le-leb _ _ (fits (sameOuter r) middle (m .middles) (m .few-middles) (m .in-middles)))
     (le-leb _ _ (fits (sameMiddle r) inner (m .inners) (m .few-inners) (m .in-inners)))))
-    (within-after (seen ++ (r ∷ [])) l whole further (λ x i. b x (List·Memᴰ·tail i)) h)
+    (within-after t (seen ++ (r ∷ [])) l whole further (λ x i. b x (List·Memᴰ·tail i)) h)
   where
     further : (x : Record) → x ∈ (seen ++ (r ∷ [])) → x ∈ whole
     further x i = ⊎-elim (λ j. a x j) (λ j. b x (List·Memᴰ·head (List·Memᴰ·eq-of-singleton j))) (List·Memᴰ·append-cases seen i)
@@ -142,9 +145,12 @@ within-after seen (r ∷ l) whole a b h =
     fits group f ks few h = let e = tally-among f ks group (seen ++ (r ∷ [])) (λ x i. h x (further x i)) in omega arith
 
 -- records whose groups give few numbers
+pub within-by : (t : Limits) (l : List Record) → ((r : Record) → r ∈ l → AmongBy t l r) → withinBy t l ≡ true
+within-by t l h = within-after t [] l l (λ x i. absurd (List·Memᴰ·not-nil i)) (λ x i. i) h
+
 pub within-of : (l : List Record) → ((r : Record) → r ∈ l → Among l r) → within l ≡ true
 unfolding within
-within-of l h = within-after [] l l (λ x i. absurd (List·Memᴰ·not-nil i)) (λ x i. i) h
+within-of l h = within-by today l h
 
 -- number 0
 pub scan-of : (low high : ℕ) (l : List Record) → Ascending before l → ((x : Record) → x ∈ l → recordOk low high x ≡ true) → ((r : Record) → r ∈ l → Among l r) → scanNumber low high l ≡ 0

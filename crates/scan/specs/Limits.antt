@@ -22,12 +22,27 @@ middle r = cond (eqb (r .kind) 6) (r .key) (r .index)
 abbrev pub inner : Record → ℕ
 inner r = r .actor
 
+-- the two limits that sleds of several sizes have of their own: so many entries, so many waiting removals; all others are the same for each
+pub record Limits : Type 0 where
+  pub entries : ℕ
+  pub waiting : ℕ
+
+-- those of this sled
+abbrev pub today : Limits
+today = record { entries = entryLimit; waiting = waitingLimit }
+
 -- by kind, from kind 0, which is none; a level that a kind does not use has one thing; update heads have no limit, and no operation has so many records
+abbrev pub outerBy : Limits → List ℕ
+outerBy t = 0 ∷ 1 ∷ t .entries ∷ t .entries ∷ t .entries ∷ 1 ∷ t .waiting ∷ 1 ∷ 1 ∷ keyLimit ∷ 255 ∷ 1 ∷ 1 ∷ []
+
+abbrev pub middleBy : Limits → List ℕ
+middleBy t = 0 ∷ 1 ∷ 1 ∷ valueLimit ∷ valueLimit ∷ t .waiting ∷ keyLimit ∷ 1 ∷ 1 ∷ 1 ∷ 255 ∷ 1 ∷ 1 ∷ []
+
 abbrev pub outerLimits : List ℕ
-outerLimits = 0 ∷ 1 ∷ entryLimit ∷ entryLimit ∷ entryLimit ∷ 1 ∷ waitingLimit ∷ 1 ∷ 1 ∷ keyLimit ∷ 255 ∷ 1 ∷ 1 ∷ []
+outerLimits = outerBy today
 
 abbrev pub middleLimits : List ℕ
-middleLimits = 0 ∷ 1 ∷ 1 ∷ valueLimit ∷ valueLimit ∷ waitingLimit ∷ keyLimit ∷ 1 ∷ 1 ∷ 1 ∷ 255 ∷ 1 ∷ 1 ∷ []
+middleLimits = middleBy today
 
 abbrev pub innerLimits : List ℕ
 innerLimits = 0 ∷ dotLimit ∷ dotLimit ∷ 1 ∷ dotLimit ∷ dotLimit ∷ 1 ∷ 1 ∷ dotLimit ∷ 1 ∷ 255 ∷ 1 ∷ dotLimit ∷ []
@@ -54,17 +69,26 @@ unfoldable pub tally : (Record → Bool) → (Record → ℕ) → List Record �
 tally group f l = count (fresh group f) l
 
 -- the counts of one kind within its limits
+abbrev pub withinLimitsBy : Limits → ℕ → ℕ → ℕ → ℕ → Bool
+withinLimitsBy t kind o m i = leb o (limitAt (outerBy t) kind) && (leb m (limitAt (middleBy t) kind) && leb i (limitAt innerLimits kind))
+
 abbrev pub withinLimits : ℕ → ℕ → ℕ → ℕ → Bool
-withinLimits kind o m i = leb o (limitAt outerLimits kind) && (leb m (limitAt middleLimits kind) && leb i (limitAt innerLimits kind))
+withinLimits = withinLimitsBy today
 
 -- the records up to r, r included, keep the limits of its kind
-abbrev pub room : List Record → Record → Bool
-room seen r =
-    withinLimits (r .kind) (tally (sameKind r) outer (seen ++ (r ∷ [])))
+abbrev pub roomBy : Limits → List Record → Record → Bool
+roomBy t seen r =
+    withinLimitsBy t (r .kind) (tally (sameKind r) outer (seen ++ (r ∷ [])))
     (tally (sameOuter r) middle (seen ++ (r ∷ []))) (tally (sameMiddle r) inner (seen ++ (r ∷ [])))
 
+abbrev pub room : List Record → Record → Bool
+room = roomBy today
+
+abbrev pub withinBy : Limits → List Record → Bool
+withinBy t l = each (roomBy t) l
+
 unfoldable pub within : List Record → Bool
-within l = each room l
+within l = withinBy today l
 
 -- a count after one more record: of another group, of the same group and thing, of the same group and another thing
 abbrev pub tallyOn : ℕ → Bool → Bool → ℕ

@@ -106,7 +106,7 @@ module _ {s t : List ℕ} {l : List Entry} {sk : Sketch} (h : Sketches s t l sk)
   wider : (sk .wide || ltb 4 (k .len)) ≡ some overfull (l ++ (one ∷ []))
   wider = rw (h .wide, full) (sym (some-snoc overfull l one))
 
-  pub push-one : length (sk .items) ≡ 16 → sk .count < 16
+  pub push-one : length (sk .items) ≡ entryLimit → sk .count < entryLimit
       → Sketches s t (l ++ (one ∷ [])) (record { items = set (sk .items) (sk .count) k; count = sk .count + 1; wide = sk .wide || ltb 4 (k .len) })
   push-one room few = record {
     count = counted;
@@ -128,6 +128,6 @@ module _ {s t : List ℕ} {l : List Entry} {sk : Sketch} (h : Sketches s t l sk)
         );
   }
 
-  pub push-over : 16 ≤ sk .count → Sketches s t (l ++ (one ∷ []))
+  pub push-over : entryLimit ≤ sk .count → Sketches s t (l ++ (one ∷ []))
       (record { items = sk .items; count = sk .count + 1; wide = sk .wide || ltb 4 (k .len) })
   push-over many = record { count = counted; wide = wider; items = λ n thin. absurd (omega (arith, counted)) }

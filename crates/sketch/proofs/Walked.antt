@@ -3,7 +3,7 @@
 use mathlib.Core.Path.{_≡_, refl, ap, sym, _∙_, subst}
 use mathlib.Core.Bool.{Bool, true, false, not, cond}
 use mathlib.Core.List.{List, [], _∷_, _++_, append-nil, List·Memᴰ·not-nil}
-use Prim.Native.Nat.{ℕ, _+_, _≤_, _<_}
+use Prim.Native.Nat.{ℕ, _+_, _*_, _≤_, _<_}
 use native.Mathlib.Omega.{arith}
 use lib.ListN.{length, replicate}
 use lib.Seq.{append-snoc}
@@ -80,7 +80,7 @@ module _ {s : List ℕ} {l : Layout} (f : Entry → Entry) where
         few = let n = w .few in omega (arith, ap length (g .parts), length-snoc (w .done) (f (g .entry)));
       }
 
-    pub walked-few : sk .count < 64
+    pub walked-few : sk .count < 2 * entryLimit
     walked-few = let n = w .few in omega (arith, w .holds s .count)
 
     pub walked-end : l .third ≤ x .own → (t : List ℕ) → Sketches s t (sift stays f es) sk

@@ -23,6 +23,10 @@ use Rattle.sketch.specs.declared.Source.{Source}
 use Rattle.sketch.specs.declared.Sketched.{Sketched}
 use Rattle.sketch.specs.declared.Sketch.{Sketch}
 
+-- the most records of one entry: its dots, its values and theirs
+abbrev pub entryRoom : ℕ
+entryRoom = dotLimit + valueLimit * (1 + dotLimit)
+
 -- the records of s from place i to place j, as bytes
 abbrev pub between : List ℕ → ℕ → ℕ → List ℕ
 between s i j = take (j * 16 - i * 16) (drop (i * 16) s)

@@ -11,7 +11,7 @@ ghost use Rattle.clock.specs.Lawful.{Lawful};
 ghost use Rattle.register.specs.declared.Value.{Value};
 ghost use Rattle.register.specs.Values.{valueLimit, alive, cutValues};
 ghost use Rattle.parts.specs.declared.Entry.{Entry};
-ghost use Rattle.parts.specs.Model.{keysOf, underOf, dotsIn, valuesIn, entryAs};
+ghost use Rattle.parts.specs.Model.{entryLimit, keysOf, underOf, dotsIn, valuesIn, entryAs};
 ghost use Rattle.parts.specs.Entries.{stays, cutEntry, listed, removeEntries};
 ghost use Rattle.map.specs.Model.{entriesIn};
 ghost use Rattle.mapimage.specs.MapImage.{mapLongest};
@@ -56,7 +56,7 @@ impl Sketched {
 
     // One value more, where a dot of it is left.
     pub fn add(self, x: Source) -> Sketched
-        requires { ⌜ (self .len < 16) × ((x .from ≤ x .to) × (x .to ≤ x .from + dotLimit)) ⌝ }
+        requires { ⌜ (self .len < 4 * valueLimit) × ((x .from ≤ x .to) × (x .to ≤ x .from + dotLimit)) ⌝ }
         ensures { λ r. ⌜ (r .len ≤ self .len + 1) × ((s t : List ℕ) (key : ℕ) (d : List Dot) (l : List Value) → Draws s t key d l self
             → Placed (imageOf s t x) x
             → Draws s t key d (l ++ those alive (valueAt s t x ∷ [])) r) ⌝ }
@@ -92,7 +92,7 @@ impl Sketch {
 
     // One entry more.
     pub fn push(self, k: Sketched) -> Sketch
-        requires { ⌜ self .count < 64 ⌝ }
+        requires { ⌜ self .count < 2 * entryLimit ⌝ }
         ensures { λ r. ⌜ (r .count ≡ self .count + 1) × ((s t : List ℕ) (l : List Entry) (key : ℕ) (d : List Dot) (vs : List Value)
             → Sketches s t l self → Draws s t key d vs k
             → Sketches s t (l ++ (entryAs key d vs ∷ [])) r) ⌝ }

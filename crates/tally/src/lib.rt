@@ -65,10 +65,26 @@ pub fn count(table: &mut [u64; PLACES], place: usize) {
 }
 
 // Keeps the first case that is noted at a place.
-pub fn note(table: &mut [u64; PLACES], place: usize, case: u64) {
+fn note(table: &mut [u64; PLACES], place: usize, case: u64) {
     let at = place % PLACES;
     if table[at] == 0 {
         table[at] = case;
+    }
+}
+
+// Counts a case of a call and, where the answer was not the file's, its difference.
+pub fn count_case(
+    cases: &mut [u64; PLACES],
+    differences: &mut [u64; PLACES],
+    first: &mut [u64; PLACES],
+    call: usize,
+    case: u64,
+    agreed: bool,
+) {
+    count(cases, call);
+    if !agreed {
+        count(differences, call);
+        note(first, call, case);
     }
 }
 

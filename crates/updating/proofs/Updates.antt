@@ -4,7 +4,7 @@ use mathlib.Core.Path.{_≡_, refl, ap, ap₂, sym, subst, _∙_}
 use mathlib.Core.Bool.{Bool, true, false, not, _||_}
 use mathlib.Core.List.{List, [], _∷_, _++_}
 use mathlib.Core.Logic.{⊎-elim}
-use Prim.Native.Nat.{ℕ, _+_, _≤_}
+use Prim.Native.Nat.{ℕ, _+_, _*_, _≤_}
 use native.Mathlib.Omega.{arith}
 use lib.ListN.{length}
 use Rattle.lists.specs.Order.{_∈_}
@@ -15,7 +15,7 @@ use Rattle.register.specs.declared.Value.{Value}
 use Rattle.register.specs.Values.{alive}
 use Rattle.parts.specs.declared.Entry.{Entry}
 use Rattle.parts.specs.declared.Update.{Update}
-use Rattle.parts.specs.Model.{dotsIn, entryAs}
+use Rattle.parts.specs.Model.{entryLimit, dotsIn, entryAs}
 use Rattle.parts.specs.Entries.{stays, run, putEntries}
 use Rattle.parts.proofs.Finish.{one-stays, one-goes}
 use Rattle.parts.proofs.Pieces.{dots-in}
@@ -52,7 +52,7 @@ pub record Drawing (m : Map) (u : Update) (s t : List ℕ) (l : Layout) (last : 
   pub above : (e : Entry) → e ∈ es → low ≤ e .key
   pub goal : done ≡ false → low ≤ u .key
   pub listed : Keyed s f last (keyNumber 0 low) (waitingIn m)
-  pub few : out .count + (length es + puts done) ≤ 32
+  pub few : out .count + (length es + puts done) ≤ 2 * entryLimit
   pub grown : Grown (Sketches s t) (updatedEntries m u) (sift stays (run (waitingIn m)) (coming u done es)) out
 
 pub drawing-start : {s t : List ℕ} {m : Map} (u : Update) {l : Layout} {first last : ℕ} {out : Sketch} → Lies s m l → Keyed s first last 0 (waitingIn m) → out .count ≡ 0 → Sketches s t [] out

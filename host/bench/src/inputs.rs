@@ -51,7 +51,7 @@ pub struct Task {
 }
 
 /// Half of every limit.
-const HALF: Sizes = Sizes { actors: 4, entries: 8, values: 2, waiting: 4, keys: 8 };
+const HALF: Sizes = Sizes { actors: 4, entries: 16, values: 2, waiting: 8, keys: 8 };
 /// What most maps are like: two bays that two parties have set.
 const SMALL: Sizes = Sizes { actors: 2, entries: 2, values: 1, waiting: 0, keys: 0 };
 
@@ -87,7 +87,7 @@ pub fn tasks() -> Vec<Task> {
         task("merge with an equal map", Work::Merge { other: image.clone() }),
         task("merge with a map of which half is newer", Work::Merge { other: newer_half }),
         of_map(
-            "merge with an equal map, every removal lists every key",
+            "merge with an equal map, every key is listed by half of the removals",
             &busy_map(),
             Work::Merge { other: busy },
         ),

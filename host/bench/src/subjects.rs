@@ -5,6 +5,7 @@ use calls::{length_of, number_of, Calls, LONGEST_MAP};
 use crdts::{CmRDT, CvRDT, ResetRemove, VClock};
 use oracle::expected;
 use oracle::image::{map_image, read_clock, read_map, read_operation};
+use oracle::model::MOST_ENTRIES;
 use oracle::published::{self, PublishedMap, PublishedOperation};
 use std::hint::black_box;
 
@@ -127,7 +128,7 @@ impl<C: Calls> Subject for ByByte<C> {
         let answer = expected_answer(task);
         assert_eq!((number_of(word), &out[..length_of(word)]), (answer.number, &answer.bytes[..]));
         if let Work::Len = task.work {
-            assert_eq!(self.0.len_count(&task.map), 16);
+            assert_eq!(self.0.len_count(&task.map), MOST_ENTRIES as u64);
         }
     }
 }
@@ -189,7 +190,7 @@ impl Subject for OnArrays {
         let mut out = vec![0; LONGEST_MAP];
         let length = plain::write_map(&runs.maps[0], &mut out).unwrap();
         match task.work {
-            Work::Len => assert_eq!(runs.maps[0].len(), 16),
+            Work::Len => assert_eq!(runs.maps[0].len(), MOST_ENTRIES),
             _ => assert_eq!(out[..length], expected_image(task)),
         }
     }
@@ -268,7 +269,7 @@ impl Subject for Published {
         let mut runs = Published::runs(task, 1);
         runs.run();
         match task.work {
-            Work::Len => assert_eq!(runs.maps[0].len().val, 16),
+            Work::Len => assert_eq!(runs.maps[0].len().val, MOST_ENTRIES),
             _ => assert_eq!(map_image(&published::map_out(&runs.maps[0])), expected_image(task)),
         }
     }

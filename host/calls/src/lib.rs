@@ -8,7 +8,7 @@ mod plain_calls;
 pub use archive::Archive;
 pub use plain_calls::Plain;
 
-pub const LONGEST_MAP: usize = 14_464;
+pub const LONGEST_MAP: usize = 28_800;
 pub const LONGEST_OPERATION: usize = 400;
 pub const LONGEST_CLOCK: usize = 128;
 

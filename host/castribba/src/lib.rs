@@ -131,10 +131,10 @@ pub use record::{kind, Record};
 pub use refusal::Refusal;
 
 /// The longest image of a map, in bytes.
-pub const LONGEST_MAP: usize = 14_464;
+pub const LONGEST_MAP: usize = 28_800;
 /// The longest image of an operation, in bytes.
 pub const LONGEST_OPERATION: usize = 400;
 /// The longest image of a clock, in bytes.
 pub const LONGEST_CLOCK: usize = 128;
 /// The bytes of a reader of pieces.
-pub const PIECES: usize = 8_625;
+pub const PIECES: usize = 16_865;

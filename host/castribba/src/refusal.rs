@@ -16,11 +16,11 @@ pub enum Refusal {
     Unrelated,
     /// 4: the result would have a clock of more than 8 dots.
     TooManyDots,
-    /// 5: the result would have more than 16 entries.
+    /// 5: the result would have more than 32 entries.
     TooManyEntries,
     /// 6: the result would have an entry of more than 4 values.
     TooManyValues,
-    /// 7: the result would have more than 8 waiting removals.
+    /// 7: the result would have more than 16 waiting removals.
     TooManyWaiting,
     /// 8: the result would have a waiting removal of more than 16 keys.
     TooManyKeys,
@@ -94,9 +94,9 @@ impl fmt::Display for Refusal {
             Refusal::OverLimit => write!(f, "an image is over its longest length or a limit"),
             Refusal::Unrelated => write!(f, "records of an image that belong together do not"),
             Refusal::TooManyDots => write!(f, "a clock would have more than 8 dots"),
-            Refusal::TooManyEntries => write!(f, "the map would have more than 16 entries"),
+            Refusal::TooManyEntries => write!(f, "the map would have more than 32 entries"),
             Refusal::TooManyValues => write!(f, "an entry would have more than 4 values"),
-            Refusal::TooManyWaiting => write!(f, "more than 8 removals would wait"),
+            Refusal::TooManyWaiting => write!(f, "more than 16 removals would wait"),
             Refusal::TooManyKeys => write!(f, "a waiting removal would have more than 16 keys"),
             Refusal::CounterSpent => write!(f, "the actor's counter is at its largest"),
             Refusal::ShortBuffer => write!(f, "the output buffer is shorter than the answer"),

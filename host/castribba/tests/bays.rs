@@ -25,6 +25,6 @@ fn refusals() {
     assert_eq!(loader::bay(&[], 0), Err(Refusal::NoBay));
     assert_eq!(loader::bay(&[], 25), Err(Refusal::NoBay));
     assert_eq!(loader::bay(&[1; 15], 25), Err(Refusal::Malformed));
-    assert_eq!(loader::bays(&[0; 14_465]), Err(Refusal::OverLimit));
+    assert_eq!(loader::bays(&[0; castribba::LONGEST_MAP + 1]), Err(Refusal::OverLimit));
     assert_eq!(loader::bays(&image(&M[1..])), Err(Refusal::Unrelated));
 }

@@ -3,7 +3,7 @@
 mod common;
 
 use castribba::{Entry, Map, Standing};
-use common::{clock, map, operation, sixteen_entries, Line, M};
+use common::{clock, map, operation, most_entries, Line, M};
 
 /// Key 5: 7 under {1:1}, which 8 under {1:2} outdoes, and 9 under {2:1} beside both. Key 6: 3 twice
 /// under one clock. Key 7: no value. Key 9: a value that no dot of the entry is in.
@@ -44,7 +44,7 @@ fn keys_and_entries() {
     assert_eq!((values, many.values(5)), (vec![7, 8, 9], vec![7, 8, 9]));
     assert_eq!(five.values[1].clock, clock(&[(1, 0, 1, 0, 2)]));
     assert_eq!(many.entry(8), None);
-    assert_eq!(map(&sixteen_entries()).entries().count(), 16);
+    assert_eq!(map(&most_entries()).entries().count(), 32);
     assert_eq!(Map::new().entries().count(), 0);
 }
 

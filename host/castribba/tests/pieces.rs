@@ -4,7 +4,7 @@ mod common;
 
 use castribba::slices::{self, LentPieces};
 use castribba::{Map, Pieces, Refusal, LONGEST_MAP, PIECES};
-use common::{image, map, sixteen_entries, Line, M};
+use common::{image, map, most_entries, Line, M};
 
 const PAINT: u8 = 0xEE;
 
@@ -33,8 +33,8 @@ fn every_cut_in_two_and_in_three() {
 
 #[test]
 fn pieces_of_every_length() {
-    let entries = image(&sixteen_entries());
-    let waiting: Vec<Line> = (0..8).map(|index| (5, index, u16::from(index), 0, 1)).collect();
+    let entries = image(&most_entries());
+    let waiting: Vec<Line> = (0..16).map(|index| (5, index, u16::from(index), 0, 1)).collect();
     for whole in [entries, image(&waiting)] {
         for length in 1..=whole.len() + 1 {
             assert_eq!(joined(whole.chunks(length)), Map::from_image(&whole));

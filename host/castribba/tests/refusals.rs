@@ -29,7 +29,7 @@ fn images_over_a_limit() {
     assert_eq!(Map::from_image(&image(&nine)), Err(Refusal::OverLimit));
     assert_eq!(Clock::from_image(&[0; 129]), Err(Refusal::OverLimit));
     assert_eq!(Operation::from_image(&[0; 401]), Err(Refusal::OverLimit));
-    assert_eq!(Map::from_image(&[0; 14_465]), Err(Refusal::OverLimit));
+    assert_eq!(Map::from_image(&[0; castribba::LONGEST_MAP + 1]), Err(Refusal::OverLimit));
 }
 
 #[test]
@@ -66,9 +66,9 @@ fn too_many_values() {
 
 #[test]
 fn too_many_waiting() {
-    let eight: Vec<Line> = (0..8).map(|index| (5, index, u16::from(index), 0, 1)).collect();
-    let removal = [(7, 0, 0, 0, 0), (8, 0, 8, 0, 1)];
-    assert_eq!(refused(&eight, &removal), Refusal::TooManyWaiting);
+    let sixteen: Vec<Line> = (0..16).map(|index| (5, index, u16::from(index), 0, 1)).collect();
+    let removal = [(7, 0, 0, 0, 0), (8, 0, 16, 0, 1)];
+    assert_eq!(refused(&sixteen, &removal), Refusal::TooManyWaiting);
 }
 
 #[test]

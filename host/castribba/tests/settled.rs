@@ -3,7 +3,7 @@
 mod common;
 
 use castribba::{Map, Refusal};
-use common::{clock, map, operation, sixteen_entries, Line, M};
+use common::{clock, map, operation, most_entries, Line, M};
 
 fn applied(before: &Map, op: &[Line]) -> Map {
     let mut after = before.clone();
@@ -76,7 +76,7 @@ fn w8_waiting_removals_united_by_a_reset() {
 #[test]
 fn w9_limits_are_judged_on_the_finished_result() {
     let update = [(10, 0, 9, 77, 1), (11, 0, 0, 0, 7), (12, 0, 9, 0, 1)];
-    let full = sixteen_entries();
+    let full = most_entries();
     let mut without = map(&full);
     assert_eq!(without.apply(&operation(&update)), Err(Refusal::TooManyEntries));
     assert_eq!(without, map(&full));

@@ -2,6 +2,7 @@
 
 use crate::random::Random;
 use oracle::image::{bytes_of, records_of, Record};
+use oracle::model::{MOST_DOTS, MOST_ENTRIES, MOST_KEYS, MOST_VALUES, MOST_WAITING};
 
 /// A record with small fields, well formed or nearly so.
 pub fn small_record(random: &mut Random) -> Record {
@@ -122,21 +123,25 @@ pub fn lone_kind(random: &mut Random) -> Vec<u8> {
         _ => random.between(1, limit + 2),
     };
     let (keys, indexes, actors) = match kind {
-        1 | 8 | 12 => (1, 1, around(random, 8)),
-        2 => (around(random, 16), 1, around(random, 8)),
-        3 => (around(random, 16), around(random, 4), 1),
-        4 => (around(random, 16), around(random, 4), around(random, 8)),
-        5 => (1, around(random, 8), around(random, 8)),
-        6 => (around(random, 16), around(random, 8), 1),
-        9 => (around(random, 16), 1, 1),
+        1 | 8 | 12 => (1, 1, around(random, MOST_DOTS)),
+        2 => (around(random, MOST_ENTRIES), 1, around(random, MOST_DOTS)),
+        3 => (around(random, MOST_ENTRIES), around(random, MOST_VALUES), 1),
+        4 => (
+            around(random, MOST_ENTRIES),
+            around(random, MOST_VALUES),
+            around(random, MOST_DOTS),
+        ),
+        5 => (1, around(random, MOST_WAITING), around(random, MOST_DOTS)),
+        6 => (around(random, MOST_KEYS), around(random, MOST_WAITING), 1),
+        9 => (around(random, MOST_KEYS), 1, 1),
         _ => (around(random, 3), 1, around(random, 3)),
     };
     let uses_key = matches!(kind, 2 | 3 | 4 | 6 | 9 | 10);
     let uses_index = matches!(kind, 3..=6);
     let uses_actor = matches!(kind, 1 | 2 | 4 | 5 | 8 | 10 | 12);
     let uses_number = !matches!(kind, 6 | 9);
-    // distinct indexes are counted, not how high they are
-    let step = if random.one_in(3) { random.between(2, 20) as u8 } else { 1 };
+    // distinct indexes are counted, not how high they are; the highest is below 256
+    let step = if random.one_in(3) { random.between(2, 14) as u8 } else { 1 };
     let sparse = random.one_in(2);
     let mut records = Vec::new();
     for key in 0..keys {

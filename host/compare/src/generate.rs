@@ -52,7 +52,7 @@ pub struct Taste {
 impl Taste {
     pub fn random(random: &mut Random) -> Taste {
         let actor_amount = *random.pick(&[1, 2, 3, 3, 5, 8, 9, 12]);
-        let key_amount = *random.pick(&[1, 2, 3, 3, 6, 16, 17, 20]);
+        let key_amount = *random.pick(&[1, 2, 3, 3, 6, 16, 17, 32, 33, 36]);
         let mut actors: Vec<u16> = (1..=actor_amount).collect();
         let mut keys: Vec<u32> = (5..5 + key_amount).collect();
         if random.one_in(4) {
@@ -84,7 +84,7 @@ impl Taste {
     /// Maps that are full, or nearly so, in most respects at once: up to the longest image.
     pub fn brim(random: &mut Random) -> Taste {
         let actor_amount = random.between(7, 9) as u16;
-        let key_amount = random.between(16, 19) as u32;
+        let key_amount = random.between(MOST_ENTRIES, MOST_ENTRIES + 3) as u32;
         let mut fill = || match random.below(4) {
             0 => Fill::random(random),
             _ => Fill::Brim,
@@ -109,7 +109,7 @@ impl Taste {
         ours.actors = (1..=split).collect();
         theirs.actors = (split + 1..=8).collect();
         if random.one_in(2) {
-            theirs.keys = theirs.keys.iter().map(|key| key + 9).collect();
+            theirs.keys = theirs.keys.iter().map(|key| key + MOST_ENTRIES as u32 / 2 + 1).collect();
         }
         (ours, theirs)
     }

@@ -77,8 +77,8 @@ pub fn failed_examples(calls: &dyn Calls) -> u32 {
     let answer = examples.out(|calls, out| calls.reset_remove(&two_waiting, &by, out));
     examples.is("W8", answer, 0, &[(5, 0, 2, 0, 1), (6, 0, 0, 5, 0), (6, 0, 0, 6, 0)]);
 
-    let mut full = vec![(1, 0, 1, 0, 16)];
-    full.extend((1..=16).map(|key| (2, 0, 1, key, u64::from(key))));
+    let mut full = vec![(1, 0, 1, 0, 32)];
+    full.extend((1..=32).map(|key| (2, 0, 1, key, u64::from(key))));
     let update = [(10, 0, 9, 77, 1), (11, 0, 0, 0, 7), (12, 0, 9, 0, 1)];
     let answer = examples.apply(&full, &update);
     examples.is("W9 without the waiting removal", answer, 5, &[]);

@@ -1,6 +1,7 @@
 //! Every short input: all short lists of small records, and all small maps with all small partners.
 
 use crate::asks::Asks;
+use calls::{LONGEST_CLOCK, LONGEST_MAP, LONGEST_OPERATION};
 use oracle::image::{bytes_of, clock_image, operation_image, read_map, Record};
 use oracle::model::{Clock, Operation};
 use std::collections::BTreeSet;
@@ -150,11 +151,10 @@ pub fn every_length(asks: &mut dyn Asks) {
     for length in 0..=clock.len() + 17 {
         asks.reset_remove(&map, &resized(&clock, length));
     }
-    for (longest, around) in [(14_464, 14_449..=14_482), (400, 385..=418), (128, 113..=146)] {
-        for length in around {
+    for longest in [LONGEST_MAP, LONGEST_OPERATION, LONGEST_CLOCK] {
+        for length in longest - 15..=longest + 18 {
             // form is bad everywhere here, so only the length can answer 2
             let zeros = vec![0; length];
-            assert!(zeros.len().abs_diff(longest) <= 18);
             asks.every_call(&zeros, &map, 1, 5, 7);
             asks.every_call(&map, &zeros, 1, 5, 7);
         }

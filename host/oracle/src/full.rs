@@ -1,6 +1,8 @@
 //! Maps by their sizes: the longest, with every limit met at once, and shorter ones.
 
-use crate::model::{Clock, Entry, Map};
+use crate::model::{
+    Clock, Entry, Map, MOST_DOTS, MOST_ENTRIES, MOST_KEYS, MOST_VALUES, MOST_WAITING,
+};
 
 /// How many dots each clock has, entries a map, values an entry, removals wait, keys each of them.
 pub struct Sizes {
@@ -11,7 +13,13 @@ pub struct Sizes {
     pub keys: u32,
 }
 
-const FULL: Sizes = Sizes { actors: 8, entries: 16, values: 4, waiting: 8, keys: 16 };
+const FULL: Sizes = Sizes {
+    actors: MOST_DOTS as u16,
+    entries: MOST_ENTRIES as u32,
+    values: MOST_VALUES as u16,
+    waiting: MOST_WAITING as u64,
+    keys: MOST_KEYS as u32,
+};
 
 fn clock_of(actors: u16, counter: impl Fn(u16) -> u64) -> Clock {
     (1..=actors).map(|actor| (actor, counter(actor))).collect()
@@ -50,18 +58,19 @@ pub fn map_of(sizes: &Sizes, newer: impl Fn(u32) -> bool) -> Map {
     }
 }
 
-/// Sixteen full entries and eight full waiting removals.
+/// As many entries and waiting removals as may be, each of them full.
 pub fn full_map(newer: impl Fn(u32) -> bool) -> Map {
     map_of(&FULL, newer)
 }
 
-/// A full map whose removals each list all of its keys, and have seen the last actor's dots alone:
-/// every removal cuts every clock, and seven dots of eight are left.
+/// A full map whose removals list its keys, the first of them and the last in turn, and have seen the
+/// last actor's dots alone: every clock is cut by half of the removals, and seven dots of eight are left.
 pub fn busy_map() -> Map {
     let waiting = (1..=FULL.waiting)
         .map(|place| {
             let clock = full_clock(|actor| if actor == FULL.actors { 3000 + place } else { place });
-            (clock, (1..=FULL.keys).collect())
+            let above = if place % 2 == 0 { FULL.entries - FULL.keys } else { 0 };
+            (clock, (above + 1..=above + FULL.keys).collect())
         })
         .collect();
     Map { waiting, ..full_map(|_| false) }

@@ -7,7 +7,7 @@ use crate::model::{
 use std::collections::{BTreeMap, BTreeSet};
 
 pub const RECORD_LENGTH: usize = 16;
-pub const LONGEST_MAP: usize = 14_464;
+pub const LONGEST_MAP: usize = 28_800;
 pub const LONGEST_OPERATION: usize = 400;
 pub const LONGEST_CLOCK: usize = 128;
 

@@ -25,9 +25,9 @@ pub enum Operation {
 }
 
 pub const MOST_DOTS: usize = 8;
-pub const MOST_ENTRIES: usize = 16;
+pub const MOST_ENTRIES: usize = 32;
 pub const MOST_VALUES: usize = 4;
-pub const MOST_WAITING: usize = 8;
+pub const MOST_WAITING: usize = 16;
 pub const MOST_KEYS: usize = 16;
 
 /// The counter of an actor; an absent actor has 0.

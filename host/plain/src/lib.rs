@@ -19,11 +19,11 @@ pub use pieces::*;
 pub use register::{Register, Value};
 
 pub const MOST_DOTS: usize = 8;
-pub const MOST_ENTRIES: usize = 16;
+pub const MOST_ENTRIES: usize = 32;
 pub const MOST_VALUES: usize = 4;
-pub const MOST_WAITING: usize = 8;
+pub const MOST_WAITING: usize = 16;
 pub const MOST_KEYS: usize = 16;
 
-pub const LONGEST_MAP: usize = 14_464;
+pub const LONGEST_MAP: usize = 28_800;
 pub const LONGEST_OPERATION: usize = 400;
 pub const LONGEST_CLOCK: usize = 128;

@@ -37,6 +37,9 @@ fn ask_longest(sampler: &mut Sampler) {
     assert_eq!(image.len(), LONGEST_MAP);
     let removal = Operation::Removal { clock: map.clock, keys: [8].into() };
     sampler.apply(&image, &operation_image(&removal));
+    let put_clock = [(1, u64::MAX)].into_iter().collect();
+    let another = Operation::Update { actor: 1, counter: u64::MAX, key: 1000, put_clock, put_value: 1 };
+    sampler.apply(&image, &operation_image(&another));
     sampler.get(&image, 8);
     sampler.len(&image);
     sampler.merge(&image, &newer);

@@ -5,10 +5,10 @@ use Rattle.questions.proofs.read_image.Statement.{statement}
 use Rattle.questions.proofs.read_image.Tie as tie
 
 abbrev Inv-loop : tie.InvT-loop
-Inv-loop file from into₀ len at₀ i₀ into at i = i ≤ 916
+Inv-loop file from into₀ len at₀ i₀ into at i = i ≤ 1812
 
 abbrev μ-loop : tie.MeasureT-loop
-μ-loop file from into₀ len at₀ i₀ into at i = 916 - i
+μ-loop file from into₀ len at₀ i₀ into at i = 1812 - i
 
 pub read-image-spec : {M : Type 1} → statement M
 read-image-spec =

@@ -5,10 +5,10 @@ use Rattle.questions.proofs.same.Statement.{statement}
 use Rattle.questions.proofs.same.Tie as tie
 
 abbrev Inv-loop : tie.InvT-loop
-Inv-loop a b i₀ i = i ≤ 14656
+Inv-loop a b i₀ i = i ≤ 28992
 
 abbrev μ-loop : tie.MeasureT-loop
-μ-loop a b i₀ i = 14656 - i
+μ-loop a b i₀ i = 28992 - i
 
 pub same-spec : {M : Type 1} → statement M
 same-spec =

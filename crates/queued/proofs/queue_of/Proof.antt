@@ -1,6 +1,6 @@
 -- `queue_of` meets its contract: the run of a removal's dots a turn. Assumes nothing.
 use mathlib.Core.Path.{_≡_, sym}
-use Prim.Native.Nat.{_*_, _≤_, _-_}
+use Prim.Native.Nat.{_*_, _+_, _≤_, _-_}
 use lib.ListN.{length, length-set}
 use native.Mathlib.Omega.{arith}
 use Rattle.parts.specs.Model.{waitingLimit}
@@ -13,7 +13,7 @@ use Rattle.queued.proofs.queue_of.Tie as tie
 
 abbrev Inv-loop : tie.InvT-loop
 Inv-loop s n end at₀ starts₀ i₀ at starts i =
-    ((at ≤ end) × ((end * 16 ≤ length s) × ((i ≤ n) × ((n ≤ waitingLimit) × (length starts ≡ 9))))) × Taking s end (waitingIn (readMap s .map)) at i starts
+    ((at ≤ end) × ((end * 16 ≤ length s) × ((i ≤ n) × ((n ≤ waitingLimit) × (length starts ≡ waitingLimit + 1))))) × Taking s end (waitingIn (readMap s .map)) at i starts
 
 abbrev μ-loop : tie.MeasureT-loop
 μ-loop s n end at₀ starts₀ i₀ at starts i = n - i

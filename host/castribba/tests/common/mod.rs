@@ -32,8 +32,8 @@ pub fn clock(lines: &[Line]) -> Clock {
     Clock::from_image(&image(lines)).expect("a clock's image")
 }
 
-/// A map of 16 entries with clock {1:16}, as in W9.
-pub fn sixteen_entries() -> Vec<Line> {
-    let entries = (1..=16).map(|key| (2, 0, 1, key, u64::from(key)));
-    std::iter::once((1, 0, 1, 0, 16)).chain(entries).collect()
+/// A map of as many entries as may be, 32, with clock {1:32}, as in W9.
+pub fn most_entries() -> Vec<Line> {
+    let entries = (1..=32).map(|key| (2, 0, 1, key, u64::from(key)));
+    std::iter::once((1, 0, 1, 0, 32)).chain(entries).collect()
 }

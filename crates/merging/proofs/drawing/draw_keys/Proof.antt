@@ -11,6 +11,7 @@ use Rattle.lists.proofs.Pads.{unmapped}
 use Rattle.clock.specs.Dots.{dotsOf, isEmpty}
 use Rattle.clock.specs.Lawful.{Lawful}
 use Rattle.clock.proofs.Packs.{dots-of}
+use Rattle.parts.specs.Model.{entryLimit}
 use Rattle.map.specs.declared.Map.{Map}
 use Rattle.map.specs.Model.{seenBy, waitingIn}
 use Rattle.maprecords.specs.Related.{readMap}
@@ -23,7 +24,7 @@ use Rattle.merging.proofs.drawing.draw_keys.Statement.{statement}
 use Rattle.merging.proofs.drawing.draw_keys.Tie as tie
 
 abbrev Inv-loop : tie.InvT-loop
-Inv-loop s t cs ds l m mine yours third last out₀ f₀ g₀ x₀ y₀ out f g x y = Drawing (readMap s .map) (readMap t .map) s t l m out f g x y × (length (out .items) ≡ 16)
+Inv-loop s t cs ds l m mine yours third last out₀ f₀ g₀ x₀ y₀ out f g x y = Drawing (readMap s .map) (readMap t .map) s t l m out f g x y × (length (out .items) ≡ entryLimit)
 
 abbrev μ-loop : tie.MeasureT-loop
 μ-loop s t cs ds l m mine yours third last out₀ f₀ g₀ x₀ y₀ out f g x y = (third - x .own) + (last - y .own)

@@ -14,7 +14,7 @@ use Rattle.queued.proofs.rows.count_keys.Tie as tie
 
 abbrev Inv-loop : tie.InvT-loop
 Inv-loop s from n ours t start m theirs total₀ counts₀ i₀ j₀ total counts i j =
-    ((i ≤ n) × (n * 16 ≤ length s)) × (((j ≤ m) × (m * 16 ≤ length t)) × ((total ≤ (i + j) * 8) × (((p : ℕ) → p < waitingLimit → getD counts p 0 ≤ i + j)
+    ((i ≤ n) × (n * 16 ≤ length s)) × (((j ≤ m) × (m * 16 ≤ length t)) × ((total ≤ (i + j) * waitingLimit) × (((p : ℕ) → p < waitingLimit → getD counts p 0 ≤ i + j)
     × ((w v result : List Removal) → Keyed s from n 0 w → Keyed t start m 0 v → Moves w v result ours theirs → length result ≤ waitingLimit → Sound result → KeysCounting s n t m w v result i j total counts))))
 
 abbrev μ-loop : tie.MeasureT-loop

@@ -3,15 +3,16 @@ use mathlib.Core.Path.{_≡_}
 use lib.ListN.{length, length-take}
 use Rattle.lists.proofs.Pads.{unmapped}
 use borrow.Author.Needs.{needs}
+use Rattle.parts.specs.Model.{entryLimit}
 use native.Mathlib.Omega.{arith}
 use Rattle.sketch.proofs.Sketch.size.Statement.{statement}
 use Rattle.sketch.proofs.Sketch.size.Tie as tie
 
 returns : tie.Need-returns
-returns c = let h : length (c .before .args .self .items) ≡ 16 = search (needs, unmapped) in simp length-take (omega arith)
+returns c = let h : length (c .before .args .self .items) ≡ entryLimit = search (needs, unmapped) in simp length-take (omega arith)
 
 returns-2 : tie.Need-returns-2
-returns-2 c = let h : length (c .before .args .self .items) ≡ 16 = search (needs, unmapped) in simp length-take (omega arith)
+returns-2 c = let h : length (c .before .args .self .items) ≡ entryLimit = search (needs, unmapped) in simp length-take (omega arith)
 
 pub size-spec : {M : Type 1} → statement M
 size-spec =

@@ -7,14 +7,14 @@ use borrow.Author.Needs.{needs}
 use Rattle.lists.proofs.Rests.{in-list}
 use Rattle.answers.specs.Sizes.{totalOf}
 use Rattle.answers.proofs.Totals.{total-on, total-end}
-use Rattle.sketch.specs.Drawn.{itemsOf}
+use Rattle.sketch.specs.Drawn.{entryRoom, itemsOf}
 use Rattle.sketch.proofs.Sources.{noSketchedRead}
 use Rattle.sketch.proofs.Counts.{sketchedSize, all-records}
 use Rattle.sketch.proofs.counting.count_records.Statement.{statement}
 use Rattle.sketch.proofs.counting.count_records.Tie as tie
 
 abbrev Inv-loop : tie.InvT-loop
-Inv-loop sk n total₀ i₀ total i = (i ≤ n) × ((total ≤ i * 44) ×
+Inv-loop sk n total₀ i₀ total i = (i ≤ n) × ((total ≤ i * entryRoom) ×
     (total + totalOf sketchedSize (drop i (itemsOf sk)) ≡ totalOf sketchedSize (itemsOf sk)))
 
 abbrev μ-loop : tie.MeasureT-loop

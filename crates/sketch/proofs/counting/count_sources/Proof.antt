@@ -5,6 +5,7 @@ use lib.ListN.{length, drop}
 use native.Mathlib.Omega.{arith}
 use borrow.Author.Needs.{needs}
 use Rattle.lists.proofs.Rests.{in-list}
+use Rattle.clock.specs.Dots.{dotLimit}
 use Rattle.answers.specs.Sizes.{totalOf}
 use Rattle.answers.proofs.Totals.{total-on, total-end}
 use Rattle.sketch.specs.Drawn.{sourceSize, sourcesOf}
@@ -13,7 +14,7 @@ use Rattle.sketch.proofs.counting.count_sources.Statement.{statement}
 use Rattle.sketch.proofs.counting.count_sources.Tie as tie
 
 abbrev Inv-loop : tie.InvT-loop
-Inv-loop e n total₀ i₀ total i = (i ≤ n) × ((total ≤ i * 9) × (total + totalOf sourceSize (drop i (sourcesOf e)) ≡ totalOf sourceSize (sourcesOf e)))
+Inv-loop e n total₀ i₀ total i = (i ≤ n) × ((total ≤ i * (1 + dotLimit)) × (total + totalOf sourceSize (drop i (sourcesOf e)) ≡ totalOf sourceSize (sourcesOf e)))
 
 abbrev μ-loop : tie.MeasureT-loop
 μ-loop e n total₀ i₀ total i = n - i

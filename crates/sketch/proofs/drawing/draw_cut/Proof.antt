@@ -8,7 +8,7 @@ use native.Mathlib.Omega.{arith}
 use borrow.Author.Needs.{needs}
 use Rattle.lists.proofs.Pads.{unmapped}
 use Rattle.clock.specs.Dots.{dotsOf, clockOf, cutDots}
-use Rattle.parts.specs.Model.{keysOf, dotsIn}
+use Rattle.parts.specs.Model.{entryLimit, keysOf, dotsIn}
 use Rattle.parts.specs.Entries.{stays, listed}
 use Rattle.map.specs.Model.{entriesIn}
 use Rattle.maprecords.specs.Related.{readMap}
@@ -19,7 +19,7 @@ use Rattle.sketch.proofs.drawing.draw_cut.Statement.{statement}
 use Rattle.sketch.proofs.drawing.draw_cut.Tie as tie
 
 abbrev Inv-loop : tie.InvT-loop
-Inv-loop s l all keys by end out₀ x₀ out x = Walked s l (cutWhere all (keysOf keys) (dotsOf by)) (entriesIn (readMap s .map)) x out × (length (out .items) ≡ 16)
+Inv-loop s l all keys by end out₀ x₀ out x = Walked s l (cutWhere all (keysOf keys) (dotsOf by)) (entriesIn (readMap s .map)) x out × (length (out .items) ≡ entryLimit)
 
 abbrev μ-loop : tie.MeasureT-loop
 μ-loop s l all keys by end out₀ x₀ out x = end - x .own

@@ -7,6 +7,7 @@ use native.Mathlib.Omega.{arith}
 use borrow.Author.Needs.{needs}
 use Rattle.lists.proofs.Rests.{in-list}
 use Rattle.records.proofs.Writing.{write-start, write-room, write-on, write-end}
+use Rattle.parts.specs.Model.{entryLimit}
 use Rattle.mapimage.specs.MapImage.{entryRecords}
 use Rattle.sketch.specs.Drawn.{drawn, itemsOf, drawnAll}
 use Rattle.sketch.proofs.Sources.{noSketchedRead, sections-end, leftFrom, section-start, section-on, section-end, Sectioned}
@@ -16,9 +17,9 @@ use Rattle.sketch.proofs.writing.write_sketch.Tie as tie
 abbrev Inv-loop : tie.InvT-loop
 Inv-loop s t out₀ at sk n next₀ kind₀ i₀ out next kind i = ((2 ≤ kind) × (kind ≤ 5)) × ((i ≤ n) × Sectioned s t sk kind i at out₀ out next)
 
--- a section has at most sixteen entries
+-- a section has at most as many entries as a map
 abbrev μ-loop : tie.MeasureT-loop
-μ-loop s t out₀ at sk n next₀ kind₀ i₀ out next kind i = (5 - kind) * 17 + (n - i)
+μ-loop s t out₀ at sk n next₀ kind₀ i₀ out next kind i = (5 - kind) * (entryLimit + 1) + (n - i)
 
 loop-holds : tie.Need-loop-holds Inv-loop μ-loop
 loop-holds c =

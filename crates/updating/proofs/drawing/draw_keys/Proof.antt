@@ -11,6 +11,7 @@ use Rattle.lists.proofs.Pads.{unmapped}
 use Rattle.clock.specs.Dots.{dotsOf, isEmpty}
 use Rattle.clock.proofs.Packs.{dots-of}
 use Rattle.map.specs.declared.Map.{Map}
+use Rattle.parts.specs.Model.{entryLimit}
 use Rattle.map.specs.Model.{waitingIn}
 use Rattle.maprecords.specs.Related.{readMap}
 use Rattle.mapimage.specs.MapImage.{keyNumber}
@@ -23,7 +24,7 @@ use Rattle.updating.proofs.drawing.draw_keys.Statement.{statement}
 use Rattle.updating.proofs.drawing.draw_keys.Tie as tie
 
 abbrev Inv-loop : tie.InvT-loop
-Inv-loop s l u op q first last dot third out₀ f₀ x₀ done₀ out f x done = (length (out .items) ≡ 16) × Drawing (readMap s .map) u s op l last out f x done
+Inv-loop s l u op q first last dot third out₀ f₀ x₀ done₀ out f x done = (length (out .items) ≡ entryLimit) × Drawing (readMap s .map) u s op l last out f x done
 
 abbrev μ-loop : tie.MeasureT-loop
 μ-loop s l u op q first last dot third out₀ f₀ x₀ done₀ out f x done = (third - x .own) + puts done
@@ -31,7 +32,7 @@ abbrev μ-loop : tie.MeasureT-loop
 loop-holds : tie.Need-loop-holds Inv-loop μ-loop
 loop-holds c = (room, drawing-start _ (c .before .before .before .before .pre .0 .0) (c .before .before .before .before .pre .1 .1 .1 .1 .1) (c .new .ensures .0) (c .new .ensures .1 _ _))
   where
-    room : length (c .new .result .items) ≡ 16
+    room : length (c .new .result .items) ≡ entryLimit
     room = search (needs, unmapped)
 
 next-requires : tie.Need-next-requires Inv-loop μ-loop
