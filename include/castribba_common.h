@@ -20,9 +20,9 @@
 #include <stddef.h>
 #include <stdint.h>
 
-/* The version of the calls and of the images: 0.1.0 is 100, 1.2.3 would be 10203. */
+/* The version of the calls and of the images: 0.2.0 is 200, 1.2.3 would be 10203. */
 #define CASTRIBBA_VERSION_MAJOR 0
-#define CASTRIBBA_VERSION_MINOR 1
+#define CASTRIBBA_VERSION_MINOR 2
 #define CASTRIBBA_VERSION_PATCH 0
 #define CASTRIBBA_VERSION \
     (CASTRIBBA_VERSION_MAJOR * 10000 + CASTRIBBA_VERSION_MINOR * 100 + CASTRIBBA_VERSION_PATCH)
@@ -66,7 +66,7 @@ const char *castribba_number_text(uint32_t number);
 enum castribba_kind {
     CASTRIBBA_CLOCK_DOT = 1,   /* actor, counter: the map has seen so many updates of this actor */
     CASTRIBBA_ENTRY_DOT = 2,   /* key, actor, counter: an update of this key that was not removed */
-    CASTRIBBA_VALUE = 3,       /* key, index, value */
+    CASTRIBBA_VALUE = 3,       /* key, index, value; its origin in the actor's place */
     CASTRIBBA_VALUE_DOT = 4,   /* key, index, actor, counter: what the writer of that value had seen */
     CASTRIBBA_WAITING_DOT = 5, /* index, actor, counter: the clock of a removal that waits */
     CASTRIBBA_WAITING_KEY = 6, /* index, key: a key that it removes */
@@ -74,7 +74,7 @@ enum castribba_kind {
     CASTRIBBA_REMOVAL_DOT = 8, /* actor, counter: its clock */
     CASTRIBBA_REMOVAL_KEY = 9, /* key: a key that it removes */
     CASTRIBBA_UPDATE = 10,     /* the head of an update: key, and its dot as actor, counter */
-    CASTRIBBA_PUT_VALUE = 11,  /* value */
+    CASTRIBBA_PUT_VALUE = 11,  /* value; its origin in the actor's place */
     CASTRIBBA_PUT_DOT = 12     /* actor, counter: what the writer had seen, this update included */
 };
 

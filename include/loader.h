@@ -1,7 +1,8 @@
 /* loader.h: the boot loader's choice, as C calls it.
  *
  * Keys 1 to 24 of a settings map are bays. Of a bay's values, those whose clock is strictly below
- * another's are dropped, and the smallest of the rest is taken. A report has eleven bytes:
+ * another's are dropped, and the smallest of the rest is taken; who set them, their origins, is not looked
+ * at. A report has eleven bytes:
  *     0      how many values remained
  *     1      1 where they differ, else 0
  *     2      1 where there is one, else 0

@@ -21,6 +21,15 @@ static const uint8_t REORDERED[] = {
     ROW(1, 0, 1, 0, 2),   ROW(1, 0, 2, 0, 1), ROW(2, 0, 1, 1, 2), ROW(2, 0, 2, 1, 1),
     ROW(3, 0, 0, 1, 300), ROW(3, 1, 0, 1, 400), ROW(3, 2, 0, 1, 5), ROW(4, 0, 2, 1, 1),
     ROW(4, 1, 1, 1, 2),   ROW(4, 2, 1, 1, 1)};
+/* the same bay, each value set by another */
+static const uint8_t WITH_ORIGINS[] = {
+    ROW(1, 0, 1, 0, 2),   ROW(1, 0, 2, 0, 1), ROW(2, 0, 1, 1, 2), ROW(2, 0, 2, 1, 1),
+    ROW(3, 0, 65535, 1, 300), ROW(3, 1, 1, 1, 400), ROW(3, 2, 0, 1, 5), ROW(4, 0, 2, 1, 1),
+    ROW(4, 1, 1, 1, 2),   ROW(4, 2, 1, 1, 1)};
+/* bay 3 of the first map, its equal values set by two */
+static const uint8_t AGREED_BY_TWO[] = {
+    ROW(1, 0, 1, 0, 1),  ROW(1, 0, 2, 0, 1),  ROW(2, 0, 1, 3, 1), ROW(2, 0, 2, 3, 1),
+    ROW(3, 0, 7, 3, 70), ROW(3, 1, 8, 3, 70), ROW(4, 0, 1, 3, 1), ROW(4, 1, 2, 3, 1)};
 static const uint8_t BAD_KIND[] = {ROW(13, 0, 0, 0, 0)};
 static const uint8_t OUTSIDE_CLOCK[] = {ROW(2, 0, 1, 5, 1)};
 static const uint8_t TOO_LONG[CASTRIBBA_LONGEST_MAP + 1];
@@ -40,6 +49,9 @@ int main(void)
     gives("a bay whose values differ", castribba_bay(IMAGE(MAP), 1, OUT), IMAGE(BAY_1));
     gives("its values in another order", castribba_bay(IMAGE(REORDERED), 1, OUT),
           IMAGE(BAY_1));
+    gives("its values set by others", castribba_bay(IMAGE(WITH_ORIGINS), 1, OUT), IMAGE(BAY_1));
+    gives("a bay whose values agree, set by two", castribba_bay(IMAGE(AGREED_BY_TWO), 3, OUT),
+          IMAGE(BAY_3));
     gives("a bay whose values agree", castribba_bay(IMAGE(MAP), 3, OUT), IMAGE(BAY_3));
     gives("a bay without an entry", castribba_bay(IMAGE(MAP), 2, OUT), IMAGE(NONE));
     gives("a bay without a value", castribba_bay(IMAGE(MAP), 24, OUT), IMAGE(NONE));

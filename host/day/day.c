@@ -14,6 +14,7 @@
 
 enum { CONTROLLER = 1, DRIVE_A = 2, DRIVE_B = 3 }; /* actors */
 enum { BAY_5 = 5, BAY_6 = 6 };                     /* keys */
+enum { ITSELF = 0, IDA = 701, OTTO = 702 };        /* origins: a drive by itself, or who sits at the console */
 enum { MAILBOX = 64 };                             /* bytes that it moves at once */
 
 typedef struct map {
@@ -48,18 +49,28 @@ static void check(int holds, const char *what)
 
 /* Reading an image's records. */
 
-/* How many images stand side by side for a bay; the last of them goes to `image`. */
-static int images_for(const map *m, uint32_t bay, uint64_t *image)
+/* How many images stand side by side for a bay; the record of the last of them goes to `last`. */
+static int images_for(const map *m, uint32_t bay, record *last)
 {
     int count = 0;
     for (size_t place = 0; place < m->len; place += CASTRIBBA_RECORD) {
         record r = record_at(m->bytes, place);
         if (r.kind == CASTRIBBA_VALUE && r.key == bay) {
-            *image = r.number;
+            *last = r;
             count++;
         }
     }
     return count;
+}
+
+/* Who set a value, behind it; a value's record has its origin in the actor's place. */
+static const char *who(const record *value)
+{
+    switch (value->actor) {
+    case IDA: return " (Ida)";
+    case OTTO: return " (Otto)";
+    default: return "";
+    }
 }
 
 /* The clock's records come first in a map, and are by themselves an image of that clock. */
@@ -85,7 +96,7 @@ static void print_clock(const map *m, uint8_t kind, uint8_t index)
     printf("}");
 }
 
-/* One line: what the party has seen, what each bay boots, and which removals wait. */
+/* One line: what the party has seen, what each bay boots and who set it, and which removals wait. */
 static void show(const char *name, const map *m)
 {
     record before = {0};
@@ -94,9 +105,9 @@ static void show(const char *name, const map *m)
     for (size_t place = 0; place < m->len; place += CASTRIBBA_RECORD) {
         record r = record_at(m->bytes, place);
         if (r.kind == CASTRIBBA_VALUE && before.kind == CASTRIBBA_VALUE && before.key == r.key)
-            printf(" and %" PRIu64, r.number);
+            printf(" and %" PRIu64 "%s", r.number, who(&r));
         else if (r.kind == CASTRIBBA_VALUE)
-            printf("; bay %" PRIu32 " boots %" PRIu64, r.key, r.number);
+            printf("; bay %" PRIu32 " boots %" PRIu64 "%s", r.key, r.number, who(&r));
         if (r.kind == CASTRIBBA_WAITING_KEY) {
             printf("; removal of bay %" PRIu32 " waits for ", r.key);
             print_clock(m, CASTRIBBA_WAITING_DOT, r.index);
@@ -188,9 +199,9 @@ static uint64_t reset(map *m, const uint8_t *clock, size_t clock_length)
 }
 
 /* A party picks an image for a bay: makes the operation, and is the first to apply it. */
-static void pick(map *m, uint16_t actor, uint32_t bay, uint64_t image, operation *op)
+static void pick(map *m, uint16_t actor, uint16_t origin, uint32_t bay, uint64_t image, operation *op)
 {
-    uint64_t word = castribba_update(m->bytes, m->len, actor, bay, image, op->bytes,
+    uint64_t word = castribba_update(m->bytes, m->len, actor, bay, image, origin, op->bytes,
                                      sizeof op->bytes);
     check(CASTRIBBA_NUMBER(word) == 0, "an update was not made");
     op->len = CASTRIBBA_LENGTH(word);
@@ -211,21 +222,22 @@ static uint64_t count(const map *m)
     return castribba_len_count(m->bytes, m->len);
 }
 
-static void check_boots(const map *m, uint32_t bay, uint64_t image)
+static void check_boots(const map *m, uint32_t bay, uint64_t image, uint16_t origin)
 {
-    uint64_t found = 0;
-    check(images_for(m, bay, &found) == 1 && found == image, "the bay boots another image");
+    record found;
+    check(images_for(m, bay, &found) == 1 && found.number == image, "the bay boots another image");
+    check(found.actor == origin, "the bay was set by another");
 }
 
 static void check_side_by_side(const map *m, uint32_t bay)
 {
-    uint64_t found;
+    record found;
     check(images_for(m, bay, &found) == 2, "two images were to stand side by side");
 }
 
 static void check_withdrawn(const map *m, uint32_t bay)
 {
-    uint64_t found;
+    record found;
     check(images_for(m, bay, &found) == 0, "the bay's setting was to be gone");
 }
 
@@ -234,8 +246,8 @@ static void check_withdrawn(const map *m, uint32_t bay)
 static void console_picks(void)
 {
     static operation first;
-    begin("1. The console picks image 40 for bay 5; the mailbox delivers to both drives.");
-    pick(&controller, CONTROLLER, BAY_5, 40, &first);
+    begin("1. At the console Ida picks image 40 for bay 5; the mailbox delivers to both drives.");
+    pick(&controller, CONTROLLER, IDA, BAY_5, 40, &first);
     deliver(&drive_a, &first);
     deliver(&drive_b, &first);
     check(same(&drive_a, &controller) && same(&drive_b, &controller), "the parties differ");
@@ -251,10 +263,10 @@ static void console_picks(void)
 static void edits_while_apart(void)
 {
     static operation by_controller, by_a, by_b, settled;
-    begin("3. Apart, the controller picks 41 and drive A 42 for bay 5, and drive B 60 for bay 6.");
-    pick(&controller, CONTROLLER, BAY_5, 41, &by_controller);
-    pick(&drive_a, DRIVE_A, BAY_5, 42, &by_a);
-    pick(&drive_b, DRIVE_B, BAY_6, 60, &by_b);
+    begin("3. Apart, Otto picks 41 at the console and drive A 42 for bay 5, and drive B 60 for bay 6.");
+    pick(&controller, CONTROLLER, OTTO, BAY_5, 41, &by_controller);
+    pick(&drive_a, DRIVE_A, ITSELF, BAY_5, 42, &by_a);
+    pick(&drive_b, DRIVE_B, ITSELF, BAY_6, 60, &by_b);
     show_all();
 
     begin("4. The mailbox delivers late, and twice: 41 and 42 stand side by side.");
@@ -272,11 +284,11 @@ static void edits_while_apart(void)
     check_side_by_side(&drive_b, BAY_5);
     show_all();
 
-    begin("5. The console sees both and picks 43, which overwrites both, everywhere.");
-    pick(&controller, CONTROLLER, BAY_5, 43, &settled);
+    begin("5. Ida sees both at the console and picks 43, which overwrites both, everywhere.");
+    pick(&controller, CONTROLLER, IDA, BAY_5, 43, &settled);
     deliver(&drive_a, &settled);
     deliver(&drive_b, &settled);
-    check_boots(&controller, BAY_5, 43);
+    check_boots(&controller, BAY_5, 43, IDA);
     check(same(&drive_a, &controller) && same(&drive_b, &controller), "the parties differ");
     show_all();
 }
@@ -288,7 +300,7 @@ static void removal_comes_first(void)
     before = drive_b;
 
     begin("6. Drive A picks 44 for bay 5, the controller hears of it and withdraws the setting.");
-    pick(&drive_a, DRIVE_A, BAY_5, 44, &update);
+    pick(&drive_a, DRIVE_A, ITSELF, BAY_5, 44, &update);
     deliver(&controller, &update);
     show_taken("controller", withdraw(&controller, BAY_5, &removal), 2);
     check_withdrawn(&controller, BAY_5);
@@ -311,7 +323,7 @@ static void removal_comes_first(void)
     show_all();
 
     begin("9. The same with an edit of bay 6 among them, in each of the six orders.");
-    pick(&drive_b, DRIVE_B, BAY_6, 61, &other);
+    pick(&drive_b, DRIVE_B, ITSELF, BAY_6, 61, &other);
     deliver(&controller, &other);
     deliver(&drive_a, &other);
     const operation *const mail[3] = {&update, &removal, &other};
@@ -331,10 +343,10 @@ static void plugged_back_in(void)
 {
     static operation by_controller, by_b;
     static map one_way, other_way, from_b, from_controller;
-    begin("10. Drive B is out. The controller picks 45 for bay 5, drive B 62 for bay 6.");
-    pick(&controller, CONTROLLER, BAY_5, 45, &by_controller);
+    begin("10. Drive B is out. Otto picks 45 for bay 5 at the console, drive B 62 for bay 6.");
+    pick(&controller, CONTROLLER, OTTO, BAY_5, 45, &by_controller);
     deliver(&drive_a, &by_controller);
-    pick(&drive_b, DRIVE_B, BAY_6, 62, &by_b);
+    pick(&drive_b, DRIVE_B, ITSELF, BAY_6, 62, &by_b);
     show_all();
 
     begin("11. Drive B is plugged back in: its map and the controller's cross by mailbox, in pieces.");
@@ -353,8 +365,8 @@ static void plugged_back_in(void)
     deliver(&drive_a, &by_b);
     const map *const parties[2] = {&controller, &drive_a};
     for (int party = 0; party < 2; party++) {
-        check_boots(parties[party], BAY_5, 45);
-        check_boots(parties[party], BAY_6, 62);
+        check_boots(parties[party], BAY_5, 45, OTTO);
+        check_boots(parties[party], BAY_6, 62, ITSELF);
     }
     show_all();
 }
@@ -366,7 +378,7 @@ static void loader_reads(void)
     uint64_t word = castribba_get(drive_a.bytes, drive_a.len, BAY_5, bay.bytes, sizeof bay.bytes);
     check(CASTRIBBA_NUMBER(word) == 0, "the loader was refused");
     bay.len = CASTRIBBA_LENGTH(word);
-    check_boots(&bay, BAY_5, 45);
+    check_boots(&bay, BAY_5, 45, OTTO);
     check(count(&bay) == 1 && count(&drive_a) == 2, "the count of entries is another");
     show("loader", &bay);
     printf("  %" PRIu64 " bays are set\n", count(&drive_a));
@@ -393,9 +405,9 @@ static void show_order(const map *m, const operation *op, int next)
 static void gap_is_caught(void)
 {
     static operation lost, arrived;
-    begin("14. The controller picks 46 for bay 5, then 64 for bay 6; the mailbox loses the first.");
-    pick(&controller, CONTROLLER, BAY_5, 46, &lost);
-    pick(&controller, CONTROLLER, BAY_6, 64, &arrived);
+    begin("14. Ida picks 46 for bay 5, then Otto 64 for bay 6; the mailbox loses the first.");
+    pick(&controller, CONTROLLER, IDA, BAY_5, 46, &lost);
+    pick(&controller, CONTROLLER, OTTO, BAY_6, 64, &arrived);
     show_order(&drive_a, &arrived, 0);
     show_gap(&drive_a, &arrived);
     show("drive A", &drive_a);
@@ -417,13 +429,13 @@ static void handed_on(void)
     static map seen;
     begin("16. The sled is handed on: what the console has seen is reset, what is newer stays.");
     seen = controller;
-    pick(&drive_b, DRIVE_B, BAY_6, 63, &newer);
+    pick(&drive_b, DRIVE_B, ITSELF, BAY_6, 63, &newer);
     show_taken("controller", reset(&controller, seen.bytes, clock_len(&seen)), 3);
     show_taken("drive A", reset(&drive_a, seen.bytes, clock_len(&seen)), 3);
     show_taken("drive B", reset(&drive_b, seen.bytes, clock_len(&seen)), 2);
     check(controller.len == 0 && drive_a.len == 0, "the empty map has no bytes");
     check(count(&drive_b) == 1, "one bay was to stay set");
-    check_boots(&drive_b, BAY_6, 63);
+    check_boots(&drive_b, BAY_6, 63, ITSELF);
     show_all();
 }
 
@@ -445,7 +457,9 @@ int main(void)
     static char line[BUFSIZ]; /* otherwise stdio would ask the heap for one */
     setvbuf(stdout, line, _IOFBF, sizeof line);
     printf("A setting's day. {1:2 3:1} reads: two operations of actor 1 and one of actor 3.\n"
-           "Actors: controller %d, drive A %d, drive B %d.\n", CONTROLLER, DRIVE_A, DRIVE_B);
+           "Actors: controller %d, drive A %d, drive B %d. Origins: Ida %d and Otto %d at the console;\n"
+           "what a drive sets by itself has origin %d.\n",
+           CONTROLLER, DRIVE_A, DRIVE_B, IDA, OTTO, ITSELF);
     console_picks();
     edits_while_apart();
     removal_comes_first();

@@ -20,7 +20,15 @@ static const uint8_t BOTH_CLOCKS[] = {ROW(1, 0, 1, 0, 1), ROW(1, 0, 2, 0, 1)};
 static const uint8_t SPENT[] = {ROW(1, 0, 1, 0, UINT64_MAX)};
 static const uint8_t REMOVAL[] = {ROW(7, 0, 0, 0, 0), ROW(8, 0, 1, 0, 1), ROW(9, 0, 0, 5, 0)};
 static const uint8_t REMOVAL_OF_NONE[] = {ROW(7, 0, 0, 0, 0), ROW(9, 0, 0, 6, 0)};
-static const uint8_t UPDATE[] = {ROW(10, 0, 1, 5, 2), ROW(11, 0, 0, 0, 41), ROW(12, 0, 1, 0, 2)};
+/* set by 7 */
+static const uint8_t UPDATE[] = {ROW(10, 0, 1, 5, 2), ROW(11, 0, 7, 0, 41), ROW(12, 0, 1, 0, 2)};
+static const uint8_t M_UPDATED[] = {ROW(1, 0, 1, 0, 2), ROW(2, 0, 1, 5, 2), ROW(3, 0, 7, 5, 41),
+                                    ROW(4, 0, 1, 5, 2)};
+/* M, set by 7 instead of nobody, and by both */
+static const uint8_t M_BY_7[] = {ROW(1, 0, 1, 0, 1), ROW(2, 0, 1, 5, 1), ROW(3, 0, 7, 5, 40),
+                                 ROW(4, 0, 1, 5, 1)};
+static const uint8_t M_TWICE[] = {ROW(1, 0, 1, 0, 1), ROW(2, 0, 1, 5, 1), ROW(3, 0, 0, 5, 40),
+                                  ROW(3, 0, 7, 5, 40), ROW(4, 0, 1, 5, 1)};
 static const uint8_t M_UPDATE[] = {ROW(10, 0, 1, 5, 1), ROW(11, 0, 0, 0, 40), ROW(12, 0, 1, 0, 1)};
 static const uint8_t UPDATE_ON_6[] = {ROW(10, 0, 1, 6, 2), ROW(11, 0, 0, 0, 41)};
 static const uint8_t BAD_KIND[] = {ROW(13, 0, 0, 0, 0)};
@@ -58,13 +66,29 @@ static void changing(void)
 
 static void making(void)
 {
-    gives("update", castribba_update(IMAGE(M), 1, 5, 41, OUT), IMAGE(UPDATE));
-    refuses("update, the counter spent", castribba_update(IMAGE(SPENT), 1, 5, 41, OUT), 9);
+    gives("update", castribba_update(IMAGE(M), 1, 5, 41, 7, OUT), IMAGE(UPDATE));
+    gives("update, no origin", castribba_update(NULL, 0, 1, 5, 40, 0, OUT), IMAGE(M_UPDATE));
+    refuses("update, the counter spent", castribba_update(IMAGE(SPENT), 1, 5, 41, 7, OUT), 9);
     gives("rm_get", castribba_rm_get(IMAGE(M), 5, OUT), IMAGE(REMOVAL));
     gives("rm_get, no entry", castribba_rm_get(IMAGE(M), 6, OUT), IMAGE(REMOVAL_OF_NONE));
     refuses("rm_get, a short buffer", castribba_rm_get(IMAGE(M), 5, out, sizeof REMOVAL - 1), 10);
     gives("rm_read_ctx", castribba_rm_read_ctx(IMAGE(M), 5, OUT), IMAGE(REMOVAL));
     refuses("rm_read_ctx, a bad length", castribba_rm_read_ctx(M, sizeof M - 1, 5, OUT), 1);
+}
+
+/* An origin moves with its value, and decides nothing. */
+static void origins(void)
+{
+    gives("an origin put", castribba_apply(IMAGE(M), IMAGE(UPDATE), OUT), IMAGE(M_UPDATED));
+    gives("an origin read", castribba_get(IMAGE(M_BY_7), 5, OUT), IMAGE(M_BY_7));
+    gives("an origin merged in", castribba_merge(NULL, 0, IMAGE(M_BY_7), OUT), IMAGE(M_BY_7));
+    gives("ours stays where clocks are equal", castribba_merge(IMAGE(M), IMAGE(M_BY_7), OUT), IMAGE(M));
+    gives("and theirs with them", castribba_merge(IMAGE(M_BY_7), IMAGE(M), OUT), IMAGE(M_BY_7));
+    gives("a newer value, whoever set it", castribba_merge(IMAGE(M_BY_7), IMAGE(M_UPDATED), OUT),
+          IMAGE(M_UPDATED));
+    gives("an origin after a reset of others",
+          castribba_reset_remove(IMAGE(M_BY_7), IMAGE(OTHER_CLOCK), OUT), IMAGE(M_BY_7));
+    is("two records for one value", castribba_len(IMAGE(M_TWICE)), REFUSED(1));
 }
 
 static void reading(void)
@@ -260,7 +284,7 @@ static image merged(const image *map, const image *other)
 
 static void sets(image *map, uint16_t actor, uint32_t bay, uint64_t value, image *op)
 {
-    take("an update made", op, castribba_update(HELD(map), actor, bay, value, OUT));
+    take("an update made", op, castribba_update(HELD(map), actor, bay, value, 0, OUT));
     deliver(map, op);
 }
 
@@ -407,6 +431,7 @@ int main(void)
     paint();
     changing();
     making();
+    origins();
     reading();
     validating();
     advancing();

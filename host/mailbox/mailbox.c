@@ -14,10 +14,10 @@
 enum { MAILBOX = 64, PAINT = 0xEE };
 
 /* What the reader holds, added up: the mark, the length, a record that is not whole yet, what is known of
- * the records before, the counts; then the map. A dot has 10 bytes, a key 4. */
+ * the records before, the counts; then the map. A dot has 10 bytes, a key 4, a value 8 and its origin 2. */
 enum {
     CLOCK = 1 + CASTRIBBA_MOST_DOTS * 10,
-    ENTRY = 4 + CLOCK + 1 + CASTRIBBA_MOST_VALUES * (8 + CLOCK),
+    ENTRY = 4 + CLOCK + 1 + CASTRIBBA_MOST_VALUES * (8 + 2 + CLOCK),
     REMOVAL = CLOCK + 1 + CASTRIBBA_MOST_KEYS * 4,
     READER = 1 + 4 + CASTRIBBA_RECORD + (1 + 1 + CASTRIBBA_RECORD + 6 + 256) + 3 + CLOCK +
              CASTRIBBA_MOST_ENTRIES * ENTRY + CASTRIBBA_MOST_WAITING * REMOVAL
@@ -104,7 +104,7 @@ static size_t put_full_map(void)
             at = put_record(at, CASTRIBBA_ENTRY_DOT, 0, actor, key, 9);
     for (uint32_t key = 1; key <= CASTRIBBA_MOST_ENTRIES; key++)
         for (unsigned index = 0; index < CASTRIBBA_MOST_VALUES; index++)
-            at = put_record(at, CASTRIBBA_VALUE, index, 0, key, 40 + index);
+            at = put_record(at, CASTRIBBA_VALUE, index, 0x0100 + key, key, 40 + index);
     for (uint32_t key = 1; key <= CASTRIBBA_MOST_ENTRIES; key++)
         for (unsigned index = 0; index < CASTRIBBA_MOST_VALUES; index++)
             for (unsigned actor = 0; actor < CASTRIBBA_MOST_DOTS; actor++)

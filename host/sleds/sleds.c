@@ -1,5 +1,6 @@
-/* Maps of the old limits (16 entries, 8 waiting removals), put to the archive with the old limits and to this one:
- * what the old one answers, this one answers, byte for byte, but where the old one says that a limit is broken.
+/* Maps of the old limits (16 entries, 8 waiting removals) and without origins, put to an older archive and to this
+ * one: what the old one answers, this one answers with origin 0, byte for byte, but where the old one says that a
+ * limit is broken, and where a damaged byte gives a value an origin, to which the old one answers 1.
  * sleds [STEPS [SEED]]; `run` renames the old archive's calls, so that both are in one program. */
 #include <castribba.h>
 #include <stdio.h>
@@ -15,6 +16,7 @@
 WRITES(apply, const uint8_t *map, size_t map_len, const uint8_t *op, size_t op_len)
 WRITES(merge, const uint8_t *map, size_t map_len, const uint8_t *other, size_t other_len)
 WRITES(reset_remove, const uint8_t *map, size_t map_len, const uint8_t *clock, size_t clock_len)
+/* an origin came later */
 WRITES(update, const uint8_t *map, size_t map_len, uint16_t actor, uint32_t key, uint64_t value)
 WRITES(rm_get, const uint8_t *map, size_t map_len, uint32_t key)
 WRITES(rm_read_ctx, const uint8_t *map, size_t map_len, uint32_t key)
@@ -30,7 +32,7 @@ typedef struct {
 
 static image maps[MAPS], operations[OPERATIONS];
 static uint8_t here[CASTRIBBA_LONGEST_MAP], there[CASTRIBBA_LONGEST_MAP];
-static uint64_t state, asked, refused, wider;
+static uint64_t state, asked, refused, wider, given_origin;
 
 static uint32_t below(uint32_t n)
 {
@@ -67,6 +69,40 @@ static void keep(image *at, uint64_t word)
     was = old_castribba_##call(__VA_ARGS__, there, room); \
     is = castribba_##call(__VA_ARGS__, here, room)
 
+/* Sets the origins of an image's values to 0; whether one was another. */
+static int without_origins(image *m)
+{
+    int had = 0;
+    for (size_t place = 0; place < m->len; place += CASTRIBBA_RECORD) {
+        if (m->bytes[place] == CASTRIBBA_VALUE) {
+            had |= m->bytes[place + 2] | m->bytes[place + 3];
+            m->bytes[place + 2] = m->bytes[place + 3] = 0;
+        }
+    }
+    return had;
+}
+
+/* A damaged image, merged. To one that has an origin the old archive answers 1, and this one what it answers without. */
+static void merge_damaged(image *damaged, const image *other)
+{
+    uint64_t was, is, with;
+    BOTH(merge, OLD_LONGEST, damaged->bytes, damaged->len, other->bytes, other->len);
+    if (without_origins(damaged)) {
+        given_origin++;
+        if (was != (uint64_t)CASTRIBBA_MALFORMED << 32) {
+            printf("an origin: the old archive answers %llx\n", (unsigned long long)was);
+            exit(1);
+        }
+        with = is;
+        BOTH(merge, OLD_LONGEST, damaged->bytes, damaged->len, other->bytes, other->len);
+        if (with != is) {
+            printf("an origin: %llx, and without it %llx\n", (unsigned long long)with, (unsigned long long)is);
+            exit(1);
+        }
+    }
+    same("merge of a damaged image", was, is);
+}
+
 static void step(void)
 {
     image *m = &maps[below(MAPS)], *o = &operations[below(OPERATIONS)], *other = &maps[below(MAPS)];
@@ -79,7 +115,8 @@ static void step(void)
 
     switch (below(12)) {
     case 0: case 1: case 2:
-        BOTH(update, room, m->bytes, m->len, actor, key, value);
+        was = old_castribba_update(m->bytes, m->len, actor, key, value, there, room);
+        is = castribba_update(m->bytes, m->len, actor, key, value, 0, here, room);
         if (same("update", was, is)) keep(o, is);
         break;
     case 3:
@@ -118,8 +155,7 @@ static void step(void)
         if (m->len != 0) {
             image damaged = *m;
             damaged.bytes[below((uint32_t)m->len)] ^= (uint8_t)(1u << below(8));
-            BOTH(merge, OLD_LONGEST, damaged.bytes, damaged.len, other->bytes, other->len);
-            same("merge of a damaged image", was, is);
+            merge_damaged(&damaged, other);
         }
     }
     if (below(4000) == 0) maps[below(MAPS)].len = 0;
@@ -140,7 +176,7 @@ int main(int count, char **words)
             if (w > waiting) waiting = w;
         }
     }
-    printf("%llu answers the same, %llu of them refusals; %llu over an old limit; maps of up to %zu entries and %zu waiting removals\n",
-           (unsigned long long)(asked - wider), (unsigned long long)refused, (unsigned long long)wider, entries, waiting);
+    printf("%llu answers the same, %llu of them refusals; %llu over an old limit; %llu images given an origin; maps of up to %zu entries and %zu waiting removals\n",
+           (unsigned long long)(asked - wider), (unsigned long long)refused, (unsigned long long)wider, (unsigned long long)given_origin, entries, waiting);
     return 0;
 }

@@ -56,7 +56,7 @@ static void fill_map(image *map, uint64_t seen, uint64_t held, unsigned keys_fro
             add(map, 2, 0, actor, keys_from + key, held);
     for (unsigned key = 0; key < MOST_ENTRIES; key++)
         for (unsigned index = 0; index < MOST_VALUES; index++)
-            add(map, 3, index, 0, keys_from + key, index);
+            add(map, 3, index, index + 1, keys_from + key, index);
     for (unsigned key = 0; key < MOST_ENTRIES; key++)
         for (unsigned index = 0; index < MOST_VALUES; index++)
             for (unsigned actor = 0; actor < MOST_DOTS; actor++)
@@ -81,7 +81,7 @@ static void fill_removal(image *op, uint64_t counter, unsigned keys_from)
 static void fill_update(image *op, unsigned key, uint64_t counter)
 {
     add(op, 10, 0, 1, key, counter);
-    add(op, 11, 0, 0, 0, 7);
+    add(op, 11, 0, 1, 0, 7);
     for (unsigned actor = 0; actor < MOST_DOTS; actor++)
         add(op, 12, 0, actor, 0, counter);
 }
@@ -201,7 +201,7 @@ CALL(apply_deleted, FIRST, SECOND, ROOM)
 CALL(merge, FIRST, SECOND, OUT)
 CALL(reset_remove, FIRST, SECOND, OUT)
 CALL(reset_remove_deleted, FIRST, SECOND, ROOM)
-CALL(update, FIRST, 1, FIRST_KEY, 7, OUT)
+CALL(update, FIRST, 1, FIRST_KEY, 7, 1, OUT)
 CALL(rm_get, FIRST, FIRST_KEY, OUT)
 CALL(rm_read_ctx, FIRST, FIRST_KEY, OUT)
 CALL(get, FIRST, FIRST_KEY, OUT)

@@ -36,7 +36,7 @@ use Rattle.scan.proofs.Befores.{before-fields}
 use Rattle.scan.proofs.Eachs.{decide, every-at, both-left, both-right}
 use Rattle.scan.proofs.Rooms.{no-index, no-key, counter-from-one}
 use Rattle.scan.proofs.Scanning.{scan-before}
-use Rattle.clockimage.specs.Image.{isKind, dotOf, dotsIn}
+use Rattle.clockimage.specs.Image.{isKind, dotOf, contentOf, dotsIn}
 use Rattle.maprecords.specs.Reading.{underKey, underBoth, clockIn, placesFrom, valueIn, valuesUnder, entryIn, entryKeys, entriesFor}
 use Rattle.maprecords.specs.Related.{dotted, entryWhole}
 use Rattle.maprecords.proofs.Counts.{by-records, entries-room}
@@ -120,7 +120,7 @@ module _ (l : List Record) (z : scanNumber 1 6 l ≡ 0) where
   -- dots of an entry, of a value
   entry-lawful : (key : ℕ) → Lawful (dotsIn (underKey 2 key) l)
   entry-lawful key =
-      dots-lawful 1 6 l z (underKey 2 key) 2 key 0
+      dots-lawful 1 6 l z (underKey 2 key) 2 key 0 refl
       (λ x i t. let k = at-key key 2 x t in let g = fine 1 6 l z x i in record {
         kind-is = k .0;
         key-is = k .1;
@@ -130,7 +130,7 @@ module _ (l : List Record) (z : scanNumber 1 6 l ≡ 0) where
 
   value-lawful : (key index : ℕ) → Lawful (dotsIn (underBoth 4 key index) l)
   value-lawful key index =
-      dots-lawful 1 6 l z (underBoth 4 key index) 4 key index
+      dots-lawful 1 6 l z (underBoth 4 key index) 4 key index refl
       (λ x i t. let k = at-both key index x t in let g = fine 1 6 l z x i in record {
         kind-is = k .0 .0;
         key-is = k .0 .1;
@@ -140,7 +140,7 @@ module _ (l : List Record) (z : scanNumber 1 6 l ≡ 0) where
 
   pub clock-lawful : Lawful (clockIn l)
   clock-lawful =
-      dots-lawful 1 6 l z (isKind 1) 1 0 0
+      dots-lawful 1 6 l z (isKind 1) 1 0 0 refl
       (λ x i t. let k = eqb-true (x .kind) 1 t in let g = fine 1 6 l z x i in record {
         kind-is = k;
         key-is = no-key 1 6 x g k refl;
@@ -165,7 +165,7 @@ module _ (l : List Record) (z : scanNumber 1 6 l ≡ 0) where
         let c = dotsIn (underBoth 4 key j) l in
         let e : dotsOf (v .clock) ≡ c = dots-of c (ap (λ (x : Value). x .clock) q) in
         record {
-          laid = q ∙ ap (λ m. record { clock = clockOf m; value = r .number }) (sym e) ∙ ap (λ (x : Value). record { clock = clockOf (dotsOf (v .clock)); value = x .value }) (sym q);
+          laid = q ∙ ap (λ m. record { clock = clockOf m; value = contentOf r }) (sym e) ∙ ap (λ (x : Value). record { clock = clockOf (dotsOf (v .clock)); value = x .value }) (sym q);
           clock = rw e (value-lawful key j);
           some = flipped (isEmpty (dotsOf (v .clock))) (every-at dotted values v is-dotted i);
         }

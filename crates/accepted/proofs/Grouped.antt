@@ -1,7 +1,7 @@
 -- Records of an image that stand in one group: their dots are a clock, their keys ascend.
 -- Assumes nothing.
-use mathlib.Core.Path.{_≡_, refl, sym, _∙_}
-use mathlib.Core.Bool.{Bool, true}
+use mathlib.Core.Path.{_≡_, refl, ap, sym, _∙_}
+use mathlib.Core.Bool.{Bool, true, false}
 use mathlib.Core.List.{List, [], _∷_, map, List·Memᴰ·head, List·Memᴰ·tail, Memᴰ·of-map}
 use Prim.Native.Nat.{ℕ, _≤_, _<_}
 use native.Mathlib.Omega.{arith}
@@ -13,9 +13,10 @@ use Rattle.lists.proofs.Orders.{head-before, tail-ascends}
 use Rattle.lists.proofs.Those.{those-means, those-ascends}
 use Rattle.clock.specs.Lawful.{Lawful}
 use Rattle.records.specs.declared.Record.{Record}
-use Rattle.records.specs.Kinds.{recordOk, before}
+use Rattle.records.specs.Kinds.{actorOf, recordOk, before}
 use Rattle.scan.specs.Scanned.{scanNumber}
-use Rattle.scan.proofs.Befores.{before-fields}
+use Rattle.records.proofs.Rule.{isValue}
+use Rattle.scan.proofs.Befores.{before-fields, before-actor}
 use Rattle.scan.proofs.Builds.{formed-ascends}
 use Rattle.scan.proofs.Rooms.{good-at}
 use Rattle.scan.proofs.Scanning.{scan-good}
@@ -51,10 +52,10 @@ module _ (low high : ℕ) (l : List Record) (z : scanNumber low high l ≡ 0) wh
       pub index-is : x .index ≡ index
       pub counter : 0 < x .number
 
-    pub dots-lawful : ((x : Record) → x ∈ l → test x ≡ true → Grouped x) → Lawful (dotsIn test l)
-    dots-lawful g = record {
+    pub dots-lawful : isValue kind ≡ false → ((x : Record) → x ∈ l → test x ≡ true → Grouped x) → Lawful (dotsIn test l)
+    dots-lawful plain g = record {
       rising = ranks-rise dotOf (λ d. d .actor) Grouped
-          (λ x y p q b. before-fields b .actor (p .kind-is ∙ sym (q .kind-is)) (p .key-is ∙ sym (q .key-is)) (p .index-is ∙ sym (q .index-is)))
+          (λ x y p q b. before-actor (before-fields b) (ap isValue (p .kind-is) ∙ plain) (p .kind-is ∙ sym (q .kind-is)) (p .key-is ∙ sym (q .key-is)) (p .index-is ∙ sym (q .index-is)))
           (those test l) in-group (those-ascends test rises);
       positive = λ d i. let y = Memᴰ·of-map dotOf (those test l) i in rw (← y .2) (in-group (y .0) (y .1) .counter);
     }
@@ -67,7 +68,7 @@ module _ (low high : ℕ) (l : List Record) (z : scanNumber low high l ≡ 0) wh
     pub record Listed (x : Record) : Type 0 where
       pub kind-is : x .kind ≡ kind
       pub index-is : x .index ≡ index
-      pub no-actor : x .actor ≡ 0
+      pub no-actor : actorOf x ≡ 0
 
     pub keys-rise : ((x : Record) → x ∈ l → test x ≡ true → Listed x) → Ascending (by (λ k. k)) (map (λ x. x .key) (those test l))
     keys-rise g =

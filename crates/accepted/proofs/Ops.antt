@@ -8,7 +8,7 @@ use Prim.Native.Nat.{ℕ, _≤_, _<_, _%_}
 use native.Mathlib.Omega.{arith}
 use lib.Dec.{eqb, ltb}
 use lib.ListN.{length, length-map}
-use borrow.Author.Tests.{eqb-true}
+use borrow.Author.Tests.{ne-eqb, eqb-true}
 use Rattle.lists.specs.Order.{_∈_, Ascending, nil, by}
 use Rattle.lists.specs.Fold.{fold}
 use Rattle.lists.specs.Sift.{sift, those}
@@ -24,9 +24,9 @@ use Rattle.scan.specs.Limits.{limitAt, innerLimits}
 use Rattle.scan.specs.Scanned.{scanNumber}
 use Rattle.scan.proofs.Eachs.{decide}
 use Rattle.records.proofs.Rule.{usesIndex, usesKey, usesNumber}
-use Rattle.scan.proofs.Rooms.{no-index, no-key, no-actor, counter-from-one, outer-room}
+use Rattle.scan.proofs.Rooms.{no-index, no-key, unordered, counter-from-one, outer-room}
 use Rattle.scan.proofs.Scanning.{scan-good}
-use Rattle.clockimage.specs.Image.{isKind, dotOf, dotsIn}
+use Rattle.clockimage.specs.Image.{isKind, dotOf, contentOf, dotsIn}
 use Rattle.clockimage.proofs.Dots.{dots-room}
 use Rattle.opimage.specs.OpImage.{opLongest, howMany, opRelated, noRecord, recordOf, keysIn, removalIn, updateIn, opIn, refusedOp, judgedOp, readOp}
 use Rattle.accepted.proofs.Grouped.{fine, dots-lawful, keys-rise}
@@ -49,7 +49,7 @@ last-that kind (x ∷ l) q = go (isKind kind x) refl (last-that kind l x) (last-
 module _ (l : List Record) (z : scanNumber 7 12 l ≡ 0) where
   lawful : (kind : ℕ) → usesIndex kind ≡ false → usesKey kind ≡ false → usesNumber kind ≡ true → (kind ≡ 3 → ⊥) → (kind ≡ 11 → ⊥) → Lawful (dotsIn (isKind kind) l)
   lawful kind index key number three eleven =
-      dots-lawful 7 12 l z (isKind kind) kind 0 0
+      dots-lawful 7 12 l z (isKind kind) kind 0 0 (rw (ne-eqb kind 3 three, ne-eqb kind 11 eleven) refl)
       (λ x i t. let k = is-kind kind x t in let g = fine 7 12 l z x i in record {
         kind-is = k;
         key-is = no-key 7 12 x g k key;
@@ -60,7 +60,7 @@ module _ (l : List Record) (z : scanNumber 7 12 l ≡ 0) where
   keys : Ascending (by (λ k. k)) (keysIn (isKind 9) l)
   keys =
       keys-rise 7 12 l z (isKind 9) 9 0
-      (λ x i t. let k = is-kind 9 x t in let g = fine 7 12 l z x i in record { kind-is = k; index-is = no-index 7 12 x g k refl; no-actor = no-actor 7 12 x g k refl })
+      (λ x i t. let k = is-kind 9 x t in let g = fine 7 12 l z x i in record { kind-is = k; index-is = no-index 7 12 x g k refl; no-actor = unordered 7 12 x g k refl })
 
   dots-few : (kind : ℕ) → (kind ≡ 6 → ⊥) → usesIndex kind ≡ false → usesKey kind ≡ false → limitAt innerLimits kind ≡ dotLimit
       → length (dotsIn (isKind kind) l) ≤ dotLimit
@@ -93,7 +93,7 @@ module _ (l : List Record) (z : scanNumber 7 12 l ≡ 0) where
       record {
         valid = record {
           dot = head-counter u;
-          laid = ap (λ c. record { clock = clockOf c; value = recordOf 11 l .number }) (sym e);
+          laid = ap (λ c. record { clock = clockOf c; value = contentOf (recordOf 11 l) }) (sym e);
           clock = rw e (lawful 12 refl refl refl (λ e. omega arith) (λ e. omega arith));
         };
         dots = rw e (dots-few 12 (λ e. omega arith) refl refl refl);

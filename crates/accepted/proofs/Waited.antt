@@ -28,7 +28,7 @@ use Rattle.records.specs.declared.Record.{Record}
 use Rattle.scan.specs.Each.{each}
 use Rattle.scan.specs.Scanned.{scanNumber}
 use Rattle.scan.proofs.Eachs.{decide, each-snoc, both, both-left, both-right}
-use Rattle.scan.proofs.Rooms.{no-key, no-actor, counter-from-one}
+use Rattle.scan.proofs.Rooms.{no-key, unordered, counter-from-one}
 use Rattle.scan.proofs.Scanning.{scan-before}
 use Rattle.clockimage.specs.Image.{isKind, dotOf, dotsIn}
 use Rattle.maprecords.specs.Reading.{underIndex, waitingCount, removalIn, below, waitingFor}
@@ -115,7 +115,7 @@ module _ (l : List Record) (z : scanNumber 1 6 l ≡ 0) (p : each placed l ≡ t
   module _ (index : ℕ) where
     lawful : Lawful (dotsIn (underIndex 5 index) l)
     lawful =
-        dots-lawful 1 6 l z (underIndex 5 index) 5 0 index
+        dots-lawful 1 6 l z (underIndex 5 index) 5 0 index refl
         (λ x i t. let k = at-index index 5 x t in let g = fine 1 6 l z x i in record {
           kind-is = k .0;
           key-is = no-key 1 6 x g (k .0) refl;
@@ -126,7 +126,7 @@ module _ (l : List Record) (z : scanNumber 1 6 l ≡ 0) (p : each placed l ≡ t
     keys : Ascending (by (λ k. k)) (map (λ x. x .key) (those (underIndex 6 index) l))
     keys =
         keys-rise 1 6 l z (underIndex 6 index) 6 index
-        (λ x i t. let k = at-index index 6 x t in record { kind-is = k .0; index-is = k .1; no-actor = no-actor 1 6 x (fine 1 6 l z x i) (k .0) refl })
+        (λ x i t. let k = at-index index 6 x t in record { kind-is = k .0; index-is = k .1; no-actor = unordered 1 6 x (fine 1 6 l z x i) (k .0) refl })
 
     pub removal-valid : ValidRemoval (removalIn l index)
     removal-valid = removal-as _ _ lawful keys

@@ -9,6 +9,7 @@ use Rattle.lists.specs.Sift.{those}
 use Rattle.lists.specs.First.{firstIn}
 use Rattle.clock.specs.declared.Dot.{Dot}
 use Rattle.clock.specs.Dots.{counterIn, shared}
+use Rattle.register.specs.declared.Content.{Content}
 use Rattle.parts.specs.declared.Entry.{Entry}
 use Rattle.map.specs.declared.Map.{Map}
 use Rattle.map.specs.declared.Op.{Op}
@@ -85,15 +86,15 @@ abbrev pub noOp : Op
 noOp = record { up = false; removal = noRemoval; update = noUpdate }
 
 -- an update under a context, or the number of a context that was not had
-abbrev pub updateOp : AddCtx → ℕ → ℕ → Op
+abbrev pub updateOp : AddCtx → ℕ → Content → Op
 updateOp c k value = record { up = true; removal = noRemoval; update = record { dot = c .dot; key = k; put = record { clock = c .clock; value = value } } }
 
-unfoldable pub updateUnder : AddCtx → ℕ → ℕ → Made
+unfoldable pub updateUnder : AddCtx → ℕ → Content → Made
 updateUnder c k value = cond (eqb (c .number) 0) (record { number = 0; op = updateOp c k value }) (record { number = c .number; op = noOp })
 
 -- "Making an update by `update`: dot = map counter + 1, put clock = map clock with that dot": 9 at the last counter,
 -- then 4 for a put clock of more than 8 dots
-unfoldable pub makeUpdate : Map → ℕ → ℕ → ℕ → Made
+unfoldable pub makeUpdate : Map → ℕ → ℕ → Content → Made
 makeUpdate m actor k value = updateUnder (addContext (seenBy m) actor) k value
 
 -- "Making a removal: that key under its entry clock (`get`; empty clock if absent), or under the map clock (`read_ctx`)."

@@ -14,6 +14,7 @@ use map::Map;
 use map::Op;
 use parts::Removal;
 use parts::Update;
+use register::Content;
 use register::Value;
 
 // The map clock, to add and to remove under.
@@ -73,7 +74,7 @@ impl ReadCtx {
 
 impl AddCtx {
     // An update of a key under this context: the Rust's `update`.
-    pub fn update(self, key: u32, value: u64) -> Made
+    pub fn update(self, key: u32, value: Content) -> Made
         ensures { λ r. ⌜ r ≡ updateUnder self key value ⌝ }
     {
         let number = self.number;

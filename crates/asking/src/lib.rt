@@ -24,6 +24,7 @@ use parts::Keys;
 use parts::Removal;
 use parts::Update;
 use parts::Waiting;
+use register::Content;
 use register::Value;
 
 // What `validate_op` says: the update fits, or counters are missing before it.
@@ -209,7 +210,7 @@ pub fn is_empty(map: Map) -> bool
 }
 
 // An update of a key by an actor, under the context that the map clock gives.
-pub fn update(map: Map, actor: u16, key: u32, value: u64) -> Made
+pub fn update(map: Map, actor: u16, key: u32, value: Content) -> Made
     ensures { λ r. ⌜ r ≡ makeUpdate map actor key value ⌝ }
 {
     let ctx = contexts::read_ctx(map).derive_add_ctx(actor);
@@ -254,7 +255,13 @@ fn no_op() -> Op
 {
     let removal = Removal::new();
     let clock = Clock::new();
-    let put = Value { clock, value: 0 };
+    let put = Value {
+        clock,
+        value: Content {
+            number: 0,
+            origin: 0,
+        },
+    };
     let dot = Dot {
         actor: 0,
         counter: 0,

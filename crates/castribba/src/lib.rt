@@ -44,11 +44,12 @@ pub extern "C" fn castribba_update(
     actor: u16,
     key: u32,
     value: u64,
+    origin: u16,
     out: &mut [u8],
 ) -> u64
-    ensures { λ r. ⌜ UpdatePromise (now (map .entry)) actor key value (now (out .entry)) (now (out .exit)) r ⌝ }
+    ensures { λ r. ⌜ UpdatePromise (now (map .entry)) actor key value origin (now (out .entry)) (now (out .exit)) r ⌝ }
 {
-    making::update(map, actor, key, value, out)
+    making::update(map, actor, key, value, origin, out)
 }
 
 #[no_mangle]

@@ -1,7 +1,7 @@
 -- Clocks and their images: what was written reads as it was, what was read writes as it was, and an image is accepted exactly when it is a clock's.
 -- Assumes nothing.
 use mathlib.Core.Path.{_≡_, refl, ap, ap₂, sym, _∙_}
-use mathlib.Core.Bool.{true, cond}
+use mathlib.Core.Bool.{true, false, cond}
 use mathlib.Core.List.{List, [], _∷_, map, List·Memᴰ·head, List·Memᴰ·tail, Memᴰ·map, Memᴰ·of-map}
 use Prim.Native.Nat.{ℕ, _*_, _%_, _≤_, _<_}
 use native.Mathlib.Omega.{arith}
@@ -22,7 +22,8 @@ use Rattle.records.specs.Records.{recordsOf, bytesOf}
 use Rattle.records.proofs.RoundTrips.{Fitting, by-fields, length-bytes, read-written, written-read, read-all-fit}
 use Rattle.scan.proofs.Eachs.{decide}
 use Rattle.scan.specs.Scanned.{scanNumber}
-use Rattle.scan.proofs.Befores.{fields-before, before-fields}
+use Rattle.records.proofs.Rule.{isValue}
+use Rattle.scan.proofs.Befores.{fields-before, before-fields, before-actor}
 use Rattle.scan.proofs.Rooms.{good-at, kind-range, no-index, no-key, counter-from-one}
 use Rattle.scan.proofs.Scanning.{scan-good}
 use Rattle.scan.proofs.Builds.{Among, scan-of, formed-ascends}
@@ -31,16 +32,16 @@ use Rattle.clockimage.specs.ClockImage.{clockLongest, clockRecords, cloc
 
 module _ (kind index key : ℕ) where
   -- dots that ascend give records that ascend
-  pub dots-ascend : (l : List Dot) → Ascending (by (λ d. d .actor)) l → Ascending before (dotRecords kind index key l)
-  dots-ascend [] a = nil
-  dots-ascend (d ∷ l) a = next further (dots-ascend l (tail-ascends a))
+  pub dots-ascend : isValue kind ≡ false → (l : List Dot) → Ascending (by (λ d. d .actor)) l → Ascending before (dotRecords kind index key l)
+  dots-ascend plain [] a = nil
+  dots-ascend plain (d ∷ l) a = next further (dots-ascend plain l (tail-ascends a))
     where
       further : (y : Record) → y ∈ dotRecords kind index key l → before (dotRecord kind index key d) y ≡ true
       further y i =
           let m = Memᴰ·of-map (dotRecord kind index key) l i in
           let h = ltb-true (d .actor) (m .0 .actor) (head-before a (m .0) (m .1)) in
           rw (← m .2)
-          (fields-before (record { kind = omega arith; key = λ _. omega arith; index = λ _ _. omega arith; actor = λ _ _ _. h }))
+          (fields-before (record { kind = omega arith; key = λ _. omega arith; index = λ _ _. omega arith; actor = λ _ _ _. rw plain h }))
 
   -- a dot's record holds the dot
   pub dots-back : (l : List Dot) → map dotOf (dotRecords kind index key l) ≡ l
@@ -74,7 +75,7 @@ module _ (l : List Dot) where
   good w x i = let m = all-first x i in rw (← m .2, lt-ltb 0 (m .0 .counter) (w .positive (m .0) (m .1)))
 
   pub clock-scans : Lawful l → length l ≤ dotLimit → scanNumber 1 1 (clockRecords l) ≡ 0
-  clock-scans w h = scan-of 1 1 (clockRecords l) (dots-ascend 1 0 0 l (w .rising)) (good w) (among h)
+  clock-scans w h = scan-of 1 1 (clockRecords l) (dots-ascend 1 0 0 refl l (w .rising)) (good w) (among h)
 
   fits : ((d : Dot) → d ∈ l → DotFits d) → (x : Record) → x ∈ clockRecords l → Fitting x
   fits f x i =
@@ -156,7 +157,7 @@ module _ (l : List Record) (n : scanNumber 1 1 l ≡ 0) where
           let p = h x (List·Memᴰ·head refl) in
           let q = h (y .0) (List·Memᴰ·tail (y .1)) in
           let b = before-fields (head-before a (y .0) (y .1)) in
-          rw (← y .2) (lt-ltb (x .actor) (y .0 .actor) (b .actor (p .kind ∙ sym (q .kind)) (p .key ∙ sym (q .key)) (p .index ∙ sym (q .index))))
+          rw (← y .2) (lt-ltb (x .actor) (y .0 .actor) (before-actor b (ap isValue (p .kind)) (p .kind ∙ sym (q .kind)) (p .key ∙ sym (q .key)) (p .index ∙ sym (q .index))))
 
   pub clock-lawful : Lawful (clockIn l)
   clock-lawful = record {

@@ -7,6 +7,7 @@ use lib.Dec.{eqb, ltb}
 use lib.ListN.{length}
 use Rattle.lists.specs.Sift.{those}
 use Rattle.clock.specs.declared.Dot.{Dot}
+use Rattle.register.specs.declared.Content.{Content}
 use Rattle.records.specs.declared.Record.{Record}
 use Rattle.records.specs.Records.{recordsOf}
 
@@ -23,6 +24,13 @@ dotRecords kind index key l = map (dotRecord kind index key) l
 abbrev pub dotOf : Record → Dot
 dotOf r = record { actor = r .actor; counter = r .number }
 
+-- a value's record (kinds 3, 11): its number, and its origin in the actor's field
+abbrev pub contentOf : Record → Content
+contentOf r = record { number = r .number; origin = r .actor }
+
+abbrev pub contentRecord : ℕ → ℕ → ℕ → Content → Record
+contentRecord kind index key x = record { kind = kind; index = index; actor = x .origin; key = key; number = x .number }
+
 -- the dots in those records that pass a test
 abbrev pub dotsIn : (Record → Bool) → List Record → List Dot
 dotsIn test l = map dotOf (those test l)
@@ -31,6 +39,11 @@ dotsIn test l = map dotOf (those test l)
 pub record DotFits (d : Dot) : Type 0 where
   pub actor : d .actor < 2 ^ 16
   pub counter : d .counter < 2 ^ 64
+
+-- so do a value's
+pub record ContentFits (x : Content) : Type 0 where
+  pub number : x .number < 2 ^ 64
+  pub origin : x .origin < 2 ^ 16
 
 -- "length above longest is 2 at once", then a bad length is 1, then the records are judged
 abbrev pub imageOf : {R : Type 0} → ℕ → (ℕ → R) → (List Record → R) → List ℕ → R

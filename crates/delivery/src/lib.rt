@@ -39,6 +39,7 @@ use parts::Entry;
 use parts::KEYS;
 use parts::WAITING;
 use records::Record;
+use register::Content;
 use register::Register;
 use register::VALUES;
 use register::Value;
@@ -71,8 +72,10 @@ fn value_at(mem: &[u8; READER], at: usize) -> Value
     requires { ⌜ at + valueRoom ≤ readerRoom ⌝ }
     ensures { λ r. ⌜ r ≡ valueAt (now (mem .entry)) at ⌝ }
 {
-    let value = records::read64(mem, at);
+    let number = records::read64(mem, at);
     let clock = clock_at(mem, at + 8);
+    let origin = records::read16(mem, at + 8 + CLOCK_ROOM);
+    let value = Content { number, origin };
     Value { clock, value }
 }
 

@@ -22,7 +22,7 @@ use Rattle.clock.specs.Lawful.{Lawful}
 use Rattle.clock.proofs.Covers.{order-self, order-equal}
 use Rattle.register.specs.declared.Value.{Value}
 use Rattle.register.specs.Values.{cutValues}
-use Rattle.equality.specs.Equality.{equalClock, samePair, timesIn, asOften, equalValues}
+use Rattle.equality.specs.Equality.{sameContent, equalClock, samePair, timesIn, asOften, equalValues}
 
 -- a value under a clock that is one, laid down with zeros behind its dots
 pub record Plain (v : Value) : Type 0 where
@@ -43,15 +43,17 @@ equal-clock Concurrent t = apart (sym t)
 -- the same pair is the same value
 pair-self : (v : Value) → Plain v → samePair v v ≡ true
 unfolding samePair
-pair-self v p = rw (order-self (p .clock), eq-eqb (v .value) (v .value) refl) refl
+pair-self v p = rw (order-self (p .clock), eq-eqb (v .value .number) (v .value .number) refl, eq-eqb (v .value .origin) (v .value .origin) refl) refl
 
 pair-exact : (v w : Value) → Plain v → Plain w → samePair v w ≡ true → v ≡ w
 unfolding samePair
 pair-exact v w p q t =
-    let b = both (equalClock (orderOf (dotsOf (v .clock)) (dotsOf (w .clock)))) (eqb (v .value) (w .value)) t in
+    let b = both (equalClock (orderOf (dotsOf (v .clock)) (dotsOf (w .clock)))) (sameContent (v .value) (w .value)) t in
     let dots = order-equal (p .clock) (q .clock) (equal-clock (orderOf (dotsOf (v .clock)) (dotsOf (w .clock))) (b .0)) in
-    let number = eqb-true (v .value) (w .value) (b .1) in
-    p .laid ∙ (λ i. record { clock = clockOf (dots i); value = number i }) ∙ sym (q .laid)
+    let c = both (eqb (v .value .number) (w .value .number)) (eqb (v .value .origin) (w .value .origin)) (b .1) in
+    let number = eqb-true (v .value .number) (w .value .number) (c .0) in
+    let origin = eqb-true (v .value .origin) (w .value .origin) (c .1) in
+    p .laid ∙ (λ i. record { clock = clockOf (dots i); value = record { number = number i; origin = origin i } }) ∙ sym (q .laid)
 
 often-means : (l m here : List Value) → asOften l m here ≡ true → (v : Value) → v ∈ here → timesIn l v ≡ timesIn m v
 unfolding asOften
@@ -89,9 +91,14 @@ abbrev dot : ℕ → ℕ → Dot
 dot a n = record { actor = a; counter = n }
 
 abbrev value : List Dot → ℕ → Value
-value c n = record { clock = clockOf c; value = n }
+value c n = record { clock = clockOf c; value = record { number = n; origin = 0 } }
 
 pub twice-once :
     equalValues (cutValues (dot 2 1 ∷ dot 3 1 ∷ []) (value (dot 1 1 ∷ dot 2 1 ∷ []) 7 ∷ value (dot 1 1 ∷ dot 3 1 ∷ []) 7 ∷ [])) (value (dot 1 1 ∷ []) 7 ∷ []) ≡ false
 unfolding pad sift firstIn isEmpty counterIn covers orderOf cutDots cutValues samePair timesIn asOften equalValues
 twice-once = refl
+
+-- the same value under the same clock, set by two, is not the same
+pub origins-differ : equalValues (value (dot 1 1 ∷ []) 7 ∷ []) (record { clock = clockOf (dot 1 1 ∷ []); value = record { number = 7; origin = 1 } } ∷ []) ≡ false
+unfolding pad sift firstIn isEmpty counterIn covers orderOf samePair timesIn asOften equalValues
+origins-differ = refl

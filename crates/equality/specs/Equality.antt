@@ -10,9 +10,14 @@ use Rattle.lists.specs.First.{none}
 use Rattle.clock.specs.declared.Order.{Order}
 use Rattle.clock.specs.declared.Order.the-variants.{Equal, Greater, Less, Concurrent}
 use Rattle.clock.specs.Dots.{dotsOf, orderOf}
+use Rattle.register.specs.declared.Content.{Content}
 use Rattle.register.specs.declared.Value.{Value}
 
--- the same value under the same clock
+-- the same value with the same origin
+abbrev pub sameContent : Content → Content → Bool
+sameContent x y = eqb (x .number) (y .number) && eqb (x .origin) (y .origin)
+
+-- under the same clock
 abbrev pub equalClock : Order → Bool
 equalClock Equal = true
 equalClock Less = false
@@ -20,7 +25,7 @@ equalClock Greater = false
 equalClock Concurrent = false
 
 unfoldable pub samePair : Value → Value → Bool
-samePair v w = equalClock (orderOf (dotsOf (v .clock)) (dotsOf (w .clock))) && eqb (v .value) (w .value)
+samePair v w = equalClock (orderOf (dotsOf (v .clock)) (dotsOf (w .clock))) && sameContent (v .value) (w .value)
 
 -- how many times a pair occurs
 unfoldable pub timesIn : List Value → Value → ℕ

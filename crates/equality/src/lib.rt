@@ -7,11 +7,13 @@ use clock::Order;
 use register::Register;
 use register::Value;
 
-// Whether both hold the same value under the same clock.
+// Whether both hold the same value, set by the same, under the same clock.
 fn same_pair(v: Value, other: Value) -> bool
     ensures { λ r. ⌜ r ≡ samePair v other ⌝ }
 {
-    let equal = v.value == other.value;
+    let x = v.value;
+    let y = other.value;
+    let equal = (x.number == y.number) & (x.origin == y.origin);
     let o = v.clock.compare(other.clock);
     match o {
         Order::Equal => equal,

@@ -18,7 +18,7 @@ use Rattle.parts.specs.declared.Entry.{Entry}
 use Rattle.parts.specs.Model.{dotsIn}
 use Rattle.records.specs.declared.Record.{Record}
 use Rattle.records.specs.Records.{recordFrom}
-use Rattle.clockimage.specs.Image.{dotOf, dotRecord, dotRecords}
+use Rattle.clockimage.specs.Image.{dotOf, dotRecord, dotRecords, contentOf}
 use Rattle.clockimage.proofs.RoundTrip.{dots-back}
 use Rattle.opimage.specs.OpImage.{noRecord}
 use Rattle.mapimage.specs.MapImage.{flatFrom, valueRecord}
@@ -83,7 +83,7 @@ module _ {s : List ℕ} {l : List Value} {values clocks : Span} (h : Registered 
       value : Value
       more : List Value
       rest-is : g .rest ≡ value ∷ more
-      number : r .number ≡ value .value
+      content : contentOf r ≡ value .value
       index : r .index ≡ length (g .done)
       behind : part s (place + 1) (values .to) ≡ threes (h .key) (length (g .done) + 1) more
 
@@ -102,7 +102,7 @@ module _ {s : List ℕ} {l : List Value} {values clocks : Span} (h : Registered 
                 value = v;
                 more = k;
                 rest-is = q;
-                number = ap (λ (x : Record). x .number) f;
+                content = ap contentOf f;
                 index = ap (λ (x : Record). x .index) f;
                 behind = ap (drop 1) e;
               }
@@ -133,12 +133,12 @@ module _ {s : List ℕ} {l : List Value} {values clocks : Span} (h : Registered 
             omega (arith, length-append (g .done) (next-value .value ∷ next-value .more))
 
         pub register-on : (clock : Clock) {more : Register} → clock ≡ clockOf (runDots (take (next * 16 - dots * 16) (drop (dots * 16) s)))
-            → ((k : List Value) → out ≡ registerOf k → more ≡ registerOf (k ++ (record { clock = clock; value = r .number } ∷ [])))
+            → ((k : List Value) → out ≡ registerOf k → more ≡ registerOf (k ++ (record { clock = clock; value = contentOf r } ∷ [])))
             → Registering s (h .key) (values .to) (clocks .to) l (place + 1) next more
         register-on clock e push =
             let v = next-value .value in
             let c : clock ≡ clockOf (dotsOf (v .clock)) = e ∙ clock-there s dots next 4 (length (g .done)) (h .key) (dotsOf (v .clock)) inside room-here (cut .first) in
-            let same : record { clock = clock; value = r .number } ≡ v = (λ i. record { clock = c i; value = next-value .number i }) ∙ sym (h .each v stands .laid) in
+            let same : record { clock = clock; value = contentOf r } ≡ v = (λ i. record { clock = c i; value = next-value .content i }) ∙ sym (h .each v stands .laid) in
             let n = length-snoc (g .done) v in
             record {
               done = g .done ++ (v ∷ []);

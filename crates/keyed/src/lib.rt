@@ -18,6 +18,7 @@ ghost use Rattle.walks.specs.Walk.{part};
 ghost use Rattle.layout.specs.Whole.{Lies};
 ghost use Rattle.keyed.specs.Keyed.{EntryLies, Registered, Owned, Stops};
 use clock::Clock;
+use register::Content;
 use register::Register;
 use register::Value;
 use walks::BY_INDEX;
@@ -104,7 +105,10 @@ fn register_of(s: &[u8], values: Span, clocks: Span) -> Register
         dots = next;
         let v = Value {
             clock,
-            value: r.number,
+            value: Content {
+                number: r.number,
+                origin: r.actor,
+            },
         };
         out = out.push(v);
     }

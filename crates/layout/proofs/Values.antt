@@ -19,7 +19,7 @@ use Rattle.register.specs.declared.Value.{Value}
 use Rattle.parts.specs.Valid.{ValidValue}
 use Rattle.records.specs.declared.Record.{Record}
 use Rattle.records.proofs.RoundTrips.{by-fields}
-use Rattle.clockimage.specs.Image.{dotRecord, dotRecords}
+use Rattle.clockimage.specs.Image.{dotRecord, dotRecords, contentOf}
 use Rattle.mapimage.specs.MapImage.{flatFrom, valueRecord, valueRecords}
 use Rattle.oneimage.proofs.Stands.{flat-means-from}
 use Rattle.walks.specs.declared.Passed.{Passed}
@@ -66,20 +66,19 @@ module _ (key : ℕ) where
     each = λ v j. absurd (List·Memᴰ·not-nil j);
   }
 
-  value-header : (i : ℕ) (r : Record) (v : Value) → valueTest key i r ≡ true → v .value ≡ r .number → r ≡ valueRecord key i v
+  value-header : (i : ℕ) (r : Record) (v : Value) → valueTest key i r ≡ true → v .value ≡ contentOf r → r ≡ valueRecord key i v
   unfolding valueTest
   value-header i r v t e =
       let u = both-right (eqb (r .kind) 3) _ t in
-      let w = both-right (eqb (r .index) i) _ u in
       by-fields (eqb-true _ _ (both-left (eqb (r .kind) 3) _ t)) (eqb-true _ _ (both-left (eqb (r .index) i) _ u))
-      (eqb-true _ _ (both-right (eqb (r .key) key) _ w)) (eqb-true _ _ (both-left (eqb (r .key) key) _ w)) (sym e)
+      (sym (ap (λ x. x .origin) e)) (eqb-true _ _ (both-right (eqb (r .index) i) _ u)) (sym (ap (λ x. x .number) e))
 
   -- one value and its dots, and those behind them
   one-more : (n i p : ℕ) (r : Record) (b d : List Record) (x : DotRun 4 i key d) (q : ℕ) → q ≡ length (x .dots) → valueTest key i r ≡ true → eqb q 0 ≡ false → (w : Passed)
       → Taken n (i + 1) (p + q) b (drop q d) w → Taken (suc n) i p (r ∷ b) d w
   unfolding flatFrom isEmpty
   one-more n i p r b d x q y t z w k =
-      let v : Value = record { clock = clockOf (x .dots); value = r .number } in
+      let v : Value = record { clock = clockOf (x .dots); value = contentOf r } in
       let e : dotsOf (v .clock) ≡ x .dots = dots-of (x .dots) refl in
       let m = length-map (x .dots) (dotRecord 4 i key) in
       let a = length-append (dotRecords 4 i key (x .dots)) (fours (i + 1) (k .values)) in
@@ -112,7 +111,7 @@ module _ (key : ℕ) where
   value-not : (i : ℕ) (r : Record) → (r .key ≡ key → ⊥) → valueTest key i r ≡ false
   unfolding valueTest
   value-not i r n =
-      decide (valueTest key i r) (λ t. absurd (n (eqb-true (r .key) key (both-left (eqb (r .key) key) _ (both-right (eqb (r .index) i) _ (both-right (eqb (r .kind) 3) _ t)))))) (λ f. f)
+      decide (valueTest key i r) (λ t. absurd (n (eqb-true (r .key) key (both-right (eqb (r .index) i) _ (both-right (eqb (r .kind) 3) _ t))))) (λ f. f)
 
   value-holds : (i : ℕ) (v : Value) → valueTest key i (valueRecord key i v) ≡ true
   unfolding valueTest

@@ -16,7 +16,7 @@ use Rattle.register.specs.Values.{valueLimit, noValue}
 use Rattle.parts.specs.declared.Entry.{Entry}
 use Rattle.parts.specs.Model.{dotsIn, valuesIn}
 use Rattle.records.specs.Records.{recordFrom}
-use Rattle.clockimage.specs.Image.{dotOf, dotRecord, dotRecords}
+use Rattle.clockimage.specs.Image.{dotOf, dotRecord, dotRecords, contentOf}
 use Rattle.clockimage.proofs.RoundTrip.{dots-back}
 use Rattle.opimage.specs.OpImage.{noRecord}
 use Rattle.mapimage.specs.MapImage.{flatFrom, valueRecord, valueRecords}
@@ -56,12 +56,12 @@ module _ (s : List ℕ) (i j key n : ℕ) (v : Value) (l : List Value) (e : part
   unfolding flatFrom
   first-and-rest = let m = ap length e in let room : i < j = omega (arith, length-part s i j) in sym (part-on s i j room) ∙ e
 
-number-at : (s : List ℕ) (i j key n : ℕ) (l : List Value) (k : ℕ) → part s i j ≡ flatFrom (valueRecords 3 key) n l → k < length l → recordFrom s ((i + k) * 16) .number ≡ getD l k noValue .value
-number-at s i j key n [] k e h = absurd (omega arith)
-number-at s i j key n (v ∷ l) zero e h = let p : i + 0 ≡ i = omega arith in ap (λ p. recordFrom s (p * 16) .number) p ∙ ap (λ m. getD m 0 noRecord .number) (first-and-rest s i j key n v l e)
-number-at s i j key n (v ∷ l) (suc k) e h =
+content-at : (s : List ℕ) (i j key n : ℕ) (l : List Value) (k : ℕ) → part s i j ≡ flatFrom (valueRecords 3 key) n l → k < length l → contentOf (recordFrom s ((i + k) * 16)) ≡ getD l k noValue .value
+content-at s i j key n [] k e h = absurd (omega arith)
+content-at s i j key n (v ∷ l) zero e h = let p : i + 0 ≡ i = omega arith in ap (λ p. contentOf (recordFrom s (p * 16))) p ∙ ap (λ m. contentOf (getD m 0 noRecord)) (first-and-rest s i j key n v l e)
+content-at s i j key n (v ∷ l) (suc k) e h =
     let p : i + suc k ≡ (i + 1) + k = omega arith in
-    ap (λ p. recordFrom s (p * 16) .number) p ∙ number-at s (i + 1) j key (n + 1) l k (ap (drop 1) (first-and-rest s i j key n v l e)) (omega arith)
+    ap (λ p. contentOf (recordFrom s (p * 16))) p ∙ content-at s (i + 1) j key (n + 1) l k (ap (drop 1) (first-and-rest s i j key n v l e)) (omega arith)
 
 -- the value at a place
 module _ {s : List ℕ} {e : Entry} {r : Lain} (h : LiesAt s e r) (k : ℕ) (present : k < length (valuesIn e)) where
@@ -89,8 +89,8 @@ module _ {s : List ℕ} {e : Entry} {r : Lain} (h : LiesAt s e r) (k : ℕ) (pre
   pub value-lawful : Lawful (runDots (between s from to))
   value-lawful = rw value-run (h .fit .valid its in-values .clock)
 
-  pub value-number : recordFrom s ((r .values .from + k) * 16) .number ≡ its .value
-  value-number = number-at s (r .values .from) (r .values .to) (e .key) 0 (valuesIn e) k (h .values .records) present
+  pub value-content : contentOf (recordFrom s ((r .values .from + k) * 16)) ≡ its .value
+  value-content = content-at s (r .values .from) (r .values .to) (e .key) 0 (valuesIn e) k (h .values .records) present
 
   -- where its records stand
   pub record Stands : Type 0 where

@@ -27,8 +27,8 @@ pub record Chosen (l : List Value) : Type 0 where
   pub taken : Value
   pub stands : taken ∈ l
   pub remains : below l taken ≡ false
-  pub reported : reportOf l .value ≡ taken .value
-  pub least : (w : Value) → w ∈ l → below l w ≡ false → reportOf l .value ≤ w .value
+  pub reported : reportOf l .value ≡ taken .value .number
+  pub least : (w : Value) → w ∈ l → below l w ≡ false → reportOf l .value ≤ w .value .number
 
 pub chosen : (l : List Value) {w : Value} → w ∈ l → Chosen l
 unfolding reportOf remaining

@@ -16,7 +16,7 @@ use Rattle.loader.specs.Choice.{below, remaining, smallest, differ, repo
 use Rattle.loader.specs.Reports.{reportBytes}
 
 abbrev value : List Dot → ℕ → Value
-value c n = record { clock = clockOf c; value = n }
+value c n = record { clock = clockOf c; value = record { number = n; origin = 0 } }
 
 abbrev register : List Value
 register =

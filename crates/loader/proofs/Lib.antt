@@ -4,5 +4,6 @@ pub mod Strict
 pub mod Chosen
 pub mod Reordered
 pub mod Shuffled
+pub mod Unnamed
 pub mod Determined
 pub mod Examples

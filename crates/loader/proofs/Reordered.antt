@@ -76,7 +76,7 @@ report-perm d = on (remaining-perm d)
 
 -- a report is one of pairs: of a clock it sees its dots alone
 abbrev laid : Value → Value
-laid v = record { clock = clockOf (dotsOf (v .clock)); value = v .value }
+laid v = record { clock = clockOf (dotsOf (v .clock)); value = record { number = v .value .number; origin = 0 } }
 
 some-map : {A B : Type 0} (p : B → Bool) (q : A → Bool) (g : A → B) (l : List A) → ((x : A) → p (g x) ≡ q x) → some p (map g l) ≡ some q l
 unfolding firstIn
@@ -105,7 +105,7 @@ remaining-laid l =
 smallest-laid : (l : List Value) → smallest (map laid l) ≡ smallest l
 unfolding smallest fold
 smallest-laid [] = refl
-smallest-laid (v ∷ l) = from (v .value) l
+smallest-laid (v ∷ l) = from (v .value .number) l
   where
     from : (n : ℕ) (l : List Value) → fold lower n (map laid l) ≡ fold lower n l
     from n [] = refl
@@ -130,10 +130,10 @@ same-report l m d =
     sym (report-laid l) ∙ report-perm p ∙ report-laid m
   where
     back : List Dot × ℕ → Value
-    back p = record { clock = clockOf (p .0); value = p .1 }
+    back p = record { clock = clockOf (p .0); value = record { number = p .1; origin = 0 } }
 
     pair : Value → List Dot × ℕ
-    pair v = (dotsOf (v .clock), v .value)
+    pair v = (dotsOf (v .clock), v .value .number)
 
 -- so of a bay in two maps
 pub same-bay : (m n : Map) (bay : ℕ) → List·Permᴰ (pairsOf (valuesIn (entryAt bay (entriesIn m)))) (pairsOf (valuesIn (entryAt bay (entriesIn n)))) → reportAt m bay ≡ reportAt n bay

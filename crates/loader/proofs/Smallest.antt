@@ -19,7 +19,7 @@ use Rattle.loader.specs.Choice.{smallest, another, differ}
 
 -- the smaller of a number and a value
 abbrev pub lower : ℕ → Value → ℕ
-lower n v = min n (v .value)
+lower n v = min n (v .value .number)
 
 -- of none it is 0
 pub smallest-none : (l : List Value) → length l ≡ 0 → 0 ≡ smallest l
@@ -28,53 +28,53 @@ smallest-none [] e = refl
 smallest-none (v ∷ l) e = omega arith
 
 -- to start with the first value and then meet it again changes nothing
-pub smallest-from : (xs : List Value) (n : ℕ) (d : Value) → 0 < length (take n xs) → fold lower (getD xs 0 d .value) (take n xs) ≡ smallest (take n xs)
+pub smallest-from : (xs : List Value) (n : ℕ) (d : Value) → 0 < length (take n xs) → fold lower (getD xs 0 d .value .number) (take n xs) ≡ smallest (take n xs)
 unfolding smallest fold
 smallest-from [] zero d h = omega arith
 smallest-from [] (suc n) d h = omega arith
 smallest-from (v ∷ l) zero d h = omega arith
-smallest-from (v ∷ l) (suc n) d h = let e : min (v .value) (v .value) ≡ v .value = omega arith in ap (λ m. fold lower m (take n l)) e
+smallest-from (v ∷ l) (suc n) d h = let e : min (v .value .number) (v .value .number) ≡ v .value .number = omega arith in ap (λ m. fold lower m (take n l)) e
 
 fold-start : (n : ℕ) (l : List Value) → fold lower n l ≤ n
 unfolding fold
 fold-start n [] = omega arith
 fold-start n (v ∷ l) = omega (arith, fold-start (lower n v) l)
 
-fold-each : (n : ℕ) (l : List Value) (w : Value) → w ∈ l → fold lower n l ≤ w .value
+fold-each : (n : ℕ) (l : List Value) (w : Value) → w ∈ l → fold lower n l ≤ w .value .number
 unfolding fold
 fold-each n [] w i = absurd (List·Memᴰ·not-nil i)
 fold-each n (v ∷ l) w i =
-    ⊎-elim (λ (e : w ≡ v). omega (arith, ap (λ (x : Value). x .value) e, fold-start (lower n v) l)) (λ j. fold-each (lower n v) l w j) (List·Memᴰ·cases-cons i)
+    ⊎-elim (λ (e : w ≡ v). omega (arith, ap (λ (x : Value). x .value .number) e, fold-start (lower n v) l)) (λ j. fold-each (lower n v) l w j) (List·Memᴰ·cases-cons i)
 
 -- it is the start, or some value
 abbrev Stands : ℕ → List Value → Type 0
-Stands n l = (w : Value) × (w ∈ l) × (w .value ≡ n)
+Stands n l = (w : Value) × (w ∈ l) × (w .value .number ≡ n)
 
 fold-stands : (n : ℕ) (l : List Value) → (fold lower n l ≡ n) ⊎ Stands (fold lower n l) l
 unfolding fold
 fold-stands n [] = inl refl
-fold-stands n (v ∷ l) = ⊎-elim (λ e. go e (lower-is n (v .value))) (λ s. inr (s .0, List·Memᴰ·tail (s .1), s .2)) (fold-stands (lower n v) l)
+fold-stands n (v ∷ l) = ⊎-elim (λ e. go e (lower-is n (v .value .number))) (λ s. inr (s .0, List·Memᴰ·tail (s .1), s .2)) (fold-stands (lower n v) l)
   where
     lower-is : (a b : ℕ) → (min a b ≡ a) ⊎ (min a b ≡ b)
     lower-is a b = decide (ltb a b) (λ t. let h = ltb-true a b t in inl (omega arith)) (λ f. let h = ltb-false a b f in inr (omega arith))
 
-    go : fold lower (lower n v) l ≡ lower n v → (lower n v ≡ n) ⊎ (lower n v ≡ v .value) → (fold lower (lower n v) l ≡ n) ⊎ Stands (fold lower (lower n v) l) (v ∷ l)
+    go : fold lower (lower n v) l ≡ lower n v → (lower n v ≡ n) ⊎ (lower n v ≡ v .value .number) → (fold lower (lower n v) l ≡ n) ⊎ Stands (fold lower (lower n v) l) (v ∷ l)
     go e (inl f) = inl (e ∙ f)
     go e (inr f) = inr (v, List·Memᴰ·head refl, sym (e ∙ f))
 
 -- none is smaller
-pub smallest-least : (l : List Value) (w : Value) → w ∈ l → smallest l ≤ w .value
+pub smallest-least : (l : List Value) (w : Value) → w ∈ l → smallest l ≤ w .value .number
 unfolding smallest
 smallest-least [] w i = absurd (List·Memᴰ·not-nil i)
 smallest-least (v ∷ l) w i =
-    ⊎-elim (λ (e : w ≡ v). omega (arith, ap (λ (x : Value). x .value) e, fold-start (v .value) l)) (λ j. fold-each (v .value) l w j) (List·Memᴰ·cases-cons i)
+    ⊎-elim (λ (e : w ≡ v). omega (arith, ap (λ (x : Value). x .value .number) e, fold-start (v .value .number) l)) (λ j. fold-each (v .value .number) l w j) (List·Memᴰ·cases-cons i)
 
 -- it is one of the values
 pub smallest-stands : (l : List Value) {w : Value} → w ∈ l → Stands (smallest l) l
 unfolding smallest
 smallest-stands [] i = absurd (List·Memᴰ·not-nil i)
 smallest-stands (v ∷ l) i =
-    ⊎-elim (λ e. (v, List·Memᴰ·head refl, sym e)) (λ s. (s .0, List·Memᴰ·tail (s .1), s .2)) (fold-stands (v .value) l)
+    ⊎-elim (λ e. (v, List·Memᴰ·head refl, sym e)) (λ s. (s .0, List·Memᴰ·tail (s .1), s .2)) (fold-stands (v .value .number) l)
 
 -- values differ where one differs from the smallest
 pub differ-smallest : (l : List Value) → differ l ≡ some (another (smallest l)) l
@@ -83,11 +83,11 @@ differ-smallest l =
     ⊎-elim
     (λ r.
     let s = smallest-stands l (r .1) in
-    let t : some (another (s .0 .value)) l ≡ true = some-holds (another (s .0 .value)) (r .1) (ap (λ n. another n (r .0)) (s .2) ∙ r .2) in
-    some-holds (λ v. some (another (v .value)) l) (s .1) t ∙ sym (some-holds (another (smallest l)) (r .1) (r .2)))
+    let t : some (another (s .0 .value .number)) l ≡ true = some-holds (another (s .0 .value .number)) (r .1) (ap (λ n. another n (r .0)) (s .2) ∙ r .2) in
+    some-holds (λ v. some (another (v .value .number)) l) (s .1) t ∙ sym (some-holds (another (smallest l)) (r .1) (r .2)))
     (λ f.
-    let equal : (v : Value) → v ∈ l → smallest l ≡ v .value = λ v i. eqb-true _ _ (not-false _ (f v i)) in
-    false-some (λ v. some (another (v .value)) l) l
-    (λ v i. false-some (another (v .value)) l (λ w j. ap not (eq-eqb _ _ (sym (equal v i) ∙ equal w j))))
+    let equal : (v : Value) → v ∈ l → smallest l ≡ v .value .number = λ v i. eqb-true _ _ (not-false _ (f v i)) in
+    false-some (λ v. some (another (v .value .number)) l) l
+    (λ v i. false-some (another (v .value .number)) l (λ w j. ap not (eq-eqb _ _ (sym (equal v i) ∙ equal w j))))
     ∙ sym (false-some (another (smallest l)) l f))
     (some-cases (another (smallest l)) l)

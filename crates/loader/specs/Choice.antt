@@ -25,15 +25,15 @@ remaining l = those (λ v. not (below l v)) l
 -- "then takes the smallest remaining value"
 unfoldable pub smallest : List Value → ℕ
 smallest [] = 0
-smallest (v ∷ l) = fold (λ n w. min n (w .value)) (v .value) l
+smallest (v ∷ l) = fold (λ n w. min n (w .value .number)) (v .value .number) l
 
 -- a value that is not n
 abbrev pub another : ℕ → Value → Bool
-another n v = not (eqb n (v .value))
+another n v = not (eqb n (v .value .number))
 
 -- "whether their values differ": beside one of them stands another
 unfoldable pub differ : List Value → Bool
-differ l = some (λ v. some (another (v .value)) l) l
+differ l = some (λ v. some (another (v .value .number)) l) l
 
 -- "it reports the value, how many remained, and whether their values differ", and that there is one
 abbrev pub reportOn : List Value → Report
@@ -44,4 +44,4 @@ reportOf l = reportOn (remaining l)
 
 -- "the same value-and-clock pairs": what a register holds, as pairs of a clock's dots and a value
 abbrev pub pairsOf : List Value → List (List Dot × ℕ)
-pairsOf l = map (λ v. (dotsOf (v .clock), v .value)) l
+pairsOf l = map (λ v. (dotsOf (v .clock), v .value .number)) l

@@ -1,3 +1,4 @@
 pub mod Choice
 pub mod Reports
 pub mod Calls
+pub mod Unnamed

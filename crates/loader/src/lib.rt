@@ -38,13 +38,13 @@ fn least(values: Register) -> u64
         return 0;
     }
     let first = values.values[0];
-    let mut best = first.value;
+    let mut best = first.value.number;
     let mut i: usize = 0;
     while i < n {
         let v = values.values[i];
         i += 1;
-        if v.value < best {
-            best = v.value;
+        if v.value.number < best {
+            best = v.value.number;
         }
     }
     best
@@ -59,7 +59,7 @@ fn other_than(values: Register, value: u64) -> bool
     while i < n {
         let v = values.values[i];
         i += 1;
-        if value != v.value {
+        if value != v.value.number {
             return true;
         }
     }

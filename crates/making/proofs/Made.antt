@@ -10,6 +10,7 @@ use Rattle.scan.proofs.Eachs.{decide}
 use Rattle.clock.specs.declared.Clock.{Clock}
 use Rattle.clock.specs.declared.Dot.{Dot}
 use Rattle.clock.specs.Dots.{dotLimit, dotsOf, counterIn, addDot}
+use Rattle.register.specs.declared.Content.{Content}
 use Rattle.parts.specs.Model.{keysAs, noUpdate}
 use Rattle.map.specs.Model.{seenBy}
 use Rattle.map.specs.declared.Map.{Map}
@@ -26,7 +27,7 @@ abbrev pub removalUnder : Clock → ℕ → Op
 removalUnder clock key = record { up = false; removal = record { clock = clock; keys = keysAs (key ∷ []) }; update = noUpdate }
 
 -- an update under the map clock is that of the map; so may it be answered
-pub update-is : (m : Map) (actor key value : ℕ) {clock : Clock} {a : AddCtx} {j : Made} → clock ≡ m .clock → a ≡ addContext (dotsOf clock) actor → j ≡ updateUnder a key value → j ≡ makeUpdate m actor key value
+pub update-is : (m : Map) (actor key : ℕ) (value : Content) {clock : Clock} {a : AddCtx} {j : Made} → clock ≡ m .clock → a ≡ addContext (dotsOf clock) actor → j ≡ updateUnder a key value → j ≡ makeUpdate m actor key value
 unfolding makeUpdate
 update-is m actor key value p q e = e ∙ ap (λ x. updateUnder x key value) (q ∙ ap (λ c. addContext (dotsOf c) actor) p)
 
@@ -36,11 +37,11 @@ context-small c actor =
     decide (leb (2 ^ 64 - 1) (counterIn c actor)) (λ t. rw t (omega arith))
     (λ f. decide (exceeding dotLimit (addDot c (dotAfter c actor))) (λ t. rw (f, t) (omega arith)) (λ n. rw (f, n) (omega arith)))
 
-under-small : (c : AddCtx) (key value : ℕ) → c .number < 2 ^ 32 → updateUnder c key value .number < 2 ^ 32
+under-small : (c : AddCtx) (key : ℕ) (value : Content) → c .number < 2 ^ 32 → updateUnder c key value .number < 2 ^ 32
 unfolding updateUnder
 under-small c key value h = decide (eqb (c .number) 0) (λ t. rw t (omega arith)) (λ f. rw f h)
 
-pub made-out : (m : Map) (actor key value : ℕ) {j : Made} → j ≡ makeUpdate m actor key value → j .number < 2 ^ 32
+pub made-out : (m : Map) (actor key : ℕ) (value : Content) {j : Made} → j ≡ makeUpdate m actor key value → j .number < 2 ^ 32
 unfolding makeUpdate
 made-out m actor key value e = rw e (under-small (addContext (seenBy m) actor) key value (context-small (seenBy m) actor))
 

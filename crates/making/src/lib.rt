@@ -1,9 +1,10 @@
 // The three calls that make an operation: an update, and a removal of one key.
 ghost use Rattle.promises.specs.Promises.{UpdatePromise, RmGetPromise, RmReadCtxPromise};
 use asking::ReadCtx;
+use register::Content;
 
-pub fn update(map: &[u8], actor: u16, key: u32, value: u64, out: &mut [u8]) -> u64
-    ensures { λ r. ⌜ UpdatePromise (now (map .entry)) actor key value (now (out .entry)) (now (out .exit)) r ⌝ }
+pub fn update(map: &[u8], actor: u16, key: u32, value: u64, origin: u16, out: &mut [u8]) -> u64
+    ensures { λ r. ⌜ UpdatePromise (now (map .entry)) actor key value origin (now (out .entry)) (now (out .exit)) r ⌝ }
 {
     let l = layout::lay_out(map);
     if l.number != 0 {
@@ -14,7 +15,11 @@ pub fn update(map: &[u8], actor: u16, key: u32, value: u64, out: &mut [u8]) -> u
         add_clock: clock,
         rm_clock: clock,
     };
-    let made = ctx.derive_add_ctx(actor).update(key, value);
+    let content = Content {
+        number: value,
+        origin,
+    };
+    let made = ctx.derive_add_ctx(actor).update(key, content);
     let op = made.op;
     answers::give_op(made.number, op, out)
 }

@@ -11,6 +11,7 @@ use Rattle.lists.specs.Fold.{fold}
 use Rattle.lists.proofs.Folds.{fold-append}
 use Rattle.lists.proofs.Rests.{drop-step, drop-end}
 use Rattle.register.specs.declared.Value.{Value}
+use Rattle.register.specs.Values.{noContent}
 use Rattle.parts.specs.declared.Entry.{Entry}
 use Rattle.parts.specs.declared.Removal.{Removal}
 use Rattle.mapimage.specs.Sorted.{lesser, leastFrom}
@@ -57,7 +58,7 @@ module _ {end low m : ℕ} {whole : List ℕ} where
 
 -- what a read past the end of an array would give
 abbrev pub noValueRead : Value
-noValueRead = record { clock = record { dots = []; len = 0 }; value = 0 }
+noValueRead = record { clock = record { dots = []; len = 0 }; value = noContent }
 
 abbrev pub noEntryRead : Entry
 noEntryRead = record { key = 0; clock = record { dots = []; len = 0 }; register = record { values = []; len = 0 } }

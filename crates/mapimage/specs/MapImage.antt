@@ -16,7 +16,7 @@ use Rattle.map.specs.Model.{seenBy, entriesIn, waitingIn}
 use Rattle.records.specs.declared.Record.{Record}
 use Rattle.records.specs.Records.{bytesOf}
 use Rattle.scan.specs.Limits.{Limits, today}
-use Rattle.clockimage.specs.Image.{dotRecords}
+use Rattle.clockimage.specs.Image.{dotRecords, contentRecord}
 use Rattle.mapimage.specs.Sorted.{inOrder}
 
 -- a map clock, entries with their dots, values and value dots, waiting removals with their dots and keys
@@ -32,7 +32,7 @@ flatFrom f i [] = []
 flatFrom f i (x ∷ l) = f i x ++ flatFrom f (i + 1) l
 
 abbrev pub valueRecord : ℕ → ℕ → Value → Record
-valueRecord key index v = record { kind = 3; index = index; actor = 0; key = key; number = v .value }
+valueRecord key index v = contentRecord 3 index key (v .value)
 
 -- of a value, the record of kind 3 or the dots of kind 4
 abbrev pub valueRecords : ℕ → ℕ → ℕ → Value → List Record

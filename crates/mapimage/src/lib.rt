@@ -39,12 +39,13 @@ fn write_value(out: &mut [u8], at: usize, kind: u8, key: u32, index: u8, v: Valu
     ensures { λ next. ⌜ Wrote at (bytesOf (valueRecords kind key index v)) (now (out .entry)) (now (out .exit)) next ⌝ }
 {
     if kind == 3 {
+        let x = v.value;
         let r = Record {
             kind: 3,
             index,
-            actor: 0,
+            actor: x.origin,
             key,
-            number: v.value,
+            number: x.number,
         };
         return records::write_record(out, at, r);
     }

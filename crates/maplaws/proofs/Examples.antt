@@ -33,7 +33,7 @@ one a n = dot a n ∷ []
 
 -- clock {1:1}, entry 5 {1:1} holding ({1:1}, 40)
 abbrev pub M : Map
-M = mapAs (one 1 1) (entryAs 5 (one 1 1) (record { clock = clockOf (one 1 1); value = 40 } ∷ []) ∷ []) []
+M = mapAs (one 1 1) (entryAs 5 (one 1 1) (record { clock = clockOf (one 1 1); value = record { number = 40; origin = 0 } } ∷ []) ∷ []) []
 
 -- clock {1:1,2:1}, entry 5 under a clock, holding values
 abbrev both : List Dot → List Value → Map

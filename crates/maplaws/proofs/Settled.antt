@@ -11,7 +11,7 @@ use Rattle.lists.specs.Weave.{weave}
 use Rattle.clock.specs.declared.Dot.{Dot}
 use Rattle.clock.specs.Dots.{clockOf, isEmpty, counterIn, covers, orderOf, cutDots, joinDots, commonDots, addDot}
 use Rattle.register.specs.declared.Value.{Value}
-use Rattle.register.specs.Values.{yields, outdone, remaining, putValues, cutValues, oursLeft, mergeValues}
+use Rattle.register.specs.Values.{noContent, yields, outdone, remaining, putValues, cutValues, oursLeft, mergeValues}
 use Rattle.parts.specs.declared.Entry.{Entry}
 use Rattle.parts.specs.declared.Update.{Update}
 use Rattle.map.specs.declared.Map.{Map}
@@ -36,7 +36,7 @@ abbrev one : ℕ → ℕ → List Dot
 one a n = dot a n ∷ []
 
 abbrev value : List Dot → ℕ → Value
-value c x = record { clock = clockOf c; value = x }
+value c x = record { clock = clockOf c; value = record { number = x; origin = 0 } }
 
 abbrev updates : ℕ → ℕ → ℕ → ℕ → Update
 updates a n k x = record { dot = dot a n; key = k; put = value (one a n) x }
@@ -65,7 +65,7 @@ pub record Settled : Type 0 where
   pub w9 : judged (update (mapAs (one 1 32) (entriesTo 32) (removalAs (one 9 1) (77 ∷ []) ∷ [])) (updates 9 1 77 7)) ≡ record { number = 0; map = mapAs (dot 1 32 ∷ dot 9 1 ∷ []) (entriesTo 32) [] }
   pub w9-without : judged (update (mapAs (one 1 32) (entriesTo 32) []) (updates 9 1 77 7)) ≡ record { number = 5; map = noMap }
   pub w10 : validateUpdate M (updates 1 2 6 0) ≡ Missing 1 2
-  pub w11 : makeUpdate (mapAs (one 1 (2 ^ 64 - 1)) [] []) 1 5 0 ≡ record { number = 9; op = noOp }
+  pub w11 : makeUpdate (mapAs (one 1 (2 ^ 64 - 1)) [] []) 1 5 noContent ≡ record { number = 9; op = noOp }
   pub w12 : putValues (value (one 1 1) 7 ∷ []) (value (one 1 1) 8) ≡ value (one 1 1) 8 ∷ []
 
 pub settled : Settled

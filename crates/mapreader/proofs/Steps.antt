@@ -31,7 +31,7 @@ use Rattle.scan.specs.Scanned.{scanNumber}
 use Rattle.scan.proofs.Eachs.{decide, some-of, both-left, both-right}
 use Rattle.scan.proofs.Scanning.{scan-before}
 use Rattle.scan.proofs.Rooms.{those-yes, those-no}
-use Rattle.clockimage.specs.Image.{isKind, dotOf, dotsIn}
+use Rattle.clockimage.specs.Image.{isKind, dotOf, contentOf, dotsIn}
 use Rattle.clockimage.proofs.Dots.{map-snoc}
 use Rattle.maprecords.specs.Reading.{underKey, underBoth, valueIn, valuesUnder, entryIn, entryKeys, entriesFor, placesFrom}
 use Rattle.maprecords.specs.Related.{entryFits}
@@ -193,10 +193,10 @@ module _ (l : List Record) (r : Record) where
       values-few good k = omega (arith, ap (λ z. z .len) register-is ∙ length-places (valueIn l (r .key)) 0 (Rattle.lists.specs.Sift.those (underKey 3 (r .key)) l), values-room l r good k)
 
       pub value-now : scanNumber 1 6 (l ++ (r ∷ [])) ≡ 0 → r .kind ≡ 3 → register .len ≡ r .index → {blank : Clock} → blank ≡ clockOf []
-          → EntriesNow l r false keys (handed entries at (getD keys at 0) own (record { values = set (register .values) (register .len) (record { clock = blank; value = r .number }); len = register .len + 1 }))
+          → EntriesNow l r false keys (handed entries at (getD keys at 0) own (record { values = set (register .values) (register .len) (record { clock = blank; value = contentOf r }); len = register .len + 1 }))
       value-now good k e b =
           let fit = value-fits k ∙ eq-eqb _ _ e in
-          let next = pushed (valuesUnder l (r .key)) _ register-is (omega (arith, ap (λ z. z .len) register-is, values-few good k)) ∙ ap (λ c. registerOf (valuesUnder l (r .key) ++ (record { clock = c; value = r .number } ∷ []))) b in
+          let next = pushed (valuesUnder l (r .key)) _ register-is (omega (arith, ap (λ z. z .len) register-is, values-few good k)) ∙ ap (λ c. registerOf (valuesUnder l (r .key) ++ (record { clock = c; value = contentOf r } ∷ []))) b in
           record {
             lost = rw fit;
             keys = λ _. same-keys (keys-same l r (λ b. omega arith));

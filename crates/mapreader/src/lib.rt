@@ -27,6 +27,7 @@ use parts::Removal;
 use parts::WAITING;
 use parts::Waiting;
 use records::Record;
+use register::Content;
 use register::Register;
 use register::VALUES;
 use register::Value;
@@ -70,10 +71,8 @@ fn value_dot(v: Value, r: Record) -> Value
 {
     let old = v.clock;
     let clock = clockimage::clock_with(old, true, r);
-    Value {
-        clock,
-        value: v.value,
-    }
+    let value = v.value;
+    Value { clock, value }
 }
 
 fn removal_dot(w: Removal, r: Record) -> Removal
@@ -230,7 +229,10 @@ impl MapReader {
                                     let blank = Clock::new();
                                     let value = Value {
                                         clock: blank,
-                                        value: r.number,
+                                        value: Content {
+                                            number: r.number,
+                                            origin: r.actor,
+                                        },
                                     };
                                     register.values[k] = value;
                                     register.len = k + 1;

@@ -28,7 +28,7 @@ use Rattle.scan.proofs.Befores.{before-fields}
 use Rattle.scan.proofs.Tallies.{tally-snoc, tally-new, tally-other}
 use Rattle.scan.proofs.Scans.{formed-snoc, alike, alike-outer, alike-middle, alike-index, outer-key}
 use Rattle.scan.proofs.Scanning.{scan-good, scan-last}
-use Rattle.records.proofs.Rule.{usesActor}
+use Rattle.records.proofs.Rule.{isDot}
 use Rattle.scan.proofs.Rooms.{good-at, no-index, no-key, inner-room, middle-room, outer-few}
 use Rattle.clockimage.specs.Image.{isKind, dotOf, dotsIn}
 use Rattle.maprecords.specs.Reading.{underKey, underIndex, underBoth, entryKeys}
@@ -87,7 +87,7 @@ module _ (l : List Record) (r : Record) (z : scanNumber 1 6 (l ++ (r ∷ [])) �
   pub values-room : r .kind ≡ 3 → length (those (underKey 3 (r .key)) l) < valueLimit
   values-room k =
       rw (those-same (underKey 3 (r .key)) (sameOuter r) l same)
-      (let b = middle-room 1 6 l r formed few (ap usesActor k) in let e = ap (limitAt middleLimits) k in omega arith)
+      (let b = middle-room 1 6 l r formed few (ap isDot k) in let e = ap (limitAt middleLimits) k in omega arith)
     where
       same : (x : Record) → x ∈ l → underKey 3 (r .key) x ≡ sameOuter r x
       same x i =
@@ -132,7 +132,7 @@ module _ (l : List Record) (r : Record) (z : scanNumber 1 6 (l ++ (r ∷ [])) �
   pub waiting-keys-room : r .kind ≡ 6 → length (those (underIndex 6 (r .index)) l) < keyLimit
   waiting-keys-room k =
       rw (those-same (underIndex 6 (r .index)) (sameOuter r) l same)
-      (let b = middle-room 1 6 l r formed few (ap usesActor k) in let e = ap (limitAt middleLimits) k in omega arith)
+      (let b = middle-room 1 6 l r formed few (ap isDot k) in let e = ap (limitAt middleLimits) k in omega arith)
     where
       by-index : (x : Record) → x .kind ≡ 6 → outer x ≡ x .index
       by-index x e = rw (eq-eqb (x .kind) 6 e)

@@ -21,7 +21,7 @@ use Rattle.parts.specs.Model.{entryAs}
 use Rattle.records.specs.declared.Record.{Record}
 use Rattle.scan.proofs.Eachs.{decide, both}
 use Rattle.scan.proofs.Rooms.{those-yes, those-no}
-use Rattle.clockimage.specs.Image.{isKind, dotOf, dotsIn}
+use Rattle.clockimage.specs.Image.{isKind, dotOf, contentOf, dotsIn}
 use Rattle.clockimage.proofs.Dots.{dots-more, dots-same}
 use Rattle.maprecords.specs.Reading.{underKey, underBoth, addNew, valueIn, valuesUnder, entryIn, entryKeys, entriesFor, placesFrom}
 use Rattle.maprecords.proofs.Keys.{Unique, unique-add, unique-none, fold-keeps, map-same, length-places, places-snoc, get-places}
@@ -60,7 +60,7 @@ module _ (l : List Record) (r : Record) (key : ℕ) where
   -- a record that is no value dot of the key leaves every value's dots
   clocks-same : underKey 4 key r ≡ false → valueIn (l ++ (r ∷ [])) key ≡ valueIn l key
   clocks-same n =
-      fun-ext (λ place. fun-ext (λ x. ap (λ d. record { clock = clockOf d; value = x .number }) (dots-same (underBoth 4 key place) l r (rw n))))
+      fun-ext (λ place. fun-ext (λ x. ap (λ d. record { clock = clockOf d; value = contentOf x }) (dots-same (underBoth 4 key place) l r (rw n))))
 
   values-same : underKey 3 key r ≡ false → underKey 4 key r ≡ false → valuesUnder (l ++ (r ∷ [])) key ≡ valuesUnder l key
   values-same n m = ap₂ (λ f k. placesFrom f 0 k) (clocks-same m) (those-no (underKey 3 key) l r n)
@@ -90,12 +90,12 @@ module _ (l : List Record) (r : Record) where
       ap (map dotOf) (those-none (underBoth kind key place) l (λ s i. let b = h s i in rw (ne-eqb (s .kind) kind (λ e. omega arith))))
 
   pub value-entry : ((s : Record) → s ∈ l → s .kind ≤ r .kind) → r .kind ≡ 3 → entryIn (l ++ (r ∷ [])) (r .key)
-      ≡ entryAs (r .key) (dotsIn (underKey 2 (r .key)) l) (valuesUnder l (r .key) ++ (record { clock = clockOf []; value = r .number } ∷ []))
+      ≡ entryAs (r .key) (dotsIn (underKey 2 (r .key)) l) (valuesUnder l (r .key) ++ (record { clock = clockOf []; value = contentOf r } ∷ []))
   value-entry h k =
       ap₂ (entryAs (r .key)) (dots-same (underKey 2 (r .key)) l r (other-kind 2 (r .key) r (λ e. omega arith)))
       (ap₂ (λ f m. placesFrom f 0 m) (clocks-same l r (r .key) (other-kind 4 (r .key) r (λ e. omega arith))) (those-yes (underKey 3 (r .key)) l r (own 3 r k))
       ∙ places-snoc (valueIn l (r .key)) 0 (those (underKey 3 (r .key)) l) r
-      ∙ ap (λ d. valuesUnder l (r .key) ++ (record { clock = clockOf d; value = r .number } ∷ [])) (none-later h 4 (r .key) (0 + length (those (underKey 3 (r .key)) l)) (omega arith)))
+      ∙ ap (λ d. valuesUnder l (r .key) ++ (record { clock = clockOf d; value = contentOf r } ∷ [])) (none-later h 4 (r .key) (0 + length (those (underKey 3 (r .key)) l)) (omega arith)))
 
   -- a value dot goes to the value at its index
   pub value-dot-entry : r .kind ≡ 4 → r .index < length (valuesUnder l (r .key)) → entryIn (l ++ (r ∷ [])) (r .key)
@@ -127,9 +127,9 @@ module _ (l : List Record) (r : Record) where
           (λ t. let e = eqb-true i (r .index) t in
           now ∙ ap₂ (λ d n. record { clock = clockOf d; value = n })
           (ap (λ k. dotsIn (underBoth 4 (r .key) k) (l ++ (r ∷ []))) (at ∙ e) ∙ dots-more (underBoth 4 (r .key) (r .index)) l r (both (underKey 4 (r .key) r) (eqb (r .index) (r .index)) (own 4 r k) (eq-eqb (r .index) (r .index) refl)))
-          (ap (λ j. getD vs j none .number) e ∙ sym (ap (λ v. v .value) (old (r .index) (rw e at g))))
+          (ap (λ j. contentOf (getD vs j none)) e ∙ sym (ap (λ v. v .value) (old (r .index) (rw e at g))))
           ∙ sym (ap (λ j. getD (set (valuesUnder l (r .key)) (r .index) new) j noValue) e ∙ getD-set-same (valuesUnder l (r .key)) (r .index) new noValue h))
           (λ f. let n = eqb-false i (r .index) f in
-          now ∙ ap (λ d. record { clock = clockOf d; value = getD vs i none .number })
+          now ∙ ap (λ d. record { clock = clockOf d; value = contentOf (getD vs i none) })
           (dots-same (underBoth 4 (r .key) (0 + i)) l r (rw (own 4 r k) (ne-eqb (r .index) (0 + i) (λ q. n (sym (q ∙ at))))))
           ∙ sym (getD-set-other (valuesUnder l (r .key)) (r .index) i new noValue n ∙ old i g))

@@ -32,7 +32,7 @@ dot a n = record { actor = a; counter = n }
 -- M = clock {1:1}, entry 5 {1:1} holding ({1:1}, 40)
 m : Map
 unfolding dot
-m = mapAs (dot 1 1 ∷ []) (entryAs 5 (dot 1 1 ∷ []) (record { clock = clockOf (dot 1 1 ∷ []); value = 40 } ∷ []) ∷ []) []
+m = mapAs (dot 1 1 ∷ []) (entryAs 5 (dot 1 1 ∷ []) (record { clock = clockOf (dot 1 1 ∷ []); value = record { number = 40; origin = 0 } } ∷ []) ∷ []) []
 
 row : ℕ → ℕ → ℕ → ℕ → ℕ → Record
 row kind index actor key number = record { kind = kind; index = index; actor = actor; key = key; number = number }
@@ -66,7 +66,7 @@ dots n = map (λ a. dot a (n + 1)) (below 8)
 full : Map
 unfolding below dots
 full =
-    mapAs (dots 9) (map (λ k. entryAs k (dots 0) (map (λ v. record { clock = clockOf (dots v); value = v }) (below valueLimit))) (below entryLimit))
+    mapAs (dots 9) (map (λ k. entryAs k (dots 0) (map (λ v. record { clock = clockOf (dots v); value = record { number = v; origin = 0 } }) (below valueLimit))) (below entryLimit))
     (map (λ i. removalAs (dots i) (below keyLimit)) (below waitingLimit))
 
 full-longest : length (mapRecords full) * 16 ≡ mapLongest

@@ -16,7 +16,7 @@ use Rattle.parts.specs.Model.{entryAs, removalAs}
 use Rattle.map.specs.declared.Map.{Map}
 use Rattle.map.specs.Model.{mapAs}
 use Rattle.records.specs.declared.Record.{Record}
-use Rattle.clockimage.specs.Image.{isKind, dotsIn}
+use Rattle.clockimage.specs.Image.{isKind, contentOf, dotsIn}
 
 -- records of a kind under a key, under an index, under both
 abbrev pub underKey : ℕ → ℕ → Record → Bool
@@ -38,7 +38,7 @@ placesFrom f i (x ∷ l) = f i x ∷ placesFrom f (i + 1) l
 
 -- the value of a record, with the dots that stand under its key and place
 abbrev pub valueIn : List Record → ℕ → ℕ → Record → Value
-valueIn l key place r = record { clock = clockOf (dotsIn (underBoth 4 key place) l); value = r .number }
+valueIn l key place r = record { clock = clockOf (dotsIn (underBoth 4 key place) l); value = contentOf r }
 
 abbrev pub valuesUnder : List Record → ℕ → List Value
 valuesUnder l key = placesFrom (valueIn l key) 0 (those (underKey 3 key) l)

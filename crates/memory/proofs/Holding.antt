@@ -33,7 +33,7 @@ use Rattle.records.specs.Bytes.{numAt}
 use Rattle.records.proofs.RoundTrips.{Fitting}
 use Rattle.scan.specs.Scanned.{scanNumber}
 use Rattle.scan.proofs.Eachs.{decide, some-none}
-use Rattle.clockimage.specs.Image.{dotOf, dotsIn}
+use Rattle.clockimage.specs.Image.{dotOf, contentOf, dotsIn}
 use Rattle.maprecords.specs.Reading.{below, clockIn, underKey, underBoth, underIndex, entryIn, entryKeys, entriesFor, removalIn, waitingFor}
 use Rattle.maprecords.proofs.Packs.{get-pad, entries-of, waiting-of, entry-changed, value-read, value-changed, removal-read}
 use Rattle.maprecords.proofs.Entries.{keys-more}
@@ -43,7 +43,7 @@ use Rattle.mapreader.proofs.SoFar.{handed, EntriesNow, WaitingSoFar, WaitingNow
 use Rattle.mapreader.proofs.Steps as steps
 use Rattle.mapreader.proofs.Waits as waits
 use Rattle.mapreader.proofs.Readers as readers
-use Rattle.memory.specs.Memory.{readerRoom, lostPlace, entriesPlace, waitsPlace, clockPlace, clockRoom, entryRoom, removalRoom, entryPlace, ownPlace, valuesPlace, valuePlace, removalPlace, keysPlace, keyPlace, scanAt, dotsAt, valueAt, valuesAt, keyAt, entryAt, entryCount, entriesAt, listedAt, removalAt, waitingCountAt, waitingAt}
+use Rattle.memory.specs.Memory.{readerRoom, lostPlace, entriesPlace, waitsPlace, clockPlace, clockRoom, entryRoom, removalRoom, entryPlace, ownPlace, valuesPlace, valuePlace, removalPlace, keysPlace, keyPlace, scanAt, dotsAt, contentAt, valueAt, valuesAt, keyAt, entryAt, entryCount, entriesAt, listedAt, removalAt, waitingCountAt, waitingAt}
 use Rattle.memory.specs.Putting.{dotPut, lose, entryBegun, valuePut, valueDotPut, placeOf, knownPut, entryPut, removalBegun, keyPut, waitingPut, recordPut}
 use Rattle.memory.specs.Reader.{keysIn, underAt, readerAt}
 use Rattle.memory.proofs.Regions.{Same, same-part, same-then, same-num, Touched, touched-then, touched-wide, below-touched, above-touched, touched-put, put-read}
@@ -226,7 +226,7 @@ module _ (l : List Record) (v : List ℕ) (long : length v ≡ readerRoom) (foun
             decide (eqb count (r .index))
             (λ t. let e = eqb-true count (r .index) t in
             entry-grown (value-now j r v f long low h e)
-            (subst (λ x. EntriesNow l r false keys (handed (entriesAs (entriesAt v)) j (getD keys j 0) own x)) (pushed (valuesAt v j) (record { clock = clockOf []; value = r .number }) refl few)
+            (subst (λ x. EntriesNow l r false keys (handed (entriesAs (entriesAt v)) j (getD keys j 0) own x)) (pushed (valuesAt v j) (record { clock = clockOf []; value = contentOf r }) refl few)
             (steps.value-now l r keys (entriesAs (entriesAt v)) j own register (g .parts .keys) held within own-key good k (omega (arith, values-long)) refl)))
             (λ t. let n = eqb-false count (r .index) t in
             rw t (entries-lost (steps.value-misfit l r keys (entriesAs (entriesAt v)) j own register (g .parts .keys) held within own-key k (λ e. n (omega (arith, values-long))) (readerAt v .keys) (readerAt v .entries))))
@@ -253,7 +253,7 @@ module _ (l : List Record) (v : List ℕ) (long : length v ≡ readerRoom) (foun
               dots-like _ _ (sym (ap (λ x. x .clock) value-is) ∙ steps.value-clock l r keys (entriesAs (entriesAt v)) j own register (g .parts .keys) held within own-key k in-values noValue)
 
           abbrev new : Value
-          new = record { clock = clockOf (dotsAt v (its + 8) ++ (dotOf r ∷ [])); value = numAt 3 its v }
+          new = record { clock = clockOf (dotsAt v (its + 8) ++ (dotOf r ∷ [])); value = contentAt v its }
 
           value-met : Grown all v (valueDotPut j r v)
           value-met =

@@ -16,9 +16,9 @@ use Rattle.records.specs.declared.Record.{Record}
 use Rattle.records.specs.Bytes.{numAt}
 use Rattle.records.proofs.RoundTrips.{Fitting}
 use Rattle.scan.proofs.Eachs.{decide}
-use Rattle.clockimage.specs.Image.{dotOf}
+use Rattle.clockimage.specs.Image.{dotOf, contentOf}
 use Rattle.maprecords.specs.Reading.{below}
-use Rattle.memory.specs.Memory.{readerRoom, clockRoom, dotRoom, valueRoom, entryRoom, removalRoom, entriesPlace, waitsPlace, entryPlace, ownPlace, valuesPlace, valuePlace, removalPlace, keysPlace, keyPlace, countAt, dotAt, dotsAt, valueAt, valuesAt, keyAt, entryAt, entryCount, entriesAt, listedAt, removalAt, waitingCountAt, waitingAt}
+use Rattle.memory.specs.Memory.{readerRoom, clockRoom, dotRoom, valueRoom, entryRoom, removalRoom, entriesPlace, waitsPlace, entryPlace, ownPlace, valuesPlace, valuePlace, removalPlace, keysPlace, keyPlace, countAt, dotAt, dotsAt, contentAt, valueAt, valuesAt, keyAt, entryAt, entryCount, entriesAt, listedAt, removalAt, waitingCountAt, waitingAt}
 use Rattle.memory.specs.Reader.{keysIn}
 use Rattle.memory.specs.Putting.{put, dotPut, entryBegun, valuePut, valueDotPut, removalBegun, keyPut}
 use Rattle.memory.proofs.Regions.{Same, same-num, Touched, touched-none, touched-then, touched-wide, below-touched, above-touched, touched-put, put-read}
@@ -134,8 +134,11 @@ module _ (j : ℕ) (r : Record) (w : List ℕ) (f : Fitting r) (long : length w 
     abbrev blank : List ℕ
     blank = put 0 (at + 8) 0 numbered
 
+    abbrev named : List ℕ
+    named = put 1 (at + 8 + clockRoom) (r .actor) blank
+
     abbrev valued : List ℕ
-    valued = put 0 (valuesPlace j) (count + 1) blank
+    valued = put 0 (valuesPlace j) (count + 1) named
 
     number-put : Touched at 8 w numbered
     number-put = touched-put 3 at (r .number) w (f .number) (omega arith)
@@ -146,42 +149,54 @@ module _ (j : ℕ) (r : Record) (w : List ℕ) (f : Fitting r) (long : length w 
     blank-long : length blank ≡ readerRoom
     blank-long = blank-put .long ∙ number-put .long ∙ long
 
-    count-put : Touched (valuesPlace j) 1 blank valued
-    count-put = touched-put 0 (valuesPlace j) (count + 1) blank (omega arith) (omega (arith, blank-long))
+    origin-put : Touched (at + 8 + clockRoom) 2 blank named
+    origin-put = touched-put 1 (at + 8 + clockRoom) (r .actor) blank (f .actor) (omega (arith, blank-long))
+
+    named-long : length named ≡ readerRoom
+    named-long = origin-put .long ∙ blank-long
+
+    count-put : Touched (valuesPlace j) 1 named valued
+    count-put = touched-put 0 (valuesPlace j) (count + 1) named (omega arith) (omega (arith, named-long))
 
     value-touched : Touched (valuesPlace j) (1 + valueLimit * valueRoom) w valued
     value-touched =
         let n = 1 + valueLimit * valueRoom in
         touched-then (touched-wide (valuesPlace j) n number-put (omega arith) (omega arith))
-        (touched-then (touched-wide (valuesPlace j) n blank-put (omega arith) (omega arith)) (touched-wide (valuesPlace j) n count-put (omega arith) (omega arith)))
+        (touched-then (touched-wide (valuesPlace j) n blank-put (omega arith) (omega arith))
+        (touched-then (touched-wide (valuesPlace j) n origin-put (omega arith) (omega arith)) (touched-wide (valuesPlace j) n count-put (omega arith) (omega arith))))
 
-    new-value : valueAt valued at ≡ record { clock = clockOf []; value = r .number }
+    new-value : valueAt valued at ≡ record { clock = clockOf []; value = contentOf r }
     new-value =
         let x = same-num 3 at (above-touched at 8 count-put (omega arith)) (omega arith) (omega arith)
+        ∙ same-num 3 at (below-touched at 8 origin-put (omega arith)) (omega arith) (omega arith)
         ∙ same-num 3 at (below-touched at 8 blank-put (omega arith)) (omega arith) (omega arith) ∙ put-read 3 at (r .number) w (f .number) (omega arith) in
+        let o = same-num 1 (at + 8 + clockRoom) (above-touched (at + 8 + clockRoom) 2 count-put (omega arith)) (omega arith) (omega arith)
+        ∙ put-read 1 (at + 8 + clockRoom) (r .actor) blank (f .actor) (omega (arith, blank-long)) in
         let z = same-num 0 (at + 8) (above-touched (at + 8) 1 count-put (omega arith)) (omega arith) (omega arith)
+        ∙ same-num 0 (at + 8) (below-touched (at + 8) 1 origin-put (omega arith)) (omega arith) (omega arith)
         ∙ put-read 0 (at + 8) 0 numbered (omega arith) (omega (arith, number-put .long)) in
         let c = no-dots (at + 8) valued z in
-        λ i. record { clock = clockOf (c i); value = x i }
+        λ i. record { clock = clockOf (c i); value = record { number = x i; origin = o i } }
 
     old-value : (i : ℕ) → i < count → valueAt valued (valuePlace j i) ≡ valueAt w (valuePlace j i)
     old-value i l =
         let q = valuePlace j i in
         same-value (above-touched q valueRoom count-put (omega arith)) q (omega arith) (omega arith)
+        ∙ same-value (below-touched q valueRoom origin-put (omega arith)) q (omega arith) (omega arith)
         ∙ same-value (below-touched q valueRoom blank-put (omega arith)) q (omega arith) (omega arith)
         ∙ same-value (below-touched q valueRoom number-put (omega arith)) q (omega arith) (omega arith)
 
-    more-values : valuesAt valued j ≡ valuesAt w j ++ (record { clock = clockOf []; value = r .number } ∷ [])
+    more-values : valuesAt valued j ≡ valuesAt w j ++ (record { clock = clockOf []; value = contentOf r } ∷ [])
     unfolding valuesAt
     more-values =
-        let now : countAt valueLimit (valuesPlace j) valued ≡ count + 1 = ap (λ x. min x valueLimit) (put-read 0 (valuesPlace j) (count + 1) blank (omega arith) (omega (arith, blank-long))) ∙ omega arith in
+        let now : countAt valueLimit (valuesPlace j) valued ≡ count + 1 = ap (λ x. min x valueLimit) (put-read 0 (valuesPlace j) (count + 1) named (omega arith) (omega (arith, named-long))) ∙ omega arith in
         let was : countAt valueLimit (valuesPlace j) w ≡ count = omega arith in
         ap (λ c. map (λ i. valueAt valued (valuePlace j i)) (below c)) now
         ∙ below-more (λ i. valueAt valued (valuePlace j i)) count
         ∙ ap₂ (λ l x. l ++ (x ∷ [])) (below-same (λ i. valueAt valued (valuePlace j i)) (λ i. valueAt w (valuePlace j i)) count old-value) new-value
-        ∙ ap (λ c. map (λ i. valueAt w (valuePlace j i)) (below c) ++ (record { clock = clockOf []; value = r .number } ∷ [])) (sym was)
+        ∙ ap (λ c. map (λ i. valueAt w (valuePlace j i)) (below c) ++ (record { clock = clockOf []; value = contentOf r } ∷ [])) (sym was)
 
-    pub value-now : count ≡ r .index → EntryNow j w (valuePut j r w) (dotsAt w (ownPlace j)) (valuesAt w j ++ (record { clock = clockOf []; value = r .number } ∷ []))
+    pub value-now : count ≡ r .index → EntryNow j w (valuePut j r w) (dotsAt w (ownPlace j)) (valuesAt w j ++ (record { clock = clockOf []; value = contentOf r } ∷ []))
     unfolding valuePut
     value-now e = rw (eq-eqb count (r .index) e, lt-ltb count valueLimit h) (record {
       touched = touched-wide (entryPlace j) entryRoom value-touched (omega arith) (omega arith);
@@ -196,7 +211,7 @@ module _ (j : ℕ) (r : Record) (w : List ℕ) (f : Fitting r) (long : length w 
     its = valuePlace j (r .index)
 
     abbrev dotted-value : Value
-    dotted-value = record { clock = clockOf (dotsAt w (its + 8) ++ (dotOf r ∷ [])); value = numAt 3 its w }
+    dotted-value = record { clock = clockOf (dotsAt w (its + 8) ++ (dotOf r ∷ [])); value = contentAt w its }
 
     its-touched : Touched (its + 8) clockRoom w (dotPut (its + 8) r w)
     its-touched = dot-touched (its + 8) r w f (omega arith)
@@ -204,8 +219,9 @@ module _ (j : ℕ) (r : Record) (w : List ℕ) (f : Fitting r) (long : length w 
     its-value : valueAt (dotPut (its + 8) r w) its ≡ dotted-value
     its-value =
         let x = same-num 3 its (below-touched its 8 its-touched (omega arith)) (omega arith) (omega arith) in
+        let o = same-num 1 (its + 8 + clockRoom) (above-touched (its + 8 + clockRoom) 2 its-touched (omega arith)) (omega arith) (omega arith) in
         let c = dot-more (its + 8) r w f (omega arith) few in
-        λ i. record { clock = clockOf (c i); value = x i }
+        λ i. record { clock = clockOf (c i); value = record { number = x i; origin = o i } }
 
     other-value : (i : ℕ) → i < countAt valueLimit (valuesPlace j) w → (i ≡ r .index → ⊥) → valueAt (dotPut (its + 8) r w) (valuePlace j i) ≡ valueAt w (valuePlace j i)
     other-value i l n =

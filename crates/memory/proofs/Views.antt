@@ -73,7 +73,8 @@ module _ {a n : ℕ} {v w : List ℕ} (s : Same a n v w) where
   same-value p h k =
       let x = same-num 3 p s h (omega arith) in
       let c = same-dots (p + 8) (omega arith) (omega arith) in
-      λ i. record { clock = clockOf (c i); value = x i }
+      let o = same-num 1 (p + 8 + clockRoom) s (omega arith) (omega arith) in
+      λ i. record { clock = clockOf (c i); value = record { number = x i; origin = o i } }
 
   pub same-values : (j : ℕ) → a ≤ valuesPlace j → valuesPlace j + (1 + valueLimit * valueRoom) ≤ a + n → valuesAt v j ≡ valuesAt w j
   unfolding valuesAt

@@ -5,6 +5,7 @@ use Prim.Native.Nat.{ℕ, _+_, _*_, min}
 use lib.Dec.{eqb}
 use Rattle.clock.specs.declared.Dot.{Dot}
 use Rattle.clock.specs.Dots.{dotLimit, clockOf}
+use Rattle.register.specs.declared.Content.{Content}
 use Rattle.register.specs.declared.Value.{Value}
 use Rattle.register.specs.Values.{valueLimit}
 use Rattle.parts.specs.declared.Entry.{Entry}
@@ -61,9 +62,9 @@ clockRoom = 1 + dotLimit * dotRoom
 abbrev pub clockPlace : ℕ
 clockPlace = waitsPlace + 1
 
--- a value: its number and its clock; an entry: its key, its clock, how many values, and these
+-- a value: its number, its clock and its origin; an entry: its key, its clock, how many values, and these
 abbrev pub valueRoom : ℕ
-valueRoom = 8 + clockRoom
+valueRoom = 8 + clockRoom + 2
 
 abbrev pub entryRoom : ℕ
 entryRoom = 4 + clockRoom + 1 + valueLimit * valueRoom
@@ -120,8 +121,11 @@ unfoldable pub dotsAt : List ℕ → ℕ → List Dot
 dotsAt w at = map (λ i. dotAt w (at + 1 + i * dotRoom)) (below (countAt dotLimit at w))
 
 -- as entries
+abbrev pub contentAt : List ℕ → ℕ → Content
+contentAt w at = record { number = numAt 3 at w; origin = numAt 1 (at + 8 + clockRoom) w }
+
 abbrev pub valueAt : List ℕ → ℕ → Value
-valueAt w at = record { clock = clockOf (dotsAt w (at + 8)); value = numAt 3 at w }
+valueAt w at = record { clock = clockOf (dotsAt w (at + 8)); value = contentAt w at }
 
 unfoldable pub valuesAt : List ℕ → ℕ → List Value
 valuesAt w j = map (λ i. valueAt w (valuePlace j i)) (below (countAt valueLimit (valuesPlace j) w))

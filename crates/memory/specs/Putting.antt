@@ -13,7 +13,7 @@ use Rattle.records.specs.Bytes.{numAt, numBytes, placed}
 use Rattle.records.specs.Records.{recordBytes}
 use Rattle.scan.specs.declared.Scan.{Scan}
 use Rattle.maprecords.specs.Reading.{below}
-use Rattle.memory.specs.Memory.{numberPlace, anyPlace, lastPlace, countsPlace, lostPlace, entriesPlace, waitsPlace, dotRoom, clockPlace, entryPlace, ownPlace, valuesPlace, valuePlace, removalPlace, keysPlace, keyPlace, keyAt, entryCount, waitingCountAt}
+use Rattle.memory.specs.Memory.{numberPlace, anyPlace, lastPlace, countsPlace, lostPlace, entriesPlace, waitsPlace, dotRoom, clockRoom, clockPlace, entryPlace, ownPlace, valuesPlace, valuePlace, removalPlace, keysPlace, keyPlace, keyAt, entryCount, waitingCountAt}
 
 -- a number of 2 ^ k bytes in place
 abbrev pub put : ℕ → ℕ → ℕ → List ℕ → List ℕ
@@ -39,7 +39,7 @@ unfoldable pub valuePut : ℕ → Record → List ℕ → List ℕ
 valuePut j r w =
     let k = numAt 0 (valuesPlace j) w in
     cond (eqb k (r .index) && ltb k valueLimit)
-    (put 0 (valuesPlace j) (k + 1) (put 0 (valuePlace j k + 8) 0 (put 3 (valuePlace j k) (r .number) w))) (lose w)
+    (put 0 (valuesPlace j) (k + 1) (put 1 (valuePlace j k + 8 + clockRoom) (r .actor) (put 0 (valuePlace j k + 8) 0 (put 3 (valuePlace j k) (r .number) w)))) (lose w)
 
 unfoldable pub valueDotPut : ℕ → Record → List ℕ → List ℕ
 valueDotPut j r w =

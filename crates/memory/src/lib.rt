@@ -42,7 +42,7 @@ pub const DOT_ROOM: usize = 10;
 
 pub const CLOCK_ROOM: usize = 1 + DOTS * DOT_ROOM;
 
-pub const VALUE_ROOM: usize = 8 + CLOCK_ROOM;
+pub const VALUE_ROOM: usize = 8 + CLOCK_ROOM + 2;
 
 pub const ENTRY_ROOM: usize = 4 + CLOCK_ROOM + 1 + VALUES * VALUE_ROOM;
 
@@ -116,6 +116,7 @@ fn put_value(mem: &mut [u8; READER], j: usize, r: Record)
             let at = values + 1 + wide(k) * VALUE_ROOM;
             records::put64(mem, at, r.number);
             records::put8(mem, at + 8, 0);
+            records::put16(mem, at + 8 + CLOCK_ROOM, r.actor);
             records::put8(mem, values, k + 1);
         } else {
             lose(mem);

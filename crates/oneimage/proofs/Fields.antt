@@ -38,7 +38,7 @@ use Rattle.oneimage.proofs.Narrows.{narrow-as, narrow-map}
 no-member : {A : Type 0} (P : A → Type 0) (x : A) → x ∈ [] → P x
 no-member P x i = absurd (List·Memᴰ·not-nil i)
 
-places-every : {A B : Type 0} (P : B → Type 0) (f : ℕ → A → B) (i : ℕ) (l : List A) → ((j : ℕ) (x : A) → x ∈ l → P (f j x)) → (z : B) → z ∈ placesFrom f i l → P z
+pub places-every : {A B : Type 0} (P : B → Type 0) (f : ℕ → A → B) (i : ℕ) (l : List A) → ((j : ℕ) (x : A) → x ∈ l → P (f j x)) → (z : B) → z ∈ placesFrom f i l → P z
 unfolding placesFrom
 places-every P f i [] g z m = no-member P z m
 places-every P f i (x ∷ l) g z m =
@@ -74,7 +74,7 @@ module _ (l : List Record) (f : (r : Record) → r ∈ l → Fitting r) where
       rw (← y .2)
       (narrow-as (y .0) (dotsIn (underKey 2 (y .0)) l) (valuesUnder l (y .0)) (entry-keys-narrow (y .0) (y .1)) (dots-narrow (underKey 2 (y .0)))
       (places-every NarrowValue (valueIn l (y .0)) 0 (those (underKey 3 (y .0)) l)
-      (λ j r a. record { dots = rw (take-pad noDot dotLimit (dotsIn (underBoth 4 (y .0) j) l)) (dots-narrow (underBoth 4 (y .0) j)); value = f r (those-means (underKey 3 (y .0)) l a .0) .number })))
+      (λ j r a. record { dots = rw (take-pad noDot dotLimit (dotsIn (underBoth 4 (y .0) j) l)) (dots-narrow (underBoth 4 (y .0) j)); value = let n = f r (those-means (underKey 3 (y .0)) l a .0) in record { number = n .number; origin = n .actor } })))
 
   waiting-narrow : (r : Removal) → r ∈ waitingFor l → NarrowRemoval r
   waiting-narrow r i =
@@ -100,7 +100,7 @@ module _ (l : List Record) (f : (r : Record) → r ∈ l → Fitting r) where
     update = record {
       dot = record { actor = record-narrow 10 .actor; counter = record-narrow 10 .number };
       key = record-narrow 10 .key;
-      put = record { dots = rw (take-pad noDot dotLimit (dotsIn (isKind 12) l)) (dots-narrow (isKind 12)); value = record-narrow 11 .number };
+      put = record { dots = rw (take-pad noDot dotLimit (dotsIn (isKind 12) l)) (dots-narrow (isKind 12)); value = record { number = record-narrow 11 .number; origin = record-narrow 11 .actor } };
     };
   }
 
@@ -113,7 +113,7 @@ no-op-narrow n = record {
   update = record {
     dot = record { actor = omega arith; counter = omega arith };
     key = omega arith;
-    put = record { dots = no-member DotFits; value = omega arith };
+    put = record { dots = no-member DotFits; value = record { number = omega arith; origin = omega arith } };
   };
 }
 

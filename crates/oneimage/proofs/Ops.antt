@@ -14,7 +14,7 @@ use Rattle.records.specs.declared.Record.{Record}
 use Rattle.records.specs.Records.{recordsOf}
 use Rattle.scan.specs.Scanned.{scanNumber}
 use Rattle.scan.proofs.Eachs.{decide, both-left, both-right}
-use Rattle.clockimage.specs.Image.{isKind, dotOf}
+use Rattle.clockimage.specs.Image.{isKind, dotOf, contentOf}
 use Rattle.clockimage.proofs.RoundTrip.{accepted}
 use Rattle.opimage.specs.OpImage.{opLongest, opImage, howMany, removes, updates, opRelated, opIn, refusedOp, judgedOp, readOp}
 use Rattle.oneimage.proofs.OpsRewritten.{none-left, no-record, op-accepted}
@@ -55,7 +55,7 @@ other-zero l t = decide (removes (λ k. howMany k l)) removal (λ f. update (rw 
         let head = no-record 10 l (none-left (those (isKind 10) l) ten) in
         let value = no-record 11 l (none-left (those (isKind 11) l) (both-left (eqb (howMany 11 l) 0) _ c)) in
         let dots = none-left (those (isKind 12) l) (both-right (eqb (howMany 11 l) 0) _ c) in
-        rw none (λ i. record { dot = dotOf (head i); key = head i .key; put = record { clock = clockOf (map dotOf (dots i)); value = value i .number } })
+        rw none (λ i. record { dot = dotOf (head i); key = head i .key; put = record { clock = clockOf (map dotOf (dots i)); value = contentOf (value i) } })
 
     update : updates (λ k. howMany k l) ≡ true → cond (opIn l .up) (opIn l .removal ≡ noRemoval) (opIn l .update ≡ noUpdate)
     update a =

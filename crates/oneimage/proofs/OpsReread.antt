@@ -17,6 +17,7 @@ use Rattle.lists.proofs.Those.{those-all, those-none}
 use Rattle.clock.specs.declared.Dot.{Dot}
 use Rattle.clock.specs.Dots.{dotLimit, clockOf}
 use Rattle.clock.specs.Lawful.{Lawful}
+use Rattle.register.specs.declared.Content.{Content}
 use Rattle.parts.specs.declared.Update.{Update}
 use Rattle.parts.specs.Model.{keyLimit, removalAs, noRemoval, noUpdate}
 use Rattle.records.specs.declared.Record.{Record}
@@ -27,7 +28,7 @@ use Rattle.scan.specs.Limits.{outer, middle, inner, sameKind, sameOuter, sameMi
 use Rattle.scan.proofs.Eachs.{both-left}
 use Rattle.scan.proofs.Befores.{fields-before}
 use Rattle.scan.proofs.Builds.{Among, scan-of}
-use Rattle.clockimage.specs.Image.{isKind, dotOf, dotRecord, dotRecords, DotFits}
+use Rattle.clockimage.specs.Image.{isKind, dotOf, dotRecord, dotRecords, contentOf, DotFits, ContentFits}
 use Rattle.clockimage.proofs.RoundTrip.{dots-ascend, dots-back}
 use Rattle.opimage.specs.OpImage.{opLongest, keyRecord, removalHead, updateHead, putValue, opRelated, opIn, readOp}
 use Rattle.oneimage.proofs.OpsRewritten.{only, no-record}
@@ -86,7 +87,7 @@ module _ (d : List Dot) (k : List ℕ) where
   ascends : Lawful d → Ascending (by (λ y. y)) k → Ascending before whole
   ascends w a =
       behind (removalHead ∷ []) (dotRecords 8 0 0 d ++ map (keyRecord 9 0) k) (next (λ y i. absurd (List·Memᴰ·not-nil i)) nil)
-      (behind (dotRecords 8 0 0 d) (map (keyRecord 9 0) k) (dots-ascend 8 0 0 d (w .rising)) (keys-ascend 9 0 k a)
+      (behind (dotRecords 8 0 0 d) (map (keyRecord 9 0) k) (dots-ascend 8 0 0 refl d (w .rising)) (keys-ascend 9 0 k a)
       (λ x y i j. let m = ap (λ (r : Record). r .kind) (Memᴰ·of-map (dotRecord 8 0 0) d i .2) in let n = ap (λ (r : Record). r .kind) (Memᴰ·of-map (keyRecord 9 0) k j .2) in omega arith))
       (λ x y i j. ⊎-elim (λ (e : x ≡ removalHead). let q = ap (λ (r : Record). r .kind) e in above x y j q) (λ z. absurd (List·Memᴰ·not-nil z)) (List·Memᴰ·cases-cons i))
     where
@@ -222,7 +223,7 @@ module _ (d : List Dot) (k : List ℕ) where
         update = record {
           dot = dotOf (no-record 10 whole ten i);
           key = no-record 10 whole ten i .key;
-          put = record { clock = clockOf (map dotOf (twelve i)); value = no-record 11 whole eleven i .number };
+          put = record { clock = clockOf (map dotOf (twelve i)); value = contentOf (no-record 11 whole eleven i) };
         };
       }
 
@@ -253,7 +254,7 @@ module _ (d : List Dot) (k : List ℕ) where
           go x (key y j e) = let f = fk y j in rw e (record { kind = omega arith; index = omega arith; actor = omega arith; key = f; number = omega arith })
 
 -- the same of an update of a key y by the dot (a, c), which puts v under the dots d
-module _ (a c y v : ℕ) (d : List Dot) where
+module _ (a c y : ℕ) (v : Content) (d : List Dot) where
   abbrev update : Update
   update = record { dot = record { actor = a; counter = c }; key = y; put = record { clock = clockOf d; value = v } }
 
@@ -277,7 +278,7 @@ module _ (a c y v : ℕ) (d : List Dot) where
   rises : Lawful d → Ascending before all
   rises w =
       behind (updateHead update ∷ []) (putValue update ∷ dotRecords 12 0 0 d) alone
-      (behind (putValue update ∷ []) (dotRecords 12 0 0 d) alone (dots-ascend 12 0 0 d (w .rising))
+      (behind (putValue update ∷ []) (dotRecords 12 0 0 d) alone (dots-ascend 12 0 0 refl d (w .rising))
       (λ x z i j. ⊎-elim (λ (e : x ≡ putValue update). let q = ap (λ (r : Record). r .kind) e in let m = kind-of z j in omega arith) (λ b. absurd (List·Memᴰ·not-nil b)) (List·Memᴰ·cases-cons i)))
       (λ x z i j. ⊎-elim
       (λ (e : x ≡ updateHead update). let q = ap (λ (r : Record). r .kind) e in
@@ -404,12 +405,12 @@ module _ (a c y v : ℕ) (d : List Dot) where
         update = record {
           dot = dotOf (h i);
           key = h i .key;
-          put = record { clock = clockOf ((ap (map dotOf) the-dots ∙ dots-back 12 0 0 d) i); value = w i .number };
+          put = record { clock = clockOf ((ap (map dotOf) the-dots ∙ dots-back 12 0 0 d) i); value = contentOf (w i) };
         };
       }
 
   -- what was written as an update reads as it was
-  pub read-update-written : a < 2 ^ 16 → 0 < c → c < 2 ^ 64 → y < 2 ^ 32 → v < 2 ^ 64 → Lawful d → ((e : Dot) → e ∈ d → DotFits e) → length d ≤ dotLimit
+  pub read-update-written : a < 2 ^ 16 → 0 < c → c < 2 ^ 64 → y < 2 ^ 32 → ContentFits v → Lawful d → ((e : Dot) → e ∈ d → DotFits e) → length d ≤ dotLimit
       → readOp (bytesOf all) ≡ record { number = 0; op = record { up = true; removal = noRemoval; update = update } }
   unfolding readOp
   read-update-written ha hc hn hy hv w fd hd =
@@ -429,5 +430,5 @@ module _ (a c y v : ℕ) (d : List Dot) where
         where
           go : (x : Record) → Was x → Fitting x
           go x (first e) = rw e (record { kind = omega arith; index = omega arith; actor = ha; key = hy; number = hn })
-          go x (second e) = rw e (record { kind = omega arith; index = omega arith; actor = omega arith; key = omega arith; number = hv })
+          go x (second e) = rw e (record { kind = omega arith; index = omega arith; actor = hv .origin; key = omega arith; number = hv .number })
           go x (third f j e) = let g = fd f j in rw e (record { kind = omega arith; index = omega arith; actor = g .actor; key = omega arith; number = g .counter })

@@ -27,7 +27,7 @@ use Rattle.scan.proofs.Rooms.{good-at, kind-range, no-index, no-actor, no-key, 
 use Rattle.scan.proofs.Scanning.{scan-good}
 use Rattle.scan.proofs.Builds.{formed-ascends}
 use Rattle.scan.proofs.Splits.{ofKind, from, split}
-use Rattle.clockimage.specs.Image.{isKind, dotOf, dotRecord, dotRecords, dotsIn}
+use Rattle.clockimage.specs.Image.{isKind, dotOf, dotRecord, dotRecords, contentOf, contentRecord, dotsIn}
 use Rattle.clockimage.proofs.RoundTrip.{accepted}
 use Rattle.opimage.specs.OpImage.{opLongest, keyRecord, removalHead, updateHead, putValue, opRecords, opImage, howMany, removes, updates, opRelated, noRecord, recordOf, keysIn, updateIn, opIn, judgedOp, refusedOp, readOp}
 
@@ -149,8 +149,8 @@ module _ (l : List Record) (z : scanNumber 7 12 l ≡ 0) where
       ap (λ x. record { kind = 10; index = 0; actor = x .actor; key = x .key; number = x .number }) (only 10 l (h .0) (h .1))
       ∙ by-fields (sym (p .kind-is)) (sym (no-index 7 12 (h .0) (p .fine) (p .kind-is) refl)) refl refl refl in
       let value : putValue (updateIn l) ≡ v .0 =
-      ap (λ x. record { kind = 11; index = 0; actor = 0; key = 0; number = x .number }) (only 11 l (v .0) (v .1))
-      ∙ by-fields (sym (q .kind-is)) (sym (no-index 7 12 (v .0) (q .fine) k refl)) (sym (no-actor 7 12 (v .0) (q .fine) k refl)) (sym (no-key 7 12 (v .0) (q .fine) k refl)) refl in
+      ap (λ x. contentRecord 11 0 0 (contentOf x)) (only 11 l (v .0) (v .1))
+      ∙ by-fields (sym (q .kind-is)) (sym (no-index 7 12 (v .0) (q .fine) k refl)) refl (sym (no-key 7 12 (v .0) (q .fine) k refl)) refl in
       rw (eqb-true (howMany 10 l) 1 a)
       (ap₂ (λ x y. x ∷ (y ∷ dotRecords 12 0 0 (dotsOf (updateIn l .put .clock)))) head value
       ∙ ap (λ m. h .0 ∷ (v .0 ∷ m)) (ap (dotRecords 12 0 0) (take-pad noDot dotLimit (dotsIn (isKind 12) l)) ∙ dots-again 12 refl refl ∙ sym (append-nil (ofKind 12 l)))

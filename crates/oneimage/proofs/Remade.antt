@@ -1,6 +1,6 @@
 -- A good record of a map's image is the one that is written again of what it holds.
 -- Assumes nothing.
-use mathlib.Core.Path.{_≡_, refl, sym, _∙_}
+use mathlib.Core.Path.{_≡_, refl, ap, sym, _∙_}
 use mathlib.Core.Bool.{true}
 use Prim.Native.Nat.{ℕ, _<_}
 use native.Mathlib.Omega.{arith}
@@ -9,7 +9,7 @@ use Rattle.records.specs.declared.Record.{Record}
 use Rattle.records.specs.Kinds.{recordOk}
 use Rattle.records.proofs.RoundTrips.{by-fields}
 use Rattle.scan.proofs.Rooms.{no-index, no-actor, no-key, no-number}
-use Rattle.clockimage.specs.Image.{isKind, dotOf, dotRecord}
+use Rattle.clockimage.specs.Image.{isKind, dotOf, dotRecord, contentOf}
 use Rattle.mapimage.specs.MapImage.{valueRecord, keyNumber, numberRecord}
 use Rattle.maprecords.specs.Reading.{underKey, underIndex, underBoth}
 use Rattle.accepted.proofs.Limited.{is-kind, at-key, at-both, at-index}
@@ -35,8 +35,8 @@ module _ (r : Record) (good : recordOk 1 6 r ≡ true) where
   waiting-fields {index} t = let k = at-index index 5 r t in record { kind-is = k .0; key-is = no-key 1 6 r good (k .0) refl; index-is = k .1 }
 
   -- records that hold no dot
-  pub value-remade : {key index : ℕ} (v : Value) → underKey 3 key r ≡ true → r .index ≡ index → v .value ≡ r .number → valueRecord key index v ≡ r
-  value-remade {key} v t e n = let k = at-key key 3 r t in by-fields (sym (k .0)) (sym e) (sym (no-actor 1 6 r good (k .0) refl)) (sym (k .1)) n
+  pub value-remade : {key index : ℕ} (v : Value) → underKey 3 key r ≡ true → r .index ≡ index → v .value ≡ contentOf r → valueRecord key index v ≡ r
+  value-remade {key} v t e n = let k = at-key key 3 r t in by-fields (sym (k .0)) (sym e) (ap (λ x. x .origin) n) (sym (k .1)) (ap (λ x. x .number) n)
 
   pub key-remade : {index : ℕ} → underIndex 6 index r ≡ true → index < 256 → numberRecord (keyNumber index (r .key)) ≡ r
   key-remade {index} t h =

@@ -63,7 +63,7 @@ module _ {m : Map} (h : Within m) where
 
   pub clock-again : clockIn (mapRecords m) ≡ seenBy m
   clock-again =
-      selected-back (isKind 1) (records-ascend h) (dotRecord 1 0 0) dotOf (seenBy m) (dots-ascend 1 0 0 (seenBy m) (h .valid .clock .rising)) (λ d. refl)
+      selected-back (isKind 1) (records-ascend h) (dotRecord 1 0 0) dotOf (seenBy m) (dots-ascend 1 0 0 refl (seenBy m) (h .valid .clock .rising)) (λ d. refl)
       (λ r i t. of-kind 1 r i (eqb-true (r .kind) 1 t)) (λ d i. (stand (clock-dot d i refl), refl))
 
   -- one entry to a key
@@ -74,7 +74,7 @@ module _ {m : Map} (h : Within m) where
     dots-again : dotsIn (underKey 2 (e .key)) (mapRecords m) ≡ entryDots e
     dots-again =
         selected-back (underKey 2 (e .key)) (records-ascend h) (dotRecord 2 0 (e .key)) dotOf (entryDots e)
-        (dots-ascend 2 0 (e .key) (entryDots e) (h .valid .entries .each e i .clock .rising)) (λ d. refl)
+        (dots-ascend 2 0 (e .key) refl (entryDots e) (h .valid .entries .each e i .clock .rising)) (λ d. refl)
         (λ r j t. let k = at-key (e .key) 2 r t in
         let (x, a, d, b, q) = of-kind 2 r j (k .0) in
         let s = same-entry a (ap (λ (r : Record). r .key) (sym q) ∙ k .1) in
@@ -96,7 +96,7 @@ module _ {m : Map} (h : Within m) where
     value-dots-again : (v : Value) (j : ℕ) → Place v j (valuesIn e) → dotsIn (underBoth 4 (e .key) j) (mapRecords m) ≡ dotsOf (v .clock)
     value-dots-again v j p =
         selected-back (underBoth 4 (e .key) j) (records-ascend h) (dotRecord 4 j (e .key)) dotOf (dotsOf (v .clock))
-        (dots-ascend 4 j (e .key) (dotsOf (v .clock)) (h .valid .entries .each e i .values v (place-in p) .clock .rising)) (λ d. refl)
+        (dots-ascend 4 j (e .key) refl (dotsOf (v .clock)) (h .valid .entries .each e i .values v (place-in p) .clock .rising)) (λ d. refl)
         (λ r g t. let k = at-both (e .key) j r t in
         let (x, a, n, u, z, d, b, q) = of-kind 4 r g (k .0 .0) in
         let s = same-entry a (ap (λ (r : Record). r .key) (sym q) ∙ k .0 .1) in
@@ -138,7 +138,7 @@ module _ {m : Map} (h : Within m) where
 
     pub under-again : dotsIn (underIndex 5 j) (mapRecords m) ≡ underOf q
     under-again =
-        selected-back (underIndex 5 j) (records-ascend h) (dotRecord 5 j 0) dotOf (underOf q) (dots-ascend 5 j 0 (underOf q) (h .valid .waiting .each q (place-in p) .clock .rising)) (λ d. refl)
+        selected-back (underIndex 5 j) (records-ascend h) (dotRecord 5 j 0) dotOf (underOf q) (dots-ascend 5 j 0 refl (underOf q) (h .valid .waiting .each q (place-in p) .clock .rising)) (λ d. refl)
         (λ r i t. let k = at-index j 5 r t in
         let (n, x, z, d, b, e) = of-kind 5 r i (k .0) in
         let here : n ≡ j = ap (λ (r : Record). r .index) (sym e) ∙ k .1 in

@@ -87,12 +87,12 @@ numbers-ascend (x ∷ l) a =
 module _ {m : Map} (h : Within m) where
   waiting-ascend : Ascending before (flatFrom waitingDots 0 (waitingIn m))
   waiting-ascend =
-      places-ascend waitingDots 0 (waitingIn m) (λ j q i. dots-ascend 5 j 0 (underOf q) (h .valid .waiting .each q i .clock .rising))
+      places-ascend waitingDots 0 (waitingIn m) (λ j q i. dots-ascend 5 j 0 refl (underOf q) (h .valid .waiting .each q i .clock .rising))
       (λ j k x y p a b z w c d. let s = dot-fields 5 j 0 (underOf x) z c in let t = dot-fields 5 k 0 (underOf y) w d in by-index z w (s .kind-is ∙ sym (t .kind-is)) (s .key-is ∙ sym (t .key-is)) (omega arith))
 
   entries-ascend : Ascending before (flatFrom (entryRecords 2) 0 (entriesIn m))
   entries-ascend =
-      keys-ascend (entryRecords 2) 0 (entriesIn m) (h .valid .entries .rising) (λ j e i. dots-ascend 2 0 (e .key) (dotsIn e) (h .valid .entries .each e i .clock .rising))
+      keys-ascend (entryRecords 2) 0 (entriesIn m) (h .valid .entries .rising) (λ j e i. dots-ascend 2 0 (e .key) refl (dotsIn e) (h .valid .entries .each e i .clock .rising))
       (λ j k x y p z w c d. let s = dot-fields 2 0 (x .key) (dotsIn x) z c in let t = dot-fields 2 0 (y .key) (dotsIn y) w d in by-key z w (s .kind-is ∙ sym (t .kind-is)) (omega arith))
 
   keys-rise : Ascending before (waitingKeys (waitingIn m))
@@ -120,13 +120,13 @@ module _ {m : Map} (h : Within m) where
 
   fours : Ascending before (flatFrom (entryRecords 4) 0 (entriesIn m))
   fours =
-      values-rise 4 (λ e i j v b. dots-ascend 4 j (e .key) (dotsOf (v .clock)) (h .valid .entries .each e i .values v b .clock .rising))
+      values-rise 4 (λ e i j v b. dots-ascend 4 j (e .key) refl (dotsOf (v .clock)) (h .valid .entries .each e i .values v b .clock .rising))
       (λ k j v r i. dot-fields 4 j k (dotsOf (v .clock)) r i)
 
   -- all records, by kind
   pub records-ascend : Ascending before (mapRecords m)
   records-ascend =
-      ahead 1 (dots-ascend 1 0 0 (seenBy m) (h .valid .clock .rising)) (λ x i. dot-fields 1 0 0 (seenBy m) x i .kind-is)
+      ahead 1 (dots-ascend 1 0 0 refl (seenBy m) (h .valid .clock .rising)) (λ x i. dot-fields 1 0 0 (seenBy m) x i .kind-is)
       (ahead 2 entries-ascend (flat-every (λ x. x .kind ≡ 2) (entryRecords 2) 0 (entriesIn m) (λ j e p b x c. dot-fields 2 0 (e .key) (dotsIn e) x c .kind-is))
       (ahead 3 threes (flat-every (λ x. x .kind ≡ 3) (entryRecords 3) 0 (entriesIn m) (λ j e p b. flat-every (λ x. x .kind ≡ 3) (valueRecords 3 (e .key)) 0 (valuesIn e) (λ k v q c x d. value-fields (e .key) k v x d .kind-is)))
       (ahead 4 fours (flat-every (λ x. x .kind ≡ 4) (entryRecords 4) 0 (entriesIn m) (λ j e p b. flat-every (λ x. x .kind ≡ 4) (valueRecords 4 (e .key)) 0 (valuesIn e) (λ k v q c x d. dot-fields 4 k (e .key) (dotsOf (v .clock)) x d .kind-is)))

@@ -60,7 +60,8 @@ module _ {m : Map} (h : Within m) (n : Narrow m) where
       go (value e b j v p q) =
           let t = f .entries e b .count in
           let l = place-below p in
-          rw q (record { kind = omega arith; index = omega arith; actor = omega arith; key = n .entries e b .key; number = n .entries e b .values v (place-in p) .value })
+          let c = n .entries e b .values v (place-in p) .value in
+          rw q (record { kind = omega arith; index = omega arith; actor = c .origin; key = n .entries e b .key; number = c .number })
       go (value-dot e b j v p d i q) =
           let t = f .entries e b .count in
           let l = place-below p in

@@ -13,14 +13,14 @@ use Rattle.parts.specs.Model.{dotsIn, valuesIn, underOf, listedIn}
 use Rattle.map.specs.declared.Map.{Map}
 use Rattle.map.specs.declared.Op.{Op}
 use Rattle.map.specs.Model.{seenBy, entriesIn, waitingIn}
-use Rattle.clockimage.specs.Image.{DotFits}
+use Rattle.clockimage.specs.Image.{DotFits, ContentFits}
 
 abbrev pub NarrowDots : List Dot → Type 0
 NarrowDots l = (d : Dot) → d ∈ l → DotFits d
 
 pub record NarrowValue (v : Value) : Type 0 where
   pub dots : NarrowDots (dotsOf (v .clock))
-  pub value : v .value < 2 ^ 64
+  pub value : ContentFits (v .value)
 
 pub record NarrowEntry (e : Entry) : Type 0 where
   pub key : e .key < 2 ^ 32

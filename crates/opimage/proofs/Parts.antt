@@ -32,9 +32,6 @@ pub record-snoc : (kind : ℕ) (l : List Record) (r : Record) → recordOf kind 
 unfolding recordOf fold
 record-snoc kind l r = fold-append (λ q x. cond (isKind kind x) x q) _ l (r ∷ [])
 
-pub number-snoc : (kind : ℕ) (l : List Record) (r : Record) → recordOf kind (l ++ (r ∷ [])) .number ≡ cond (isKind kind r) (r .number) (recordOf kind l .number)
-number-snoc kind l r = ap (λ q. q .number) (record-snoc kind l r) ∙ decide (isKind kind r) (λ t. rw t) (λ f. rw f)
-
 pub counts-snoc : (counts : List ℕ) (l : List Record) (r : Record) → r .kind < length counts → ((k : ℕ) → k < 13 → getD counts k 0 ≡ min 2 (howMany k l))
     → (k : ℕ) → k < 13 → getD (set counts (r .kind) (min 2 (getD counts (r .kind) 0 + 1))) k 0 ≡ min 2 (howMany k (l ++ (r ∷ [])))
 counts-snoc counts l r h c k s =

@@ -17,7 +17,7 @@ use Rattle.map.specs.declared.Op.{Op}
 use Rattle.records.specs.declared.Record.{Record}
 use Rattle.records.specs.Records.{bytesOf}
 use Rattle.scan.specs.Scanned.{scanNumber, Scanned}
-use Rattle.clockimage.specs.Image.{isKind, dotOf, dotRecords, dotsIn, imageOf}
+use Rattle.clockimage.specs.Image.{isKind, dotOf, dotRecords, contentOf, contentRecord, dotsIn, imageOf}
 use Rattle.opimage.specs.declared.ReadOp.{ReadOp}
 use Rattle.opimage.specs.declared.OpReader.{OpReader}
 
@@ -35,7 +35,7 @@ abbrev pub updateHead : Update → Record
 updateHead u = record { kind = 10; index = 0; actor = u .dot .actor; key = u .key; number = u .dot .counter }
 
 abbrev pub putValue : Update → Record
-putValue u = record { kind = 11; index = 0; actor = 0; key = 0; number = u .put .value }
+putValue u = contentRecord 11 0 0 (u .put .value)
 
 abbrev pub removalRecords : Removal → List Record
 removalRecords r = removalHead ∷ (dotRecords 8 0 0 (underOf r) ++ map (keyRecord 9 0) (listedIn r))
@@ -81,7 +81,7 @@ abbrev pub updateIn : List Record → Update
 updateIn l = record {
   dot = dotOf (recordOf 10 l);
   key = recordOf 10 l .key;
-  put = record { clock = clockOf (dotsIn (isKind 12) l); value = recordOf 11 l .number };
+  put = record { clock = clockOf (dotsIn (isKind 12) l); value = contentOf (recordOf 11 l) };
 }
 
 abbrev pub opIn : List Record → Op
@@ -103,7 +103,7 @@ readOp s = imageOf opLongest refusedOp judgedOp s
 pub record OpParts (l : List Record) (s : OpReader) : Type 0 where
   pub counts : (k : ℕ) → k < 13 → getD (s .counts) k 0 ≡ min 2 (howMany k l)
   pub head : s .head ≡ recordOf 10 l
-  pub value : s .value ≡ recordOf 11 l .number
+  pub value : s .value ≡ recordOf 11 l
   pub under : s .under ≡ clockOf (dotsIn (isKind 8) l)
   pub keys : s .keys ≡ keysAs (keysIn (isKind 9) l)
   pub put : s .put ≡ clockOf (dotsIn (isKind 12) l)

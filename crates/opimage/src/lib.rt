@@ -18,6 +18,7 @@ use parts::Keys;
 use parts::Removal;
 use parts::Update;
 use records::Record;
+use register::Content;
 use register::Value;
 use scan::Scan;
 
@@ -36,7 +37,7 @@ pub struct OpReader {
     // of each kind none, one, or 2 for many
     pub counts: [u8; 13],
     pub head: Record,
-    pub value: u64,
+    pub value: Record,
     pub under: Clock,
     pub keys: Keys,
     pub put: Clock,
@@ -97,12 +98,13 @@ fn write_update(out: &mut [u8], update: Update) -> usize
         key: update.key,
         number: dot.counter,
     };
+    let content = put.value;
     let value = Record {
         kind: 11,
         index: 0,
-        actor: 0,
+        actor: content.origin,
         key: 0,
-        number: put.value,
+        number: content.number,
     };
     let first = records::write_record(out, 0, head);
     let second = records::write_record(out, first, value);
@@ -154,12 +156,6 @@ fn latest(old: Record, more: bool, r: Record) -> Record
     if more { r } else { old }
 }
 
-fn latest_number(old: u64, more: bool, new: u64) -> u64
-    ensures { λ q. ⌜ q ≡ cond more new old ⌝ }
-{
-    if more { new } else { old }
-}
-
 fn removes(counts: [u8; 13]) -> bool
     ensures { λ b. ⌜ b ≡ removes (λ k. getD counts k 0) ⌝ }
 {
@@ -185,7 +181,10 @@ fn refused(number: u8) -> ReadOp
     };
     let put = Value {
         clock: none,
-        value: 0,
+        value: Content {
+            number: 0,
+            origin: 0,
+        },
     };
     let update = Update { dot, key: 0, put };
     let op = Op {
@@ -214,7 +213,7 @@ impl OpReader {
             scan,
             counts: [0; 13],
             head,
-            value: 0,
+            value: head,
             under: none,
             keys,
             put: none,
@@ -231,9 +230,10 @@ impl OpReader {
         let keys0 = self.keys;
         let put0 = self.put;
         let head0 = self.head;
+        let value0 = self.value;
         let counts = counted(counts0, r.kind);
         let head = latest(head0, r.kind == 10, r);
-        let value = latest_number(self.value, r.kind == 11, r.number);
+        let value = latest(value0, r.kind == 11, r);
         let under = clockimage::clock_with(under0, r.kind == 8, r);
         let keys = keys_with(keys0, r.kind == 9, r);
         let put = clockimage::clock_with(put0, r.kind == 12, r);
@@ -283,10 +283,12 @@ impl OpReader {
                 actor: head.actor,
                 counter: head.number,
             };
-            let put = Value {
-                clock,
-                value: self.value,
+            let given = self.value;
+            let value = Content {
+                number: given.number,
+                origin: given.actor,
             };
+            let put = Value { clock, value };
             let update = Update {
                 dot,
                 key: head.key,

@@ -38,7 +38,7 @@ use Rattle.map.proofs.Kept.{valid-as}
 use Rattle.maplaws.proofs.Examples.{dot, one}
 
 abbrev value : List Dot → ℕ → Value
-value c x = record { clock = clockOf c; value = x }
+value c x = record { clock = clockOf c; value = record { number = x; origin = 0 } }
 
 -- clock {1:1,2:1}, entry 5 {1:1} holding ({1:1,2:1},7)
 abbrev before : Map

@@ -22,7 +22,7 @@ pub record Determined : Type 0 where
   pub apply : (map op : List ℕ) → Written (ApplyPromise map op)
   pub merge : (map other : List ℕ) → Written (MergePromise map other)
   pub reset-remove : (map clock : List ℕ) → Written (ResetRemovePromise map clock)
-  pub update : (map : List ℕ) (actor key value : ℕ) → Written (UpdatePromise map actor key value)
+  pub update : (map : List ℕ) (actor key value origin : ℕ) → Written (UpdatePromise map actor key value origin)
   pub rm-get : (map : List ℕ) (key : ℕ) → Written (RmGetPromise map key)
   pub rm-read-ctx : (map : List ℕ) (key : ℕ) → Written (RmReadCtxPromise map key)
   pub get : (map : List ℕ) (key : ℕ) → Written (GetPromise map key)
@@ -48,7 +48,7 @@ determined = record {
   apply = λ map op out d e r s p q. same-answer p q;
   merge = λ map other out d e r s p q. same-answer p q;
   reset-remove = λ map clock out d e r s p q. same-answer p q;
-  update = λ map actor key value out d e r s p q. same-answer p q;
+  update = λ map actor key value origin out d e r s p q. same-answer p q;
   rm-get = λ map key out d e r s p q. same-answer p q;
   rm-read-ctx = λ map key out d e r s p q. same-answer p q;
   get = λ map key out d e r s p q. same-answer p q;

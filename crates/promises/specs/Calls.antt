@@ -3,6 +3,7 @@
 use Prim.Native.Nat.{ℕ}
 use mathlib.Core.List.{List, []}
 use Rattle.clock.specs.Dots.{dotsOf}
+use Rattle.register.specs.declared.Content.{Content}
 use Rattle.map.specs.declared.Judged.{Judged}
 use Rattle.asking.specs.declared.Made.{Made}
 use Rattle.asking.specs.declared.CmRDTValidation.{CmRDTValidation}
@@ -40,9 +41,12 @@ mergeAnswer map other = mapAnswer (readMap map .number) (readMap other .number) 
 abbrev pub resetAnswer : List ℕ → List ℕ → Answer
 resetAnswer map clock = mapAnswer (readMap map .number) (readClock clock .number) (judged (reset (readMap map .map) (dotsOf (readClock clock .clock))))
 
--- making an operation
-abbrev pub updateAnswer : List ℕ → ℕ → ℕ → ℕ → Answer
-updateAnswer map actor key value = opAnswer (readMap map .number) (makeUpdate (readMap map .map) actor key value)
+-- making an operation: of a value and its origin
+abbrev pub given : ℕ → ℕ → Content
+given value origin = record { number = value; origin = origin }
+
+abbrev pub updateAnswer : List ℕ → ℕ → ℕ → ℕ → ℕ → Answer
+updateAnswer map actor key value origin = opAnswer (readMap map .number) (makeUpdate (readMap map .map) actor key (given value origin))
 
 abbrev pub rmGetAnswer : List ℕ → ℕ → Answer
 rmGetAnswer map key = opAnswer (readMap map .number) (record { number = 0; op = removalOp (clockAt (readMap map .map) key) key })

@@ -23,8 +23,8 @@ module _ (map other entry exit : List ℕ) (word : ℕ) where
   abbrev pub ResetRemovePromise : Type 0
   ResetRemovePromise = Answered (resetAnswer map other) entry exit word
 
-abbrev pub UpdatePromise : List ℕ → ℕ → ℕ → ℕ → List ℕ → List ℕ → ℕ → Type 0
-UpdatePromise map actor key value entry exit word = Answered (updateAnswer map actor key value) entry exit word
+abbrev pub UpdatePromise : List ℕ → ℕ → ℕ → ℕ → ℕ → List ℕ → List ℕ → ℕ → Type 0
+UpdatePromise map actor key value origin entry exit word = Answered (updateAnswer map actor key value origin) entry exit word
 
 module _ (map : List ℕ) (key : ℕ) (entry exit : List ℕ) (word : ℕ) where
   abbrev pub RmGetPromise : Type 0

@@ -23,6 +23,7 @@ pub struct Question {
     pub actor: u16,
     pub key: u32,
     pub value: u64,
+    pub origin: u16,
     // The length of the output buffer.
     pub room: usize,
     pub number: usize,
@@ -70,7 +71,8 @@ pub fn read_question(file: &[u8], from: usize) -> Question {
     let actor = number(file, fresh.at);
     let key = number(file, actor.at);
     let value = number(file, key.at);
-    let room = number(file, value.at);
+    let origin = number(file, value.at);
+    let room = number(file, origin.at);
     let refusal = number(file, room.at);
     let length = number(file, refusal.at);
     Question {
@@ -79,6 +81,7 @@ pub fn read_question(file: &[u8], from: usize) -> Question {
         actor: (actor.value % 65536) as u16,
         key: (key.value % 4294967296) as u32,
         value: value.value,
+        origin: (origin.value % 65536) as u16,
         room: (room.value % 28993) as usize,
         number: (refusal.value % 13) as usize,
         word: wrapping_add_u64((refusal.value % 13) * 4294967296, length.value),

@@ -23,7 +23,7 @@ use Rattle.oneimage.specs.One.{OneImage, GoodMap, GoodOp}
 use Rattle.oneimage.proofs.Fields.{map-narrow, op-narrow}
 use Rattle.oneimage.proofs.Maps.{one-map-image}
 use Rattle.oneimage.proofs.Ops.{one-op-image}
-use Rattle.promises.specs.Calls.{mapAnswer, opAnswer}
+use Rattle.promises.specs.Calls.{given, mapAnswer, opAnswer}
 use Rattle.promises.proofs.Ways.{judged-number, judged-map}
 use Rattle.readsback.specs.Reads.{Reads, ReadsMap, ReadsOp, Written, ReadsBack}
 use Rattle.readsback.proofs.Images.{map-bytes, op-bytes}
@@ -91,7 +91,7 @@ answers-read-back = record {
   apply = λ map op b c. judged-back _ _ _ (λ z. good-apply (good map b) (op-within op) (op-narrow op c) z);
   merge = λ map other b c. judged-back _ _ _ (λ z. good-merge (good map b) (good other c) z);
   reset-remove = λ map clock b. judged-back _ _ _ (λ z. good-reset (good map b) _ z);
-  update = λ map actor key value b p q r. made-back _ _ (λ z. good-update (good map b) actor key value p q r z);
+  update = λ map actor key value origin b p q r s. made-back _ _ (λ z. good-update (good map b) actor key (given value origin) p q (record { number = r; origin = s }) z);
   rm-get = λ map key b p. made-back _ _ (λ z. good-removal (good-at (good map b) key) key p);
   rm-read-ctx = λ map key b p. made-back _ _ (λ z. good-removal (good-seen (good map b)) key p);
   get = λ map key b. reads-back one-map-image map-bytes _ _ (λ z. (good-read (good map b) key, refl));

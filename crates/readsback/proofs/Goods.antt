@@ -19,6 +19,7 @@ use Rattle.clock.specs.declared.Dot.{Dot}
 use Rattle.clock.specs.Dots.{dotLimit, noDot, clockOf, counterIn, addDot}
 use Rattle.clock.proofs.Joins.{lawful-nil}
 use Rattle.parts.specs.declared.Entry.{Entry}
+use Rattle.register.specs.declared.Content.{Content}
 use Rattle.parts.specs.Model.{dotsIn, noUpdate}
 use Rattle.parts.proofs.Pieces.{dots-in, entries-of, keys-of}
 use Rattle.parts.proofs.Wholes.{at-every}
@@ -37,7 +38,7 @@ use Rattle.asking.proofs.Askings.{clock-at, valid-read, each-read}
 use Rattle.map.proofs.Kept.{valid-apply, valid-merge, valid-reset}
 use Rattle.accepted.proofs.Waited.{removal-as}
 use Rattle.scan.proofs.Eachs.{decide}
-use Rattle.clockimage.specs.Image.{DotFits}
+use Rattle.clockimage.specs.Image.{DotFits, ContentFits}
 use Rattle.oneimage.specs.Narrow.{NarrowUpdate, NarrowOp}
 use Rattle.oneimage.specs.One.{GoodMap, GoodOp}
 use Rattle.map.proofs.Preserved.{each-apply, each-merge, each-reset}
@@ -105,7 +106,7 @@ no-update : NarrowUpdate noUpdate
 no-update = record {
   dot = record { actor = omega arith; counter = omega arith };
   key = omega arith;
-  put = record { dots = λ d i. absurd (List·Memᴰ·not-nil i); value = omega arith };
+  put = record { dots = λ d i. absurd (List·Memᴰ·not-nil i); value = record { number = omega arith; origin = omega arith } };
 }
 
 pub good-removal : {c : List Dot} → GoodDots c → (k : ℕ) → k < 2 ^ 32 → GoodOp (removalOp c k)
@@ -129,7 +130,7 @@ good-removal {c} h k p = record {
 }
 
 -- an update under a dot and a clock
-module _ {c : List Dot} (h : GoodDots c) (d : Dot) (p : 0 < d .counter) (n : DotFits d) (k value : ℕ) (kf : k < 2 ^ 32) (vf : value < 2 ^ 64) where
+module _ {c : List Dot} (h : GoodDots c) (d : Dot) (p : 0 < d .counter) (n : DotFits d) (k : ℕ) (value : Content) (kf : k < 2 ^ 32) (vf : ContentFits value) where
   good-update-op : GoodOp (updateOp (record { number = 0; clock = clockOf c; dot = d }) k value)
   good-update-op =
       let e = take-pad noDot dotLimit c in
@@ -148,7 +149,7 @@ module _ {c : List Dot} (h : GoodDots c) (d : Dot) (p : 0 < d .counter) (n : Dot
         other = refl;
       }
 
-pub good-update : {m : Map} → GoodMap m → (actor k value : ℕ) → actor < 2 ^ 16 → k < 2 ^ 32 → value < 2 ^ 64 → makeUpdate m actor k value .number ≡ 0 → GoodOp (makeUpdate m actor k value .op)
+pub good-update : {m : Map} → GoodMap m → (actor k : ℕ) (value : Content) → actor < 2 ^ 16 → k < 2 ^ 32 → ContentFits value → makeUpdate m actor k value .number ≡ 0 → GoodOp (makeUpdate m actor k value .op)
 unfolding makeUpdate updateUnder addContext
 good-update {m} g actor k value af kf vf z =
     let c = seenBy m in

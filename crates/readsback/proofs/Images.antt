@@ -37,7 +37,7 @@ module _ (op : Op) (n : NarrowOp op) where
       ⊎-elim
       (λ (e : r ≡ updateHead (op .update)). rw e (record { kind = omega arith; index = omega arith; actor = n .update .dot .actor; key = n .update .key; number = n .update .dot .counter }))
       (λ (j : r ∈ (putValue (op .update) ∷ dotRecords 12 0 0 (dotsOf (op .update .put .clock)))). ⊎-elim
-      (λ (e : r ≡ putValue (op .update)). rw e (record { kind = omega arith; index = omega arith; actor = omega arith; key = omega arith; number = n .update .put .value }))
+      (λ (e : r ≡ putValue (op .update)). rw e (record { kind = omega arith; index = omega arith; actor = n .update .put .value .origin; key = omega arith; number = n .update .put .value .number }))
       (dots-fit 12 (dotsOf (op .update .put .clock)) (omega arith) (n .update .put .dots) r) (List·Memᴰ·cases-cons j))
       (List·Memᴰ·cases-cons i)
 

@@ -17,7 +17,7 @@ use Rattle.clockimage.specs.ClockImage.{readClock}
 use Rattle.opimage.specs.OpImage.{readOp}
 use Rattle.maprecords.specs.Related.{readMap}
 use Rattle.answers.specs.Answer.{Answer, Answered}
-use Rattle.promises.specs.Calls.{applyAnswer, mergeAnswer, resetAnswer, updateAnswer, rmGetAnswer, rmReadCtxAnswer, getAnswer}
+use Rattle.promises.specs.Calls.{given, applyAnswer, mergeAnswer, resetAnswer, updateAnswer, rmGetAnswer, rmReadCtxAnswer, getAnswer}
 
 -- a list of bytes that is accepted, and reads as this
 pub record Reads {T : Type 0} (number : List ℕ → ℕ) (read : List ℕ → T) (result : T) (s : List ℕ) : Type 0 where
@@ -43,8 +43,8 @@ pub record ReadsBack : Type 0 where
       → Written (mergeAnswer map other) (ReadsMap (merge (readMap map .map) (readMap other .map)))
   pub reset-remove : (map clock : List ℕ) → Bytes map
       → Written (resetAnswer map clock) (ReadsMap (reset (readMap map .map) (dotsOf (readClock clock .clock))))
-  pub update : (map : List ℕ) (actor key value : ℕ) → Bytes map → actor < 2 ^ 16 → key < 2 ^ 32 → value < 2 ^ 64
-      → Written (updateAnswer map actor key value) (ReadsOp (makeUpdate (readMap map .map) actor key value .op))
+  pub update : (map : List ℕ) (actor key value origin : ℕ) → Bytes map → actor < 2 ^ 16 → key < 2 ^ 32 → value < 2 ^ 64 → origin < 2 ^ 16
+      → Written (updateAnswer map actor key value origin) (ReadsOp (makeUpdate (readMap map .map) actor key (given value origin) .op))
   pub rm-get : (map : List ℕ) (key : ℕ) → Bytes map → key < 2 ^ 32
       → Written (rmGetAnswer map key) (ReadsOp (removalOp (clockAt (readMap map .map) key) key))
   pub rm-read-ctx : (map : List ℕ) (key : ℕ) → Bytes map → key < 2 ^ 32

@@ -15,17 +15,25 @@ use Rattle.records.proofs.Table.{at}
 abbrev pub usesIndex : ℕ → Bool
 usesIndex k = eqb k 3 || (eqb k 4 || (eqb k 5 || eqb k 6))
 
--- a dot has an actor: of the map clock, an entry, a value, a waiting clock, a removal, an update's head, a put
+-- a dot: of the map clock, an entry, a value, a waiting clock, a removal, an update's head, a put
+abbrev pub isDot : ℕ → Bool
+isDot k = eqb k 1 || (eqb k 2 || (eqb k 4 || (eqb k 5 || (eqb k 8 || (eqb k 10 || eqb k 12)))))
+
+-- a value: of a register, of a put
+abbrev pub isValue : ℕ → Bool
+isValue k = eqb k 3 || eqb k 11
+
+-- a dot has an actor, a value has an origin in its place
 abbrev pub usesActor : ℕ → Bool
-usesActor k = eqb k 1 || (eqb k 2 || (eqb k 4 || (eqb k 5 || (eqb k 8 || (eqb k 10 || eqb k 12)))))
+usesActor k = isDot k || isValue k
 
 -- what stands under a key, and a key itself: entry dot, value, value dot, waiting key, removal key, update head
 abbrev pub usesKey : ℕ → Bool
 usesKey k = eqb k 2 || (eqb k 3 || (eqb k 4 || (eqb k 6 || (eqb k 9 || eqb k 10))))
 
--- a dot's counter, or a value: value, put value
+-- a dot's counter, or a value
 abbrev pub usesNumber : ℕ → Bool
-usesNumber k = usesActor k || (eqb k 3 || eqb k 11)
+usesNumber k = isDot k || isValue k
 
 -- a mask has a bit exactly where the field is used
 abbrev says : ℕ → ℕ → Bool → Bool
@@ -77,7 +85,7 @@ beyond k h =
     (record {
       small = omega arith;
       index = rw (none 3 (omega arith), none 4 (omega arith), none 5 (omega arith), none 6 (omega arith)) refl;
-      actor = rw (none 1 (omega arith), none 2 (omega arith), none 4 (omega arith), none 5 (omega arith), none 8 (omega arith), none 10 (omega arith), none 12 (omega arith)) refl;
+      actor = rw (none 1 (omega arith), none 2 (omega arith), none 4 (omega arith), none 5 (omega arith), none 8 (omega arith), none 10 (omega arith), none 12 (omega arith), none 3 (omega arith), none 11 (omega arith)) refl;
       key = rw (none 2 (omega arith), none 3 (omega arith), none 4 (omega arith), none 6 (omega arith), none 9 (omega arith), none 10 (omega arith)) refl;
       number = rw (none 1 (omega arith), none 2 (omega arith), none 4 (omega arith), none 5 (omega arith), none 8 (omega arith), none 10 (omega arith), none 12 (omega arith), none 3 (omega arith), none 11 (omega arith)) refl;
     })

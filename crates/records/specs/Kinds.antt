@@ -1,7 +1,7 @@
 -- The twelve kinds of a record: which fields each may use, when a record is good by itself, and the order of records.
 -- Assumes nothing.
 use Prim.Native.Nat.{ℕ}
-use mathlib.Core.Bool.{Bool, _&&_, _||_, not}
+use mathlib.Core.Bool.{Bool, cond, _&&_, _||_, not}
 use mathlib.Core.List.{List, [], _∷_}
 use lib.Dec.{eqb, ltb, leb}
 use lib.Bits.{bitAnd}
@@ -10,7 +10,7 @@ use Rattle.records.specs.declared.Record.{Record}
 
 -- by kind, from kind 0, which is none: 1 index, 2 actor, 4 key, 8 number
 abbrev pub masks : List ℕ
-masks = 0 ∷ 10 ∷ 14 ∷ 13 ∷ 15 ∷ 11 ∷ 5 ∷ 0 ∷ 10 ∷ 4 ∷ 14 ∷ 8 ∷ 10 ∷ []
+masks = 0 ∷ 10 ∷ 14 ∷ 15 ∷ 15 ∷ 11 ∷ 5 ∷ 0 ∷ 10 ∷ 4 ∷ 14 ∷ 10 ∷ 10 ∷ []
 
 abbrev pub maskOf : ℕ → ℕ
 maskOf kind = getD masks kind 0
@@ -31,9 +31,13 @@ unfoldable pub recordOk : ℕ → ℕ → Record → Bool
 recordOk low high r =
     leb low (r .kind) && (leb (r .kind) high && (fieldsOk (maskOf (r .kind)) r && counterOk (maskOf (r .kind)) r))
 
+-- the actor by which a record is ordered and counted: a value's field (kinds 3, 11) holds its origin, which is skipped
+abbrev pub actorOf : Record → ℕ
+actorOf r = cond (eqb (r .kind) 3 || eqb (r .kind) 11) 0 (r .actor)
+
 -- "Records ascend strictly by (kind, key, index, actor)."
 unfoldable pub before : Record → Record → Bool
 before a b =
     ltb (a .kind) (b .kind) || (eqb (a .kind) (b .kind)
     && (ltb (a .key) (b .key) || (eqb (a .key) (b .key)
-    && (ltb (a .index) (b .index) || (eqb (a .index) (b .index) && ltb (a .actor) (b .actor))))))
+    && (ltb (a .index) (b .index) || (eqb (a .index) (b .index) && ltb (actorOf a) (actorOf b))))))

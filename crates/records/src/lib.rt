@@ -4,7 +4,7 @@ ghost use Prim.Native.Nat.{_+_, _*_, _≤_, _<_};
 ghost use lib.ListN.{length};
 ghost use Rattle.records.specs.Bytes.{numAt, numBytes, placed};
 ghost use Rattle.records.specs.Records.{recordFrom, recordBytes, Wrote};
-ghost use Rattle.records.specs.Kinds.{maskOf, fieldOk, fieldsOk, counterOk, recordOk, before};
+ghost use Rattle.records.specs.Kinds.{maskOf, fieldOk, fieldsOk, counterOk, recordOk, actorOf, before};
 
 pub struct Record {
     pub kind: u8,
@@ -15,7 +15,7 @@ pub struct Record {
 }
 
 // By kind, from kind 0, which is none: bits 1 index, 2 actor, 4 key, 8 number.
-const MASKS: [u8; 13] = [0, 10, 14, 13, 15, 11, 5, 0, 10, 4, 14, 8, 10];
+const MASKS: [u8; 13] = [0, 10, 14, 15, 15, 11, 5, 0, 10, 4, 14, 10, 10];
 
 fn wide(x: u8) -> u16
     ensures { λ r. ⌜ (r ≡ x) × (r < 256) ⌝ }
@@ -144,6 +144,17 @@ pub fn record_ok(low: u8, high: u8, r: Record) -> bool
     (low <= r.kind) & ((r.kind <= high) & (fields_ok(mask, r) & counter_ok(mask, r)))
 }
 
+// The actor that a record is ordered by: none for a value, whose field holds an origin.
+fn actor_of(r: Record) -> u16
+    ensures { λ a. ⌜ a ≡ actorOf r ⌝ }
+{
+    if (r.kind == 3) | (r.kind == 11) {
+        0
+    } else {
+        r.actor
+    }
+}
+
 // Whether the record `a` stands before `b` in an image.
 pub fn before(a: Record, b: Record) -> bool
     ensures { λ c. ⌜ c ≡ before a b ⌝ }
@@ -152,5 +163,6 @@ pub fn before(a: Record, b: Record) -> bool
         | ((a.kind == b.kind)
             & ((a.key < b.key)
                 | ((a.key == b.key)
-                    & ((a.index < b.index) | ((a.index == b.index) & (a.actor < b.actor))))))
+                    & ((a.index < b.index)
+                        | ((a.index == b.index) & (actor_of(a) < actor_of(b)))))))
 }

@@ -14,11 +14,11 @@ use Rattle.register.specs.declared.Value.{Value}
 use Rattle.register.specs.declared.Register.{Register}
 use Rattle.register.specs.declared.Wide.{Wide}
 use Rattle.register.specs.declared.Settled.{Settled}
-use Rattle.register.specs.Values.{valueLimit, wideRoom, noValue, valuesOf, wideValues, registerOf, wideOf, settled, alive, cutValue, cutValues, standing, remaining}
+use Rattle.register.specs.Values.{valueLimit, wideRoom, noContent, noValue, valuesOf, wideValues, registerOf, wideOf, settled, alive, cutValue, cutValues, standing, remaining}
 
 -- what the logic reads past the end of an array of values
 abbrev pub noneRead : Value
-noneRead = record { clock = record { dots = []; len = 0 }; value = 0 }
+noneRead = record { clock = record { dots = []; len = 0 }; value = noContent }
 
 -- the values of the register of a list are the list
 pub values-of : {r : Register} (l : List Value) → r ≡ registerOf l → valuesOf r ≡ l

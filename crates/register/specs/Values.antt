@@ -13,11 +13,12 @@ use Rattle.clock.specs.declared.Dot.{Dot}
 use Rattle.clock.specs.declared.Order.{Order}
 use Rattle.clock.specs.declared.Order.the-variants.{Equal, Greater, Less, Concurrent}
 use Rattle.clock.specs.Dots.{dotsOf, clockOf, fitted, isEmpty, cutDots, joinDots, orderOf}
+use Rattle.register.specs.declared.Content.{Content}
 use Rattle.register.specs.declared.Value.{Value}
 use Rattle.register.specs.declared.Register.{Register}
 use Rattle.register.specs.declared.Wide.{Wide}
 use Rattle.register.specs.declared.Settled.{Settled}
-use Rattle.register.specs.declared.Numbers.{Numbers}
+use Rattle.register.specs.declared.Contents.{Contents}
 use Rattle.register.specs.declared.Read.{Read}
 
 -- the limit: so many values in a register
@@ -28,8 +29,12 @@ valueLimit = 4
 abbrev pub wideRoom : ℕ
 wideRoom = 2 * valueLimit
 
+-- what zeros are: the number 0, and the origin 0 of a value that was set before there were origins
+abbrev pub noContent : Content
+noContent = record { number = 0; origin = 0 }
+
 abbrev pub noValue : Value
-noValue = record { clock = clockOf []; value = 0 }
+noValue = record { clock = clockOf []; value = noContent }
 
 -- the values of a register, and of one in hand
 abbrev pub valuesOf : Register → List Value
@@ -45,9 +50,9 @@ registerOf l = record { values = pad noValue valueLimit l; len = length l }
 abbrev pub wideOf : List Value → Wide
 wideOf l = record { values = pad noValue wideRoom l; len = length l }
 
--- a list of numbers, as many as a register has values
-abbrev pub numbersOf : List ℕ → Numbers
-numbersOf l = record { items = pad 0 valueLimit l; len = length l }
+-- values without their clocks, as many as a register has
+abbrev pub contentsOf : List Content → Contents
+contentsOf l = record { items = pad noContent valueLimit l; len = length l }
 
 -- the register of these values, or that it is over the limit
 abbrev pub settled : List Value → Settled
@@ -104,4 +109,4 @@ clockOver l = fold (λ c v. joinDots c (dotsOf (v .clock))) [] l
 
 -- reading gives that clock, and the values in order
 unfoldable pub readOf : List Value → Read
-readOf l = record { joined = fitted (clockOver l); numbers = numbersOf (map (λ v. v .value) l) }
+readOf l = record { joined = fitted (clockOver l); contents = contentsOf (map (λ v. v .value) l) }

@@ -1,12 +1,13 @@
 // Registers: concurrent values in order, each under a clock. The Rust's mvreg.rs, on arrays with a count, by value.
 ghost use mathlib.Core.Path.{_≡_};
 ghost use mathlib.Core.List.{List, [], _∷_, _++_, map};
-ghost use Prim.Native.Nat.{ℕ, _≤_, _<_, _+_};
+ghost use Prim.Native.Nat.{_≤_, _<_, _+_};
 ghost use lib.ListN.{length};
 ghost use Rattle.lists.specs.Sift.{those};
 ghost use Rattle.clock.specs.Dots.{dotsOf, fitted};
+ghost use Rattle.register.specs.declared.Content.{Content};
 ghost use Rattle.register.specs.declared.Value.{Value};
-ghost use Rattle.register.specs.Values.{valueLimit, wideRoom, valuesOf, wideValues, registerOf, wideOf, numbersOf, settled, yields, outdone, standing, putValues, cutValue, cutValues, mergeValues, clockOver, readOf};
+ghost use Rattle.register.specs.Values.{valueLimit, wideRoom, valuesOf, wideValues, registerOf, wideOf, contentsOf, settled, yields, outdone, standing, putValues, cutValue, cutValues, mergeValues, clockOver, readOf};
 use clock::Clock;
 use clock::Joined;
 use clock::Order;
@@ -17,9 +18,15 @@ pub const VALUES: usize = 4;
 // Room for the values of two registers.
 pub const WIDE: usize = 2 * VALUES;
 
+// What a value is: its number, and the origin code of who set it.
+pub struct Content {
+    pub number: u64,
+    pub origin: u16,
+}
+
 pub struct Value {
     pub clock: Clock,
-    pub value: u64,
+    pub value: Content,
 }
 
 pub struct Register {
@@ -42,12 +49,12 @@ pub struct Settled {
 // What a register's reader gets: the values in order, under the clock that they have together.
 pub struct Read {
     pub joined: Joined,
-    pub numbers: Numbers,
+    pub contents: Contents,
 }
 
 // Values without their clocks.
-pub struct Numbers {
-    pub items: [u64; VALUES],
+pub struct Contents {
+    pub items: [Content; VALUES],
     pub len: usize,
 }
 
@@ -70,10 +77,8 @@ impl Value {
         ensures { λ r. ⌜ r ≡ cutValue (dotsOf by) self ⌝ }
     {
         let c = self.clock.cut(by).clock;
-        Value {
-            clock: c,
-            value: self.value,
-        }
+        let value = self.value;
+        Value { clock: c, value }
     }
 }
 
@@ -84,7 +89,10 @@ impl Register {
         let none = Clock::new();
         let v = Value {
             clock: none,
-            value: 0,
+            value: Content {
+                number: 0,
+                origin: 0,
+            },
         };
         Register {
             values: [v; VALUES],
@@ -202,12 +210,16 @@ impl Register {
     }
 
     // The values, without their clocks.
-    fn numbers(self) -> Numbers
-        ensures { λ r. ⌜ r ≡ numbersOf (map (λ v. v .value) (valuesOf self)) ⌝ }
+    fn contents(self) -> Contents
+        ensures { λ r. ⌜ r ≡ contentsOf (map (λ v. v .value) (valuesOf self)) ⌝ }
     {
         let n = self.size();
-        let mut out = Numbers {
-            items: [0; VALUES],
+        let none = Content {
+            number: 0,
+            origin: 0,
+        };
+        let mut out = Contents {
+            items: [none; VALUES],
             len: 0,
         };
         let mut i: usize = 0;
@@ -223,16 +235,16 @@ impl Register {
         ensures { λ r. ⌜ r ≡ readOf (valuesOf self) ⌝ }
     {
         let joined = self.clock_over();
-        let numbers = self.numbers();
-        Read { joined, numbers }
+        let contents = self.contents();
+        Read { joined, contents }
     }
 }
 
-impl Numbers {
-    // One number more behind the last.
-    fn push(self, x: u64) -> Numbers
+impl Contents {
+    // One more behind the last.
+    fn push(self, x: Content) -> Contents
         requires { ⌜ self .len < valueLimit ⌝ }
-        ensures { λ r. ⌜ ((l : List ℕ) → self ≡ numbersOf l → r ≡ numbersOf (l ++ (x ∷ []))) ⌝ }
+        ensures { λ r. ⌜ ((l : List Content) → self ≡ contentsOf l → r ≡ contentsOf (l ++ (x ∷ []))) ⌝ }
     {
         let mut out = self;
         let k = out.len;
@@ -249,7 +261,10 @@ impl Wide {
         let none = Clock::new();
         let v = Value {
             clock: none,
-            value: 0,
+            value: Content {
+                number: 0,
+                origin: 0,
+            },
         };
         Wide {
             values: [v; WIDE],

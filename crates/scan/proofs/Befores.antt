@@ -1,21 +1,22 @@
 -- The order of records, field by field: each field ascends where those before it are equal.
 -- Assumes nothing.
-use mathlib.Core.Path.{_≡_, sym}
-use mathlib.Core.Bool.{Bool, true, _&&_, _||_}
+use mathlib.Core.Path.{_≡_, ap, sym, _∙_}
+use mathlib.Core.Bool.{Bool, true, false, _&&_, _||_}
 use Prim.Native.Nat.{ℕ, _≤_, _<_}
 use native.Mathlib.Omega.{arith}
 use lib.Dec.{eqb, ltb}
 use borrow.Author.Tests.{ltb-true, ltb-false, lt-ltb, eq-eqb, eqb-true}
 use Rattle.lists.proofs.Orders.{apart}
 use Rattle.records.specs.declared.Record.{Record}
-use Rattle.records.specs.Kinds.{before}
+use Rattle.records.specs.Kinds.{actorOf, before}
+use Rattle.records.proofs.Rule.{isValue}
 use Rattle.scan.proofs.Eachs.{decide}
 
 pub record Before (a b : Record) : Type 0 where
   pub kind : a .kind ≤ b .kind
   pub key : a .kind ≡ b .kind → a .key ≤ b .key
   pub index : a .kind ≡ b .kind → a .key ≡ b .key → a .index ≤ b .index
-  pub actor : a .kind ≡ b .kind → a .key ≡ b .key → a .index ≡ b .index → a .actor < b .actor
+  pub actor : a .kind ≡ b .kind → a .key ≡ b .key → a .index ≡ b .index → actorOf a < actorOf b
 
 -- one field, and what is to hold where it is equal
 one-field : (x y : ℕ) (rest : Bool) → (ltb x y || (eqb x y && rest)) ≡ true → (x ≤ y) × (x ≡ y → rest ≡ true)
@@ -40,15 +41,19 @@ before-fields {a} {b} e =
       kind = one .0;
       key = λ k. one-field (a .key) (b .key) _ (one .1 k) .0;
       index = λ k y. one-field (a .index) (b .index) _ (one-field (a .key) (b .key) _ (one .1 k) .1 y) .0;
-      actor = λ k y i. ltb-true (a .actor) (b .actor) (one-field (a .index) (b .index) _ (one-field (a .key) (b .key) _ (one .1 k) .1 y) .1 i);
+      actor = λ k y i. ltb-true (actorOf a) (actorOf b) (one-field (a .index) (b .index) _ (one-field (a .key) (b .key) _ (one .1 k) .1 y) .1 i);
     }
+
+-- dots of one kind, key and index ascend by their actors
+pub before-actor : {a b : Record} → Before a b → isValue (a .kind) ≡ false → a .kind ≡ b .kind → a .key ≡ b .key → a .index ≡ b .index → a .actor < b .actor
+before-actor {a} {b} h f k y i = rw (f, ap isValue (sym k) ∙ f) at (h .actor k y i)
 
 pub fields-before : {a b : Record} → Before a b → before a b ≡ true
 unfolding before
 fields-before {a} {b} h =
     field-one (a .kind) (b .kind) _ (h .kind)
     (λ k. field-one (a .key) (b .key) _ (h .key k)
-    (λ y. field-one (a .index) (b .index) _ (h .index k y) (λ i. lt-ltb (a .actor) (b .actor) (h .actor k y i))))
+    (λ y. field-one (a .index) (b .index) _ (h .index k y) (λ i. lt-ltb (actorOf a) (actorOf b) (h .actor k y i))))
 
 pub before-trans : {a b c : Record} → Before a b → Before b c → Before a c
 before-trans {a} {b} {c} f g = record {

@@ -1,7 +1,7 @@
 -- What well-formed records within the limits leave room for: one more of each thing that an image's reader stores.
 -- Assumes nothing.
 use mathlib.Core.Path.{_≡_, refl, ap, sym, _∙_}
-use mathlib.Core.Bool.{Bool, true, false, not, _&&_}
+use mathlib.Core.Bool.{Bool, true, false, not, _&&_, _||_}
 use mathlib.Core.Logic.{⊎-elim}
 use mathlib.Core.List.{List, [], _∷_, _++_, List·Memᴰ·not-nil, List·Memᴰ·cases-cons}
 use Prim.Native.Nat.{ℕ, suc, _+_, _≤_, _<_}
@@ -14,8 +14,8 @@ use Rattle.lists.specs.Order.{_∈_}
 use Rattle.lists.specs.Sift.{sift, those}
 use Rattle.lists.proofs.Orders.{apart}
 use Rattle.records.specs.declared.Record.{Record}
-use Rattle.records.specs.Kinds.{before, recordOk, fieldsOk, fieldOk, maskOf}
-use Rattle.records.proofs.Rule.{usesIndex, usesActor, usesKey, usesNumber, Row, row-of}
+use Rattle.records.specs.Kinds.{actorOf, before, recordOk, fieldsOk, fieldOk, maskOf}
+use Rattle.records.proofs.Rule.{isDot, isValue, usesIndex, usesActor, usesKey, usesNumber, Row, row-of}
 use Rattle.scan.specs.Each.{eachAfter, countAfter}
 use Rattle.scan.specs.Formed.{follows, wellFormed}
 use Rattle.scan.specs.Limits.{outer, middle, inner, outerLimits, middleLimits, innerLimits, limitAt, sameKind, sameOuter, sameMiddle, fresh, tally, within, room}
@@ -98,6 +98,11 @@ module _ (low high : ℕ) (r : Record) (good : recordOk low high r ≡ true) whe
         unused 2 (r .actor)
         (both-left (fieldOk (maskOf (r .kind)) 2 (r .actor)) _ (both-right (fieldOk (maskOf (r .kind)) 1 (r .index)) _ fields)) (row .actor ∙ ap not z)
 
+    -- what is no dot is ordered by no actor: a value's field is skipped, the others' is zero
+    pub unordered : isDot kind ≡ false → actorOf r ≡ 0
+    unordered z =
+        decide (isValue (r .kind)) (λ t. rw t) (λ f. rw f (no-actor (ap (λ b. b || isValue kind) z ∙ ap isValue (sym k) ∙ f)))
+
     pub no-key : usesKey kind ≡ false → r .key ≡ 0
     no-key z =
         unused 4 (r .key)
@@ -151,7 +156,7 @@ module _ (low high : ℕ) (l : List Record) (r : Record) (w : wellFormed low hig
       fewer (sameMiddle r) inner (limitAt innerLimits (r .kind)) tells
       (both (sameOuter r r) (eqb (middle r) (middle r)) (alike-outer r r plain refl refl) (eq-eqb (middle r) (middle r) refl)) inner-few
     where
-      tells : (s x : Record) → Before s x → recordOk low high x ≡ true → sameMiddle r s ≡ true → sameMiddle r x ≡ true → s .actor ≡ x .actor → ⊥
+      tells : (s x : Record) → Before s x → recordOk low high x ≡ true → sameMiddle r s ≡ true → sameMiddle r x ≡ true → actorOf s ≡ actorOf x → ⊥
       tells s x b o gs gx e =
           let hs = alike r s plain (both-left (sameOuter r s) (eqb (middle s) (middle r)) gs) in
           let hx = alike r x plain (both-left (sameOuter r x) (eqb (middle x) (middle r)) gx) in
@@ -167,7 +172,7 @@ kind-range low high r good = (
 
 -- keys, in a kind that has nothing else
 pub outer-room : (low high : ℕ) (l : List Record) (r : Record) → wellFormed low high (l ++ (r ∷ [])) ≡ true → within (l ++ (r ∷ [])) ≡ true
-    → (kind : ℕ) → r .kind ≡ kind → (kind ≡ 6 → ⊥) → usesIndex kind ≡ false → usesActor kind ≡ false
+    → (kind : ℕ) → r .kind ≡ kind → (kind ≡ 6 → ⊥) → usesIndex kind ≡ false → isDot kind ≡ false
     → length (those (λ x. eqb (x .kind) kind) l) < limitAt outerLimits kind
 outer-room low high l r w h kind k plain i a =
     rw (← k) (fewer low high l r w h (sameKind r) outer (limitAt outerLimits (r .kind)) tells (eq-eqb (r .kind) (r .kind) refl) (outer-few low high l r w h))
@@ -179,14 +184,14 @@ outer-room low high l r w h kind k plain i a =
         let sx = ks ∙ sym kx in
         let y = sym (outer-key s (λ z. plain (sym k ∙ sym ks ∙ z))) ∙ e ∙ outer-key x (λ z. plain (sym k ∙ sym kx ∙ z)) in
         let xi = no-index low high x good (kx ∙ k) i in
-        let xa = no-actor low high x good (kx ∙ k) a in
+        let xa = unordered low high x good (kx ∙ k) a in
         let si = b .index sx y in
         let same : s .index ≡ x .index = omega arith in
         omega (arith, b .actor sx y same)
 
--- values under a key, or keys under an index: what stands in the second level, in a kind that has no actor
+-- values under a key, or keys under an index: what stands in the second level, in a kind that is no dot
 pub middle-room : (low high : ℕ) (l : List Record) (r : Record) → wellFormed low high (l ++ (r ∷ [])) ≡ true → within (l ++ (r ∷ [])) ≡ true
-    → usesActor (r .kind) ≡ false → length (those (sameOuter r) l) < limitAt middleLimits (r .kind)
+    → isDot (r .kind) ≡ false → length (those (sameOuter r) l) < limitAt middleLimits (r .kind)
 middle-room low high l r w h a =
     fewer low high l r w h (sameOuter r) middle (limitAt middleLimits (r .kind)) tells
     (both (sameKind r r) (eqb (outer r) (outer r)) (eq-eqb (r .kind) (r .kind) refl) (eq-eqb (outer r) (outer r) refl))
@@ -198,7 +203,7 @@ middle-room low high l r w h a =
         let kx = eqb-true (x .kind) (r .kind) (both-left (sameKind r x) (eqb (outer x) (outer r)) gx) in
         let o = eqb-true (outer s) (outer r) (both-right (sameKind r s) (eqb (outer s) (outer r)) gs) ∙ sym (eqb-true (outer x) (outer r) (both-right (sameKind r x) (eqb (outer x) (outer r)) gx)) in
         let sx = ks ∙ sym kx in
-        let xa = no-actor low high x good kx a in
+        let xa = unordered low high x good kx a in
         decide (eqb (x .kind) 6)
         (λ t. let y : s .key ≡ x .key = rw (sx, t) at e in let i : s .index ≡ x .index = rw (sx, t) at o in omega (arith, b .actor sx y i))
         (λ f. let y : s .key ≡ x .key = rw (sx, f) at o in let i : s .index ≡ x .index = rw (sx, f) at e in omega (arith, b .actor sx y i))

@@ -14,7 +14,7 @@ use Rattle.lists.specs.Order.{_∈_}
 use Rattle.lists.specs.First.{some}
 use Rattle.lists.proofs.Orders.{apart}
 use Rattle.records.specs.declared.Record.{Record}
-use Rattle.records.specs.Kinds.{before, recordOk}
+use Rattle.records.specs.Kinds.{actorOf, before, recordOk}
 use Rattle.scan.specs.Each.{every, eachAfter, countAfter}
 use Rattle.scan.specs.Formed.{follows, wellFormed}
 use Rattle.scan.specs.Limits.{outer, middle, inner, outerLimits, middleLimits, innerLimits, limitAt, sameKind, sameOuter, sameMiddle, tally, within, room, tallyOn, tallyTo, withinLimits}
@@ -100,8 +100,8 @@ module _ (low high : ℕ) (l : List Record) (r : Record) (w : wellFormed low hig
       found q last upto behind = some-by-last l q r last upto behind (sameOuter r) (Rattle.scan.proofs.Scans.same-outer l q r last upto behind plain)
 
   -- a waiting key has no actor
-  no-actor : r .kind ≡ 6 → r .actor ≡ 0
-  no-actor k = Rooms.no-actor low high r (both-left (recordOk low high r) (every (λ s. before s r) l) f) k refl
+  unordered : r .kind ≡ 6 → actorOf r ≡ 0
+  unordered k = Rooms.unordered low high r (both-left (recordOk low high r) (every (λ s. before s r) l) f) k refl
 
   module _ (k : r .kind ≡ 6) where
     -- no waiting key before r shares its index and key
@@ -112,7 +112,7 @@ module _ (low high : ℕ) (l : List Record) (r : Record) (w : wellFormed low hig
         let sk = eqb-true (s .kind) (r .kind) (both-left (sameKind r s) (eqb (outer s) (outer r)) o) in
         let x = eqb-true (outer s) (outer r) (both-right (sameKind r s) (eqb (outer s) (outer r)) o) in
         let y = eqb-true (middle s) (middle r) (both-right (sameOuter r s) (eqb (middle s) (middle r)) t) in
-        absurd (omega (arith, all-before s i .actor sk (sym (its-middle s (sk ∙ k)) ∙ y ∙ its-middle r k) (sym (its-outer s (sk ∙ k)) ∙ x ∙ its-outer r k), no-actor k)))
+        absurd (omega (arith, all-before s i .actor sk (sym (its-middle s (sk ∙ k)) ∙ y ∙ its-middle r k) (sym (its-outer s (sk ∙ k)) ∙ x ∙ its-outer r k), unordered k)))
         (λ n. n)
 
     key-more : (n : ℕ) → n ≡ tally (sameOuter r) middle l → n + 1 ≡ tally (sameOuter r) middle (l ++ (r ∷ []))

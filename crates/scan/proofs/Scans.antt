@@ -12,7 +12,7 @@ use Rattle.lists.specs.Order.{_∈_}
 use Rattle.lists.specs.First.{some}
 use Rattle.lists.proofs.Orders.{apart}
 use Rattle.records.specs.declared.Record.{Record}
-use Rattle.records.specs.Kinds.{before, recordOk}
+use Rattle.records.specs.Kinds.{actorOf, before, recordOk}
 use Rattle.scan.specs.Each.{every}
 use Rattle.scan.specs.Formed.{follows, wellFormed}
 use Rattle.scan.specs.Limits.{outer, middle, inner, sameKind, sameOuter, sameMiddle, tally, within, room, tallyOn}
@@ -143,7 +143,7 @@ module _ (l : List Record) (q r : Record) (last : q ∈ l) (upto : (s : Record) 
     apart-inner s i b =
         decide (sameMiddle r s)
         (λ t. let h = alike r s plain (both-left (sameOuter r s) (eqb (middle s) (middle r)) t) in
-        rw t (ne-eqb (s .actor) (r .actor) (λ e. omega (arith, b .actor (h .kind) (h .key) (alike-index r s plain t)))))
+        rw t (ne-eqb (actorOf s) (actorOf r) (λ e. omega (arith, b .actor (h .kind) (h .key) (alike-index r s plain t)))))
         (λ n. rw n)
 
   module _ (n : ℕ) where

@@ -10,6 +10,7 @@ use Rattle.clock.specs.Dots.{dotLimit}
 use Rattle.register.specs.Values.{valueLimit}
 use Rattle.parts.specs.Model.{entryLimit, waitingLimit, keyLimit}
 use Rattle.records.specs.declared.Record.{Record}
+use Rattle.records.specs.Kinds.{actorOf}
 use Rattle.scan.specs.Each.{count, each}
 
 -- what is counted in a kind, under that, and under both: keys, indexes, actors; and for a waiting key, of a kind by which indexes hold keys: indexes, keys
@@ -20,7 +21,7 @@ abbrev pub middle : Record → ℕ
 middle r = cond (eqb (r .kind) 6) (r .key) (r .index)
 
 abbrev pub inner : Record → ℕ
-inner r = r .actor
+inner r = actorOf r
 
 -- the two limits that sleds of several sizes have of their own: so many entries, so many waiting removals; all others are the same for each
 pub record Limits : Type 0 where

@@ -50,7 +50,7 @@ abbrev one : ℕ → ℕ → List Dot
 one a n = dot a n ∷ []
 
 abbrev value : List Dot → ℕ → Value
-value c x = record { clock = clockOf c; value = x }
+value c x = record { clock = clockOf c; value = record { number = x; origin = 0 } }
 
 -- entry 5 under {1:n}, with these values
 abbrev five : ℕ → List Value → Entry

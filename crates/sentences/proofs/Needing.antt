@@ -25,12 +25,12 @@ use Rattle.parts.specs.Model.{dotsIn as entryDots, valuesIn}
 use Rattle.parts.specs.Waits.{clockBefore, removalBefore}
 use Rattle.parts.proofs.Pieces.{dots-in, values-in}
 use Rattle.records.specs.declared.Record.{Record}
-use Rattle.records.specs.Kinds.{before, recordOk}
+use Rattle.records.specs.Kinds.{actorOf, before, recordOk}
 use Rattle.scan.specs.Each.{every, each}
 use Rattle.scan.specs.Scanned.{scanNumber}
 use Rattle.scan.proofs.Befores.{before-fields}
 use Rattle.scan.proofs.Eachs.{decide, both, both-left, both-right, every-of, some-of}
-use Rattle.scan.proofs.Rooms.{no-actor, no-key}
+use Rattle.scan.proofs.Rooms.{unordered, no-key}
 use Rattle.clockimage.specs.Image.{isKind, dotOf, dotsIn}
 use Rattle.clockimage.proofs.Dots.{map-snoc}
 use Rattle.opimage.specs.OpImage.{noRecord}
@@ -98,10 +98,10 @@ module _ (l : List Record) (z : scanNumber 1 6 l ≡ 0) (h : MapSentences l) whe
     record Value3 (x : Record) : Type 0 where
       kind-is : x .kind ≡ 3
       key-is : x .key ≡ key
-      no-actor-is : x .actor ≡ 0
+      no-actor-is : actorOf x ≡ 0
 
     value-of : (x : Record) → x ∈ l → x .kind ≡ 3 → x .key ≡ key → Value3 x
-    value-of x i k y = record { kind-is = k; key-is = y; no-actor-is = no-actor 1 6 x (good x i) k refl }
+    value-of x i k y = record { kind-is = k; key-is = y; no-actor-is = unordered 1 6 x (good x i) k refl }
 
     further : (x y : Record) → Value3 x → Value3 y → before x y ≡ true → x .index < y .index
     further x y p q b =

@@ -18,7 +18,7 @@ use Rattle.parts.specs.declared.Entry.{Entry}
 use Rattle.parts.specs.Model.{dotsIn, valuesIn}
 use Rattle.records.specs.declared.Record.{Record}
 use Rattle.records.specs.Records.{recordFrom}
-use Rattle.clockimage.specs.Image.{dotOf, dotRecords}
+use Rattle.clockimage.specs.Image.{dotOf, dotRecords, contentOf}
 use Rattle.clockimage.proofs.RoundTrip.{dots-back}
 use Rattle.opimage.specs.OpImage.{noRecord}
 use Rattle.mapimage.specs.MapImage.{flatFrom, valueRecords}
@@ -67,7 +67,7 @@ part-at : (s : List ℕ) (n i j : ℕ) → i + n < j → getD (part s i j) n noR
 part-at s zero i j h = let e : i + 0 ≡ i = omega arith in rw (part-on s i j (omega arith), e)
 part-at s (suc n) i j h = let e : i + suc n ≡ i + 1 + n = omega arith in rw (part-on s i j (omega arith), e) (part-at s n (i + 1) j (omega arith))
 
-value-at : (key i n : ℕ) (l : List Value) → n < length l → getD (flatFrom (valueRecords 3 key) i l) n noRecord .number ≡ getD l n noValue .value
+value-at : (key i n : ℕ) (l : List Value) → n < length l → contentOf (getD (flatFrom (valueRecords 3 key) i l) n noRecord) ≡ getD l n noValue .value
 unfolding flatFrom
 value-at key i n [] h = absurd (omega arith)
 value-at key i zero (v ∷ l) h = refl
@@ -88,9 +88,9 @@ module _ {s : List ℕ} {e : Entry} {r : Lain} (h : LiesAt s e r) where
     value-says = run-says 4 j (e .key) (dotsOf (getD (valuesIn e) j noValue .clock)) (h .runs .each j k) (h .fit .short _ stands)
         (h .fit .valid _ stands .clock)
 
-    pub value-number : recordFrom s ((r .values .from + j) * 16) .number ≡ getD (valuesIn e) j noValue .value
-    value-number =
-        ap (λ (x : Record). x .number) (sym (part-at s j (r .values .from) (r .values .to) (omega (arith, many-values)))
+    pub value-content : contentOf (recordFrom s ((r .values .from + j) * 16)) ≡ getD (valuesIn e) j noValue .value
+    value-content =
+        ap contentOf (sym (part-at s j (r .values .from) (r .values .to) (omega (arith, many-values)))
         ∙ ap (λ l. getD l j noRecord) (h .values .records))
         ∙ value-at (e .key) 0 j (valuesIn e) k
 

@@ -18,7 +18,7 @@ use Rattle.parts.specs.declared.Entry.{Entry}
 use Rattle.records.specs.declared.Record.{Record}
 use Rattle.records.specs.Records.{recordFrom, bytesOf, Wrote, recordBytes}
 use Rattle.records.proofs.Writing.{Writing, wrote-one}
-use Rattle.clockimage.specs.Image.{dotRecord, dotRecords}
+use Rattle.clockimage.specs.Image.{dotRecord, dotRecords, contentOf, contentRecord}
 use Rattle.mapimage.specs.MapImage.{flatFrom, valueRecord, valueRecords, entryRecords}
 use Rattle.mapimage.proofs.Flats.{flat-on, flat-end}
 use Rattle.runs.specs.Run.{runDots}
@@ -60,7 +60,7 @@ module _ (s : List ℕ) (x : Source) where
   dots-written key index w = rw left-dots w
 
   pub value-written : (key index : ℕ) {at next : ℕ} {entry exit : List ℕ} (r : Record) → r ≡ recordFrom s (x .value * 16)
-      → Wrote at (recordBytes (record { kind = 3; index = index; actor = 0; key = key; number = r .number })) entry exit next
+      → Wrote at (recordBytes (contentRecord 3 index key (contentOf r))) entry exit next
       → Wrote at (bytesOf (valueRecord key index (valueIn s x) ∷ [])) entry exit next
   value-written key index r e w = wrote-one _ _ _ _ _ (rw (← e) w)
 

@@ -16,6 +16,7 @@ use Rattle.register.specs.Values.{noValue, alive, cutValue, cutValues}
 use Rattle.parts.specs.declared.Entry.{Entry}
 use Rattle.parts.specs.Model.{valuesIn}
 use Rattle.records.specs.Records.{recordFrom}
+use Rattle.clockimage.specs.Image.{contentOf}
 use Rattle.mapimage.specs.MapImage.{mapLongest}
 use Rattle.runs.specs.Run.{runDots}
 use Rattle.marks.specs.Marks.{picked}
@@ -25,7 +26,7 @@ use Rattle.sketch.specs.declared.Sketched.{Sketched}
 use Rattle.sketch.specs.declared.Lain.{Lain}
 use Rattle.sketch.specs.Walking.{LiesAt}
 use Rattle.sketch.specs.Drawn.{between, valueIn, imageOf, valueAt, Placed, Draws}
-use Rattle.sketch.proofs.Lying.{value-says, value-number, value-inside}
+use Rattle.sketch.proofs.Lying.{value-says, value-content, value-inside}
 
 -- one value before others
 cut-first : (c : List Dot) (v : Value) (l : List Value) → cutValues c (v ∷ l) ≡ those alive (cutValue c v ∷ []) ++ cutValues c l
@@ -99,11 +100,11 @@ module _ {w : List ℕ} {e : Entry} {r : Lain} (h : LiesAt w e r) (j : ℕ) (k :
       dots : picked (x .marks) (runDots (between w (x .from) (x .to))) ≡ cutDots c (dotsOf (getD (valuesIn e) j noValue .clock))
       dots = ap₂ (λ f g. picked (x .marks) (runDots (between w f g))) (a .1 .0) (a .1 .1) ∙ m ∙ ap (cutDots c) (value-says h j k .dots)
 
-      number : recordFrom w (x .value * 16) .number ≡ getD (valuesIn e) j noValue .value
-      number = ap (λ n. recordFrom w (n * 16) .number) (a .0) ∙ value-number h j k
+      content : contentOf (recordFrom w (x .value * 16)) ≡ getD (valuesIn e) j noValue .value
+      content = ap (λ n. contentOf (recordFrom w (n * 16))) (a .0) ∙ value-content h j k
 
       same : valueIn w x ≡ cutValue c (getD (valuesIn e) j noValue)
-      same = λ i. record { clock = clockOf (dots i); value = number i }
+      same = λ i. record { clock = clockOf (dots i); value = content i }
 
       placed : Placed w x
       placed =

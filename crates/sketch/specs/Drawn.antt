@@ -16,6 +16,7 @@ use Rattle.parts.specs.Model.{entryLimit, entryAs, overfull}
 use Rattle.parts.specs.Entries.{listed, cutEntry}
 use Rattle.records.specs.declared.Record.{Record}
 use Rattle.records.specs.Records.{recordFrom}
+use Rattle.clockimage.specs.Image.{contentOf}
 use Rattle.mapimage.specs.MapImage.{flatFrom, entryRecords}
 use Rattle.runs.specs.Run.{runDots}
 use Rattle.marks.specs.Marks.{picked, marksSet}
@@ -33,7 +34,7 @@ between s i j = take (j * 16 - i * 16) (drop (i * 16) s)
 
 -- the value that a source names in s, under what is left of its clock
 abbrev pub valueIn : List ℕ → Source → Value
-valueIn s x = record { clock = clockOf (picked (x .marks) (runDots (between s (x .from) (x .to)))); value = recordFrom s (x .value * 16) .number }
+valueIn s x = record { clock = clockOf (picked (x .marks) (runDots (between s (x .from) (x .to)))); value = contentOf (recordFrom s (x .value * 16)) }
 
 -- of two images, the one that it names
 abbrev pub imageOf : List ℕ → List ℕ → Source → List ℕ

@@ -44,7 +44,7 @@ fn write_in(s: &[u8], x: Source, kind: u8, key: u32, index: u8, out: &mut [u8], 
         let r = Record {
             kind: 3,
             index,
-            actor: 0,
+            actor: held.actor,
             key,
             number: held.number,
         };

@@ -14,7 +14,7 @@ use Rattle.map.specs.Valid.{UpdateWithin}
 use Rattle.records.specs.declared.Record.{Record}
 use Rattle.records.specs.Records.{recordFrom, recordsFrom, recordsOf}
 use Rattle.records.proofs.Joined.{length-records}
-use Rattle.clockimage.specs.Image.{dotOf, dotRecord, dotRecords}
+use Rattle.clockimage.specs.Image.{dotOf, dotRecord, dotRecords, contentOf}
 use Rattle.clockimage.proofs.RoundTrip.{dots-back}
 use Rattle.opimage.specs.OpImage.{noRecord, updateHead, putValue, updateRecords}
 use Rattle.runs.specs.Run.{runDots}
@@ -42,7 +42,7 @@ module _ (op : List ℕ) {u : Update} (h : UpdateWithin u) (e : updateRecords u 
       record {
         some = omega arith;
         few = omega arith;
-        value = sym (ap (λ (l : List Record). getD l 1 noRecord .number) whole);
+        value = sym (ap (λ (l : List Record). contentOf (getD l 1 noRecord)) whole);
         dots = ap (map dotOf) (slice-part op 2 n (omega arith) (omega arith) ∙ sym (ap (drop 2) whole)) ∙ dots-back 12 0 0 (dotsOf (u .put .clock));
         lawful = h .valid .clock;
       }

@@ -17,6 +17,7 @@ use Rattle.parts.specs.declared.Update.{Update}
 use Rattle.parts.specs.Model.{dotsIn, valuesIn, entryAs}
 use Rattle.parts.specs.Entries.{putEntry, putEntries}
 use Rattle.records.specs.Records.{recordFrom}
+use Rattle.clockimage.specs.Image.{contentOf}
 use Rattle.runs.specs.Run.{runDots}
 use Rattle.walks.specs.declared.Layout.{Layout}
 use Rattle.sketch.specs.declared.Cursor.{Cursor}
@@ -47,7 +48,7 @@ puts done = cond done 0 1
 pub record PutLies (op : List ℕ) (u : Update) : Type 0 where
   pub some : 2 ≤ length op / 16
   pub few : length op / 16 ≤ 2 + dotLimit
-  pub value : recordFrom op 16 .number ≡ u .put .value
+  pub value : contentOf (recordFrom op 16) ≡ u .put .value
   pub dots : runDots (between op 2 (length op / 16)) ≡ dotsOf (u .put .clock)
   pub lawful : Lawful (dotsOf (u .put .clock))
 

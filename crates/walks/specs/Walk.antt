@@ -40,7 +40,7 @@ unfoldable pub ownTest : List Dot → ℕ → Record → Bool
 ownTest c key r = dotTest 2 0 key r && leb (r .number) (counterIn c (r .actor))
 
 unfoldable pub valueTest : ℕ → ℕ → Record → Bool
-valueTest key index r = eqb (r .kind) 3 && (eqb (r .index) index && (eqb (r .key) key && eqb (r .actor) 0))
+valueTest key index r = eqb (r .kind) 3 && (eqb (r .index) index && eqb (r .key) key)
 
 -- i and how many records pass from the first on, n at most, their actors ascending from `low` on
 unfoldable pub runEnd : (Record → Bool) → ℕ → ℕ → ℕ → List Record → ℕ

@@ -47,7 +47,7 @@ pub fn own_test(clock: Clock, key: u32, r: Record) -> bool
 pub fn value_test(key: u32, index: u8, r: Record) -> bool
     ensures { λ b. ⌜ b ≡ valueTest key index r ⌝ }
 {
-    (r.kind == 3) & ((r.index == index) & ((r.key == key) & (r.actor == 0)))
+    (r.kind == 3) & ((r.index == index) & (r.key == key))
 }
 
 // How many dots of one kind, index and key stand from `at` on: at most as many as a clock holds, actors ascend.

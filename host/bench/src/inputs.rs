@@ -60,7 +60,7 @@ fn next_update(map: &Map, actor: u16, key: u32) -> Vec<u8> {
     let counter = map.clock[&actor] + 1;
     let mut put_clock = map.clock.clone();
     put_clock.insert(actor, counter);
-    operation_image(&Operation::Update { actor, counter, key, put_clock, put_value: 5 })
+    operation_image(&Operation::Update { actor, counter, key, put_clock, put_value: (5, 1) })
 }
 
 pub fn tasks() -> Vec<Task> {

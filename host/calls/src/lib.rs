@@ -36,7 +36,15 @@ pub trait Calls {
     fn merge(&self, map: &[u8], other: &[u8], out: &mut [u8]) -> u64;
     fn reset_remove(&self, map: &[u8], clock: &[u8], out: &mut [u8]) -> u64;
     fn reset_remove_deleted(&self, map: &[u8], clock: &[u8], out_len: usize) -> u64;
-    fn update(&self, map: &[u8], actor: u16, key: u32, value: u64, out: &mut [u8]) -> u64;
+    fn update(
+        &self,
+        map: &[u8],
+        actor: u16,
+        key: u32,
+        value: u64,
+        origin: u16,
+        out: &mut [u8],
+    ) -> u64;
     fn rm_get(&self, map: &[u8], key: u32, out: &mut [u8]) -> u64;
     fn rm_read_ctx(&self, map: &[u8], key: u32, out: &mut [u8]) -> u64;
     fn get(&self, map: &[u8], key: u32, out: &mut [u8]) -> u64;

@@ -10,7 +10,7 @@ extern "C" {
     pub fn castribba_merge(map: *const u8, map_len: usize, other: *const u8, other_len: usize, out: *mut u8, out_len: usize) -> u64;
     pub fn castribba_reset_remove(map: *const u8, map_len: usize, clock: *const u8, clock_len: usize, out: *mut u8, out_len: usize) -> u64;
     pub fn castribba_reset_remove_deleted(map: *const u8, map_len: usize, clock: *const u8, clock_len: usize, out_len: usize) -> u64;
-    pub fn castribba_update(map: *const u8, map_len: usize, actor: u16, key: u32, value: u64, out: *mut u8, out_len: usize) -> u64;
+    pub fn castribba_update(map: *const u8, map_len: usize, actor: u16, key: u32, value: u64, origin: u16, out: *mut u8, out_len: usize) -> u64;
     pub fn castribba_rm_get(map: *const u8, map_len: usize, key: u32, out: *mut u8, out_len: usize) -> u64;
     pub fn castribba_rm_read_ctx(map: *const u8, map_len: usize, key: u32, out: *mut u8, out_len: usize) -> u64;
     pub fn castribba_get(map: *const u8, map_len: usize, key: u32, out: *mut u8, out_len: usize) -> u64;

@@ -118,7 +118,7 @@ impl Map {
     /// use castribba::Map;
     ///
     /// let mut map = Map::new();
-    /// map.apply(&map.update(1, 5, 40)?)?;
+    /// map.apply(&map.update(1, 5, 40, 0)?)?;
     /// map.reset_remove(&map.clock())?;
     /// assert_eq!(map, Map::new());
     /// # Ok::<(), castribba::Refusal>(())
@@ -135,7 +135,7 @@ impl Map {
     /// use castribba::Map;
     ///
     /// let mut map = Map::new();
-    /// map.apply(&map.update(1, 5, 40)?)?;
+    /// map.apply(&map.update(1, 5, 40, 0)?)?;
     /// let removal = map.rm_get(5)?;
     /// assert_eq!(map.apply_deleted(&removal), 1);
     /// map.apply(&removal)?;
@@ -152,8 +152,8 @@ impl Map {
     /// use castribba::Map;
     ///
     /// let mut map = Map::new();
-    /// map.apply(&map.update(1, 5, 40)?)?;
-    /// map.apply(&map.update(1, 6, 60)?)?;
+    /// map.apply(&map.update(1, 5, 40, 0)?)?;
+    /// map.apply(&map.update(1, 6, 60, 0)?)?;
     /// assert_eq!(map.reset_remove_deleted(&map.clock()), 2);
     /// # Ok::<(), castribba::Refusal>(())
     /// ```
@@ -162,8 +162,27 @@ impl Map {
     }
 
     /// Makes the operation by which an actor puts a value under a key; the map stays as it is.
-    pub fn update(&self, actor: u16, key: u32, value: u64) -> Result<Operation, Refusal> {
-        let call = |out: &mut [u8]| slices::update(&self.0, actor, key, value, out);
+    ///
+    /// The origin says who set the value: a code of the caller's, 0 for none. It moves with its value and
+    /// decides nothing.
+    ///
+    /// ```
+    /// use castribba::Map;
+    ///
+    /// let mut map = Map::new();
+    /// map.apply(&map.update(1, 5, 40, 7)?)?;
+    /// let entry = map.entry(5).expect("it was set");
+    /// assert_eq!((entry.values[0].value, entry.values[0].origin), (40, 7));
+    /// # Ok::<(), castribba::Refusal>(())
+    /// ```
+    pub fn update(
+        &self,
+        actor: u16,
+        key: u32,
+        value: u64,
+        origin: u16,
+    ) -> Result<Operation, Refusal> {
+        let call = |out: &mut [u8]| slices::update(&self.0, actor, key, value, origin, out);
         written(LONGEST_OPERATION, call).map(Operation)
     }
 
@@ -174,7 +193,7 @@ impl Map {
     ///
     /// // the removal arrives first, and waits for the update that it removes
     /// let (mut ours, mut theirs) = (Map::new(), Map::new());
-    /// let pick = ours.update(1, 5, 40)?;
+    /// let pick = ours.update(1, 5, 40, 0)?;
     /// ours.apply(&pick)?;
     /// theirs.apply(&ours.rm_get(5)?)?;
     /// theirs.apply(&pick)?;
@@ -227,9 +246,9 @@ impl Map {
     /// use castribba::{Map, Refusal};
     ///
     /// let (mut ours, mut theirs) = (Map::new(), Map::new());
-    /// let first = ours.update(1, 5, 40)?;
+    /// let first = ours.update(1, 5, 40, 0)?;
     /// ours.apply(&first)?;
-    /// let second = ours.update(1, 6, 60)?;
+    /// let second = ours.update(1, 6, 60, 0)?;
     /// assert_eq!(theirs.validate_op(&second), Err(Refusal::Gap { start: 1, end: 2 }));
     /// // the first one comes, but not on key 6
     /// theirs.apply(&first)?;
@@ -271,9 +290,9 @@ impl Operation {
     /// }
     ///
     /// let (mut ours, mut theirs) = (Map::new(), Map::new());
-    /// let first = ours.update(1, 5, 40)?;
+    /// let first = ours.update(1, 5, 40, 0)?;
     /// ours.apply(&first)?;
-    /// let second = ours.update(1, 6, 60)?;
+    /// let second = ours.update(1, 6, 60, 0)?;
     /// assert!(is_next(&theirs, &first) && !is_next(&theirs, &second));
     /// theirs.apply(&first)?;
     /// assert!(is_next(&theirs, &second));

@@ -4,27 +4,27 @@
 //! Parties edit their own copies while apart. An edit is an [`Operation`]: it may arrive late, and
 //! twice, but [in its actor's order](#one-actors-updates-in-its-order). Whole maps are merged when
 //! parties meet. A value is overwritten only by one who had seen it; values that did not know of each
-//! other stand side by side.
+//! other stand side by side. Each carries a code of who set it, its origin, which decides nothing.
 //!
 //! ```
 //! use castribba::Map;
 //!
-//! // actor 1 picks image 40 for bay 5, and actor 2 hears of it, twice
+//! // at actor 1 operator 7 picks image 40 for bay 5, and actor 2 hears of it, twice
 //! let (mut ours, mut theirs) = (Map::new(), Map::new());
-//! let pick = ours.update(1, 5, 40)?;
+//! let pick = ours.update(1, 5, 40, 7)?;
 //! ours.apply(&pick)?;
 //! theirs.apply(&pick)?;
 //! theirs.apply(&pick)?;
 //! assert_eq!(theirs, ours);
 //!
 //! // apart, both pick another: the two values stand side by side
-//! ours.apply(&ours.update(1, 5, 41)?)?;
-//! theirs.apply(&theirs.update(2, 5, 42)?)?;
+//! ours.apply(&ours.update(1, 5, 41, 0)?)?;
+//! theirs.apply(&theirs.update(2, 5, 42, 0)?)?;
 //! ours.merge(&theirs)?;
 //! assert_eq!(ours.values(5), [41, 42]);
 //!
 //! // whoever has seen both overwrites both
-//! ours.apply(&ours.update(1, 5, 43)?)?;
+//! ours.apply(&ours.update(1, 5, 43, 0)?)?;
 //! assert_eq!(ours.values(5), [43]);
 //! # Ok::<(), castribba::Refusal>(())
 //! ```
@@ -47,9 +47,9 @@
 //! use castribba::Map;
 //!
 //! let (mut ours, mut theirs) = (Map::new(), Map::new());
-//! let bay_5 = ours.update(1, 5, 40)?;
+//! let bay_5 = ours.update(1, 5, 40, 0)?;
 //! ours.apply(&bay_5)?;
-//! let bay_6 = ours.update(1, 6, 60)?;
+//! let bay_6 = ours.update(1, 6, 60, 0)?;
 //! ours.apply(&bay_6)?;
 //!
 //! theirs.apply(&bay_6)?;
@@ -80,8 +80,8 @@
 //! use castribba::{Map, Refusal};
 //!
 //! let (mut ours, mut theirs) = (Map::new(), Map::new());
-//! ours.apply(&ours.update(1, 5, 40)?)?;
-//! theirs.apply(&theirs.update(1, 6, 60)?)?;
+//! ours.apply(&ours.update(1, 5, 40, 0)?)?;
+//! theirs.apply(&theirs.update(1, 6, 60, 0)?)?;
 //! let spent = Refusal::DoubleSpent { actor: 1, counter: 1, our_key: 5, their_key: 6 };
 //! assert_eq!(ours.validate_merge(&theirs), Err(spent));
 //! ours.merge(&theirs)?;
@@ -89,11 +89,11 @@
 //!
 //! // the same by a reset of one side: its owner counts from 1 again
 //! let (mut ours, mut theirs) = (Map::new(), Map::new());
-//! let bay_5 = ours.update(1, 5, 40)?;
+//! let bay_5 = ours.update(1, 5, 40, 0)?;
 //! ours.apply(&bay_5)?;
 //! theirs.apply(&bay_5)?;
 //! ours.reset_remove(&ours.clock())?;
-//! ours.apply(&ours.update(1, 6, 60)?)?;
+//! ours.apply(&ours.update(1, 6, 60, 0)?)?;
 //! assert_eq!(theirs.validate_merge(&ours), Err(spent));
 //! # Ok::<(), Refusal>(())
 //! ```
@@ -137,4 +137,4 @@ pub const LONGEST_OPERATION: usize = 400;
 /// The longest image of a clock, in bytes.
 pub const LONGEST_CLOCK: usize = 128;
 /// The bytes of a reader of pieces.
-pub const PIECES: usize = 16_865;
+pub const PIECES: usize = 17_121;

@@ -36,8 +36,8 @@ impl Report {
 /// use castribba::{loader, Map, Refusal};
 ///
 /// let mut map = Map::new();
-/// map.apply(&Map::new().update(1, 5, 41)?)?;
-/// map.apply(&Map::new().update(2, 5, 40)?)?;
+/// map.apply(&Map::new().update(1, 5, 41, 0)?)?;
+/// map.apply(&Map::new().update(2, 5, 40, 0)?)?;
 /// let report = loader::Report { remaining: 2, differ: true, value: Some(40) };
 /// assert_eq!(loader::bay(map.as_image(), 5), Ok(report));
 /// assert_eq!(loader::bay(map.as_image(), 6), Ok(loader::Report::default()));

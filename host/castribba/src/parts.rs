@@ -3,7 +3,7 @@
 use alloc::vec::{self, Vec};
 use core::fmt;
 
-use crate::{kind, Clock, Map, Operation};
+use crate::{kind, Clock, Map, Operation, Record};
 
 /// A key that is set: one entry of a map.
 #[derive(Clone, Debug, PartialEq, Eq, Hash)]
@@ -21,6 +21,8 @@ pub struct Entry {
 #[non_exhaustive]
 pub struct Value {
     pub value: u64,
+    /// Who set it, 0 where nobody said: it moves with the value and decides nothing.
+    pub origin: u16,
     /// What its writer had seen, this value's own update included.
     pub clock: Clock,
 }
@@ -65,8 +67,8 @@ impl Map {
     /// use castribba::Map;
     ///
     /// let mut map = Map::new();
-    /// map.apply(&map.update(1, 6, 60)?)?;
-    /// map.apply(&map.update(1, 5, 40)?)?;
+    /// map.apply(&map.update(1, 6, 60, 0)?)?;
+    /// map.apply(&map.update(1, 5, 40, 0)?)?;
     /// assert!(map.contains_key(5) && !map.contains_key(7));
     /// assert_eq!(map.keys().collect::<Vec<_>>(), [5, 6]);
     /// let values = map.entries().flat_map(|entry| entry.values).map(|value| value.value);
@@ -88,11 +90,12 @@ impl Map {
 
     fn values_with_clocks(&self, key: u32) -> Vec<Value> {
         let values = self.of_kind(kind::VALUE).filter(|value| value.key == key);
-        let with_clock = |index, value| {
+        let with_clock = |value: Record| {
             let dots = self.of_kind(kind::VALUE_DOT);
-            Value { value, clock: Clock::of(dots.filter(|d| d.key == key && d.index == index)) }
+            let own = dots.filter(|dot| dot.key == key && dot.index == value.index);
+            Value { value: value.number, origin: value.actor, clock: Clock::of(own) }
         };
-        values.map(|value| with_clock(value.index, value.number)).collect()
+        values.map(with_clock).collect()
     }
 
     /// The removals that wait, in ascending order of their clocks.
@@ -102,7 +105,7 @@ impl Map {
     ///
     /// // a removal that arrives before the update that it removes
     /// let (mut ours, mut theirs) = (Map::new(), Map::new());
-    /// ours.apply(&ours.update(1, 5, 40)?)?;
+    /// ours.apply(&ours.update(1, 5, 40, 0)?)?;
     /// theirs.apply(&ours.rm_get(5)?)?;
     /// let waiting = theirs.waiting().next().expect("it waits");
     /// assert_eq!((waiting.keys, waiting.clock), (vec![5], ours.clock()));
@@ -149,9 +152,9 @@ impl Entry {
     /// use castribba::{Map, Standing};
     ///
     /// let mut map = Map::new();
-    /// map.apply(&Map::new().update(1, 5, 41)?)?;
+    /// map.apply(&Map::new().update(1, 5, 41, 0)?)?;
     /// assert_eq!(map.entry(5).unwrap().standing(0), Standing::Alone);
-    /// map.apply(&Map::new().update(2, 5, 42)?)?;
+    /// map.apply(&Map::new().update(2, 5, 42, 0)?)?;
     /// assert_eq!(map.entry(5).unwrap().standing(0), Standing::Concurrent);
     /// # Ok::<(), castribba::Refusal>(())
     /// ```
@@ -183,6 +186,18 @@ impl<T: fmt::Display> fmt::Display for Listed<T> {
             }
         }
         Ok(())
+    }
+}
+
+/// An origin in words behind a value: ", origin 7", or nothing for 0.
+struct Origin(u16);
+
+impl fmt::Display for Origin {
+    fn fmt(&self, f: &mut fmt::Formatter<'_>) -> fmt::Result {
+        match self.0 {
+            0 => Ok(()),
+            code => write!(f, ", origin {code}"),
+        }
     }
 }
 
@@ -220,6 +235,7 @@ impl Entry {
             0 => write!(f, " by an actor whose update was removed")?,
             _ => write!(f, " by actor {}", Listed(writers, "or"))?,
         }
+        write!(f, "{}", Origin(value.origin))?;
         match self.standing(place) {
             Standing::Alone => Ok(()),
             Standing::Concurrent => write!(f, ", concurrent"),
@@ -260,15 +276,15 @@ impl fmt::Display for Map {
     /// use castribba::Map;
     ///
     /// let mut map = Map::new();
-    /// map.apply(&Map::new().update(1, 5, 41)?)?;
-    /// map.apply(&Map::new().update(2, 5, 42)?)?;
-    /// map.apply(&map.update(2, 6, 60)?)?;
+    /// map.apply(&Map::new().update(1, 5, 41, 0)?)?;
+    /// map.apply(&Map::new().update(2, 5, 42, 0)?)?;
+    /// map.apply(&map.update(2, 6, 60, 7)?)?;
     /// let shown = "\
     /// seen: {1:1 2:2}
     /// key 5: 2 values
     ///   41 by actor 1, concurrent
     ///   42 by actor 2, concurrent
-    /// key 6: 60 by actor 2";
+    /// key 6: 60 by actor 2, origin 7";
     /// assert_eq!(map.to_string(), shown);
     /// # Ok::<(), castribba::Refusal>(())
     /// ```
@@ -292,7 +308,7 @@ impl fmt::Display for Operation {
     /// use castribba::Map;
     ///
     /// let mut map = Map::new();
-    /// let update = map.update(1, 5, 40)?;
+    /// let update = map.update(1, 5, 40, 0)?;
     /// map.apply(&update)?;
     /// assert_eq!(update.to_string(), "update 1 of actor 1: key 5 is 40, having seen {1:1}");
     /// assert_eq!(map.rm_get(5)?.to_string(), "removal of key 5 under {1:1}");
@@ -301,10 +317,12 @@ impl fmt::Display for Operation {
     fn fmt(&self, f: &mut fmt::Formatter<'_>) -> fmt::Result {
         let clock_of = |kind| Clock::of(self.of_kind(kind));
         if let Some(head) = self.of_kind(kind::UPDATE).next() {
-            let value = self.of_kind(kind::PUT_VALUE).map(|put| put.number).next().unwrap_or(0);
             let (counter, actor, key) = (head.number, head.actor, head.key);
-            let seen = clock_of(kind::PUT_DOT);
-            write!(f, "update {counter} of actor {actor}: key {key} is {value}, having seen {seen}")
+            write!(f, "update {counter} of actor {actor}: key {key} is ")?;
+            for put in self.of_kind(kind::PUT_VALUE) {
+                write!(f, "{}{}", put.number, Origin(put.actor))?;
+            }
+            write!(f, ", having seen {}", clock_of(kind::PUT_DOT))
         } else {
             let keys = self.of_kind(kind::REMOVAL_KEY).map(|listed| listed.key).collect();
             write!(f, "removal of {} under {}", Keys(keys), clock_of(kind::REMOVAL_DOT))

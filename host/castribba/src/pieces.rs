@@ -17,7 +17,7 @@ use crate::{Refusal, PIECES};
 /// use castribba::{Map, Pieces, Refusal};
 ///
 /// let mut map = Map::new();
-/// map.apply(&map.update(1, 5, 40)?)?;
+/// map.apply(&map.update(1, 5, 40, 0)?)?;
 ///
 /// let mut reader = Pieces::new();
 /// for piece in map.as_image().chunks(7) {

@@ -8,7 +8,7 @@ pub mod kind {
     pub const CLOCK_DOT: u8 = 1;
     /// Key, actor and counter: an update of this key that was not removed.
     pub const ENTRY_DOT: u8 = 2;
-    /// Key, index and value.
+    /// Key, index and value, with its origin in the actor's place.
     pub const VALUE: u8 = 3;
     /// Key, index, actor and counter: what the writer of that value had seen.
     pub const VALUE_DOT: u8 = 4;
@@ -24,7 +24,7 @@ pub mod kind {
     pub const REMOVAL_KEY: u8 = 9;
     /// The head of an update: its key, and its dot as actor and counter.
     pub const UPDATE: u8 = 10;
-    /// The value that it puts.
+    /// The value that it puts, with its origin in the actor's place.
     pub const PUT_VALUE: u8 = 11;
     /// Actor and counter: what the writer had seen, this update included.
     pub const PUT_DOT: u8 = 12;
@@ -37,6 +37,7 @@ pub struct Record {
     pub kind: u8,
     /// Which value of a key, or which waiting removal, from 0.
     pub index: u8,
+    /// An actor; of a value, its origin.
     pub actor: u16,
     pub key: u32,
     /// A counter, or a value.

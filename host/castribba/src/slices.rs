@@ -7,9 +7,9 @@
 //! use castribba::{slices, Refusal};
 //!
 //! let mut op = [0; castribba::LONGEST_OPERATION];
-//! let len = slices::update(&[], 1, 5, 40, &mut op)?;
+//! let len = slices::update(&[], 1, 5, 40, 0, &mut op)?;
 //! assert_eq!(len, 48);
-//! assert_eq!(slices::update(&[], 1, 5, 40, &mut op[..47]), Err(Refusal::ShortBuffer));
+//! assert_eq!(slices::update(&[], 1, 5, 40, 0, &mut op[..47]), Err(Refusal::ShortBuffer));
 //! # Ok::<(), Refusal>(())
 //! ```
 
@@ -102,7 +102,7 @@ pub fn reset_remove(map: &[u8], clock: &[u8], out: &mut [u8]) -> Result<usize, R
 /// use castribba::{slices, Refusal, LONGEST_MAP, LONGEST_OPERATION};
 ///
 /// let (mut op, mut map) = ([0; LONGEST_OPERATION], [0; LONGEST_MAP]);
-/// let update = slices::update(&[], 1, 5, 40, &mut op)?;
+/// let update = slices::update(&[], 1, 5, 40, 0, &mut op)?;
 /// let len = slices::apply(&[], &op[..update], &mut map)?;
 /// let removal = slices::rm_get(&map[..len], 5, &mut op)?;
 /// assert_eq!(slices::apply_deleted(&map[..len], &op[..removal], LONGEST_MAP), 1);
@@ -118,15 +118,16 @@ pub fn reset_remove_deleted(map: &[u8], clock: &[u8], room: usize) -> u64 {
     with_one!(castribba_reset_remove_deleted, map, clock.as_ptr(), clock.len(), room)
 }
 
-/// The operation by which an actor puts a value under a key.
+/// The operation by which an actor puts a value under a key; `origin` says who set it.
 pub fn update(
     map: &[u8],
     actor: u16,
     key: u32,
     value: u64,
+    origin: u16,
     out: &mut [u8],
 ) -> Result<usize, Refusal> {
-    judged(with_one!(castribba_update, map, actor, key, value; out))
+    judged(with_one!(castribba_update, map, actor, key, value, origin; out))
 }
 
 /// The operation that removes what the map holds under a key.

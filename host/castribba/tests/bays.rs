@@ -10,7 +10,7 @@ use loader::Report;
 #[test]
 fn one_bay_and_all() {
     let mut two = map(&M);
-    two.apply(&Map::new().update(2, 5, 30).expect("an update")).expect("an update that fits");
+    two.apply(&Map::new().update(2, 5, 30, 0).expect("an update")).expect("an update that fits");
     let five = Report { remaining: 2, differ: true, value: Some(30) };
     let all = loader::bays(two.as_image()).expect("reports of a good image");
     assert_eq!(loader::bay(two.as_image(), 5), Ok(five));

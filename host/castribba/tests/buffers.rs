@@ -33,7 +33,7 @@ fn every_room_for_every_call() {
     writes(&m, |out| slices::merge(&m, &m, out));
     writes(&clock, |out| slices::merge(&clock, &m, out));
     writes(&[], |out| slices::reset_remove(&m, &clock, out));
-    writes(&update, |out| slices::update(&m, 1, 5, 41, out));
+    writes(&update, |out| slices::update(&m, 1, 5, 41, 0, out));
     writes(&removal, |out| slices::rm_get(&m, 5, out));
     writes(&removal, |out| slices::rm_read_ctx(&m, 5, out));
     writes(&m, |out| slices::get(&m, 5, out));
@@ -50,7 +50,7 @@ fn a_refused_image_leaves_the_buffer() {
         assert_eq!(slices::apply(part, &[], &mut out), Err(Refusal::Malformed));
         assert_eq!(slices::merge(&m, part, &mut out), Err(Refusal::Malformed));
         assert_eq!(slices::reset_remove(&m, part, &mut out), Err(Refusal::Malformed));
-        assert_eq!(slices::update(part, 1, 5, 41, &mut out), Err(Refusal::Malformed));
+        assert_eq!(slices::update(part, 1, 5, 41, 0, &mut out), Err(Refusal::Malformed));
         assert_eq!(slices::rm_get(part, 5, &mut out), Err(Refusal::Malformed));
         assert_eq!(slices::rm_read_ctx(part, 5, &mut out), Err(Refusal::Malformed));
         assert_eq!(slices::get(part, 5, &mut out), Err(Refusal::Malformed));

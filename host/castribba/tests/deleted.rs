@@ -57,8 +57,7 @@ fn a_removal_that_only_waits_counts_nothing() {
 
 #[test]
 fn an_entry_that_goes_counts_its_dots_and_none_of_its_values() {
-    let removal =
-        operation(&[(7, 0, 0, 0, 0), (8, 0, 1, 0, 3), (8, 0, 2, 0, 2), (9, 0, 0, 5, 0)]);
+    let removal = operation(&[(7, 0, 0, 0, 0), (8, 0, 1, 0, 3), (8, 0, 2, 0, 2), (9, 0, 0, 5, 0)]);
     assert_eq!(map(&TWO).apply_deleted(&removal), 2);
     let half = operation(&remove_5((8, 0, 1, 0, 9)));
     assert_eq!(map(&TWO).apply_deleted(&half), 1);

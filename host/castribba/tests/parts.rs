@@ -3,9 +3,9 @@
 mod common;
 
 use castribba::{Entry, Map, Standing};
-use common::{clock, map, operation, most_entries, Line, M};
+use common::{clock, map, most_entries, operation, Line, M};
 
-/// Key 5: 7 under {1:1}, which 8 under {1:2} outdoes, and 9 under {2:1} beside both. Key 6: 3 twice
+/// Key 5: 7 under {1:1}, which 8 under {1:2}, from origin 7, outdoes, and 9 under {2:1} beside both. Key 6: 3 twice
 /// under one clock. Key 7: no value. Key 9: a value that no dot of the entry is in.
 const MANY: [Line; 20] = [
     (1, 0, 1, 0, 3),
@@ -16,11 +16,11 @@ const MANY: [Line; 20] = [
     (2, 0, 1, 7, 1),
     (2, 0, 1, 9, 3),
     (3, 0, 0, 5, 7),
-    (3, 1, 0, 5, 8),
+    (3, 1, 7, 5, 8),
     (3, 2, 0, 5, 9),
     (3, 0, 0, 6, 3),
     (3, 1, 0, 6, 3),
-    (3, 0, 0, 9, 1),
+    (3, 0, 65535, 9, 1),
     (4, 0, 1, 5, 1),
     (4, 1, 1, 5, 2),
     (4, 2, 2, 5, 1),
@@ -63,7 +63,7 @@ fn the_parts_of_many_maps() {
         let (actor, key) = (party as u16 + 1, below(5) as u32);
         let edit = match below(3) {
             0 => parties[party].rm_read_ctx(key),
-            _ => parties[party].update(actor, key, below(9)),
+            _ => parties[party].update(actor, key, below(9), 0),
         };
         let edit = edit.expect("an edit within the limits");
         // a refused one leaves the map as it is
@@ -106,7 +106,7 @@ fn who_wrote() {
     let entry = two.entry(5).expect("an entry");
     assert_eq!(entry.writers(&entry.values[0]).collect::<Vec<_>>(), [1]);
     // whether 2 had seen 1, or 1 had seen 2, no image says
-    two.apply(&two.update(2, 5, 41).expect("an update")).expect("an update that fits");
+    two.apply(&two.update(2, 5, 41, 0).expect("an update")).expect("an update that fits");
     let entry = two.entry(5).expect("an entry");
     assert_eq!(entry.writers(&entry.values[0]).collect::<Vec<_>>(), [1, 2]);
 }
@@ -137,13 +137,13 @@ fn maps_in_words() {
 seen: {1:3 2:1}
 key 5: 3 values
   7 by an actor whose update was removed, outdone by another
-  8 by actor 1, concurrent
+  8 by actor 1, origin 7, concurrent
   9 by actor 2, concurrent
 key 6: 2 values
   3 by actor 1, with the clock of another
   3 by actor 1, with the clock of another
 key 7: no value
-key 9: 1 by an actor whose update was removed
+key 9: 1 by an actor whose update was removed, origin 65535
 waiting: removal of no key, until {4:2} is seen";
     assert_eq!(map(&MANY).to_string(), words);
 }
@@ -158,4 +158,6 @@ fn operations_in_words() {
     let update = operation(&[(10, 0, 3, 5, 9), (11, 0, 0, 0, 7)]);
     assert_eq!(update.dot(), Some((3, 9)));
     assert_eq!(update.to_string(), "update 9 of actor 3: key 5 is 7, having seen {}");
+    let update = operation(&[(10, 0, 3, 5, 9), (11, 0, 8, 0, 7)]);
+    assert_eq!(update.to_string(), "update 9 of actor 3: key 5 is 7, origin 8, having seen {}");
 }

@@ -42,7 +42,7 @@ fn unrelated_records() {
 #[test]
 fn too_many_dots() {
     let eight: Vec<Line> = (0..8).map(|actor| (1, 0, actor, 0, 1)).collect();
-    assert_eq!(map(&eight).update(8, 5, 7), Err(Refusal::TooManyDots));
+    assert_eq!(map(&eight).update(8, 5, 7, 0), Err(Refusal::TooManyDots));
     let update = [(10, 0, 8, 5, 1), (11, 0, 0, 0, 7), (12, 0, 8, 0, 1)];
     assert_eq!(refused(&eight, &update), Refusal::TooManyDots);
 
@@ -54,7 +54,7 @@ fn too_many_dots() {
 
 #[test]
 fn too_many_values() {
-    let by = |actor| Map::new().update(actor, 5, u64::from(actor));
+    let by = |actor| Map::new().update(actor, 5, u64::from(actor), 0);
     let mut four = Map::new();
     for actor in 1..=4 {
         four.apply(&by(actor).unwrap()).unwrap();

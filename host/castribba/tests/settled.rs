@@ -3,7 +3,7 @@
 mod common;
 
 use castribba::{Map, Refusal};
-use common::{clock, map, operation, most_entries, Line, M};
+use common::{clock, map, most_entries, operation, Line, M};
 
 fn applied(before: &Map, op: &[Line]) -> Map {
     let mut after = before.clone();
@@ -95,7 +95,7 @@ fn w10_a_gap_in_an_entry() {
 #[test]
 fn w11_a_counter_at_its_largest() {
     let spent = map(&[(1, 0, 1, 0, u64::MAX)]);
-    assert_eq!(spent.update(1, 5, 7), Err(Refusal::CounterSpent));
+    assert_eq!(spent.update(1, 5, 7, 0), Err(Refusal::CounterSpent));
 }
 
 #[test]

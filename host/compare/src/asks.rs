@@ -2,6 +2,7 @@
 
 use crate::question::{Call, Question};
 use oracle::expected::Answer;
+use oracle::model::ValueAndOrigin;
 
 /// Generators of inputs hand their questions over by these methods.
 pub trait Asks {
@@ -22,7 +23,13 @@ pub trait Asks {
         self.ask(Question::of_two(Call::ResetRemove, map, clock))
     }
 
-    fn update(&mut self, map: &[u8], actor: u16, key: u32, value: u64) -> Option<Answer> {
+    fn update(
+        &mut self,
+        map: &[u8],
+        actor: u16,
+        key: u32,
+        value: ValueAndOrigin,
+    ) -> Option<Answer> {
         self.ask(Question { actor, key, value, ..Question::of_one(Call::Update, map) })
     }
 
@@ -51,7 +58,14 @@ pub trait Asks {
     }
 
     /// Every call that takes a map, the second image as whatever the call takes.
-    fn every_call(&mut self, map: &[u8], second: &[u8], actor: u16, key: u32, value: u64) {
+    fn every_call(
+        &mut self,
+        map: &[u8],
+        second: &[u8],
+        actor: u16,
+        key: u32,
+        value: ValueAndOrigin,
+    ) {
         self.apply(map, second);
         self.merge(map, second);
         self.reset_remove(map, second);

@@ -1,6 +1,7 @@
 //! Runs calls of the implementation under test and compares everything that they did.
 
 use crate::asks::Asks;
+use crate::generate::any_origin;
 use crate::panics::caught;
 use crate::pieces::Feeder;
 use crate::question::{dump, Call, Question};
@@ -233,8 +234,20 @@ impl Checker<'_> {
             if let Some(fault) = self.fault(question, &expected, room) {
                 self.differs(question, fault);
             }
+            if question.is_blind_to_origins() && self.random.one_in(4) {
+                self.compare_blindness(question, &expected, room);
+            }
         }
         Some(full)
+    }
+
+    /// With other origins in its images the answer stays: the loader's reports do not move.
+    fn compare_blindness(&mut self, question: &Question, expected: &Answer, room: usize) {
+        let random = &mut self.random;
+        let other = question.with_other_origins(|| any_origin(random));
+        if let Some(fault) = self.fault(&other, expected, room) {
+            self.differs(&other, format!("with other origins: {fault}"));
+        }
     }
 
     /// The boot loader on the question's map image, now and then: a bay, one that is none, or all.

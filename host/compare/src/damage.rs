@@ -1,5 +1,6 @@
 //! Images that are wrong somewhere: damaged copies of good ones, and single kinds around limits.
 
+use crate::generate::any_origin;
 use crate::random::Random;
 use oracle::image::{bytes_of, records_of, Record};
 use oracle::model::{MOST_DOTS, MOST_ENTRIES, MOST_KEYS, MOST_VALUES, MOST_WAITING};
@@ -7,14 +8,12 @@ use oracle::model::{MOST_DOTS, MOST_ENTRIES, MOST_KEYS, MOST_VALUES, MOST_WAITIN
 /// A record with small fields, well formed or nearly so.
 pub fn small_record(random: &mut Random) -> Record {
     let uses = |kind: u8| match kind {
-        1 | 8 | 12 => 10,
+        1 | 8 | 11 | 12 => 10,
         2 | 10 => 14,
-        3 => 13,
-        4 => 15,
+        3 | 4 => 15,
         5 => 11,
         6 => 5,
         9 => 4,
-        11 => 8,
         _ => 0,
     };
     let kind = random.below(14) as u8;
@@ -39,7 +38,7 @@ pub fn small_record(random: &mut Random) -> Record {
 pub fn damage(random: &mut Random, image: &[u8]) -> Vec<u8> {
     let mut bytes = image.to_vec();
     let mut records = records_of(image);
-    match random.below(13) {
+    match random.below(14) {
         0 if !bytes.is_empty() => {
             let place = random.below(bytes.len());
             bytes[place] ^= 1 << random.below(8);
@@ -83,6 +82,15 @@ pub fn damage(random: &mut Random, image: &[u8]) -> Vec<u8> {
                 records.sort_by_key(Record::place);
             }
         }
+        12 if records.iter().any(Record::holds_value) => {
+            // a second record for one value, its origin higher or lower: order skips it
+            let values: Vec<usize> =
+                (0..records.len()).filter(|place| records[*place].holds_value()).collect();
+            let place = *random.pick(&values);
+            let mut second = records[place];
+            second.actor = any_origin(random);
+            records.insert(place + random.below(2), second);
+        }
         _ => {
             let amount = random.between(1, 24);
             let kinds_of_good = random.one_in(2);
@@ -114,7 +122,7 @@ fn change_field(random: &mut Random, record: &mut Record) {
 
 /// Records of one kind alone, around its limits: whether 2 wins over 3 is up to the counting.
 pub fn lone_kind(random: &mut Random) -> Vec<u8> {
-    let kind = *random.pick(&[1u8, 2, 3, 4, 5, 6, 8, 9, 10, 12]);
+    let kind = *random.pick(&[1u8, 2, 3, 4, 5, 6, 8, 9, 10, 11, 12]);
     let around = |random: &mut Random, limit: usize| match random.below(6) {
         0 => 1,
         1 => limit - 1,
@@ -126,11 +134,7 @@ pub fn lone_kind(random: &mut Random) -> Vec<u8> {
         1 | 8 | 12 => (1, 1, around(random, MOST_DOTS)),
         2 => (around(random, MOST_ENTRIES), 1, around(random, MOST_DOTS)),
         3 => (around(random, MOST_ENTRIES), around(random, MOST_VALUES), 1),
-        4 => (
-            around(random, MOST_ENTRIES),
-            around(random, MOST_VALUES),
-            around(random, MOST_DOTS),
-        ),
+        4 => (around(random, MOST_ENTRIES), around(random, MOST_VALUES), around(random, MOST_DOTS)),
         5 => (1, around(random, MOST_WAITING), around(random, MOST_DOTS)),
         6 => (around(random, MOST_KEYS), around(random, MOST_WAITING), 1),
         9 => (around(random, MOST_KEYS), 1, 1),
@@ -138,8 +142,8 @@ pub fn lone_kind(random: &mut Random) -> Vec<u8> {
     };
     let uses_key = matches!(kind, 2 | 3 | 4 | 6 | 9 | 10);
     let uses_index = matches!(kind, 3..=6);
-    let uses_actor = matches!(kind, 1 | 2 | 4 | 5 | 8 | 10 | 12);
     let uses_number = !matches!(kind, 6 | 9);
+    let holds_value = matches!(kind, 3 | 11);
     // distinct indexes are counted, not how high they are; the highest is below 256
     let step = if random.one_in(3) { random.between(2, 14) as u8 } else { 1 };
     let sparse = random.one_in(2);
@@ -153,7 +157,11 @@ pub fn lone_kind(random: &mut Random) -> Vec<u8> {
                 records.push(Record {
                     kind,
                     index: if uses_index { index as u8 * step } else { 0 },
-                    actor: if uses_actor { actor as u16 + 1 } else { 0 },
+                    actor: match holds_value {
+                        true => any_origin(random),
+                        false if uses_number => actor as u16 + 1,
+                        false => 0,
+                    },
                     key: if uses_key { key as u32 + 5 } else { 0 },
                     number: u64::from(uses_number),
                 });

@@ -2,11 +2,21 @@
 
 use crate::random::Random;
 use oracle::model::{
-    counter, cut, Clock, Entry, Map, Operation, MOST_DOTS, MOST_ENTRIES, MOST_KEYS, MOST_VALUES,
-    MOST_WAITING,
+    counter, cut, Clock, Entry, Map, Operation, ValueAndOrigin, MOST_DOTS, MOST_ENTRIES, MOST_KEYS,
+    MOST_VALUES, MOST_WAITING,
 };
 use oracle::published;
 use std::collections::{BTreeMap, BTreeSet};
+
+/// An origin code: often a small one or none, so that equal ones meet different values.
+pub fn any_origin(random: &mut Random) -> u16 {
+    match random.below(8) {
+        0..=2 => 0,
+        3..=5 => random.between(1, 2) as u16,
+        6 => *random.pick(&[0x00FF, 0x0100, u16::MAX]),
+        _ => random.next() as u16,
+    }
+}
 
 /// How many things there are where a limit allows so many.
 #[derive(Clone, Copy)]
@@ -139,13 +149,14 @@ impl Taste {
         *random.pick(&self.counters)
     }
 
-    pub fn value(&self, random: &mut Random) -> u64 {
-        match random.below(4) {
+    pub fn value(&self, random: &mut Random) -> ValueAndOrigin {
+        let value = match random.below(4) {
             0 => 0,
             1 => u64::MAX,
             2 => random.next(),
             _ => 7,
-        }
+        };
+        (value, any_origin(random))
     }
 
     pub fn clock(&self, random: &mut Random) -> Clock {
@@ -195,9 +206,9 @@ impl Taste {
         clock
     }
 
-    fn register(&self, random: &mut Random, entry_clock: &Clock) -> Vec<(Clock, u64)> {
+    fn register(&self, random: &mut Random, entry_clock: &Clock) -> Vec<(Clock, ValueAndOrigin)> {
         let amount = self.values.amount(random, MOST_VALUES);
-        let mut values: Vec<(Clock, u64)> = Vec::new();
+        let mut values: Vec<(Clock, ValueAndOrigin)> = Vec::new();
         for _ in 0..amount {
             let clock = match random.below(6) {
                 0 => entry_clock.clone(),

@@ -1,6 +1,7 @@
 //! Long histories of three replicas whose operations arrive late, twice and in another order.
 
 use crate::asks::Asks;
+use crate::generate::any_origin;
 use crate::random::Random;
 use oracle::image::{clock_image, map_image, operation_image, read_map, read_operation};
 use oracle::model::{Map, Operation};
@@ -65,7 +66,7 @@ impl History {
 
     fn make_update(&mut self, random: &mut Random, asks: &mut dyn Asks, at: usize) {
         let actor = (at * self.actors_each + random.below(self.actors_each) + 1) as u16;
-        let (key, value) = (self.key(random), random.next() % 100);
+        let (key, value) = (self.key(random), (random.next() % 100, any_origin(random)));
         if let Some(answer) = asks.update(&self.maps[at], actor, key, value) {
             if answer.number == 0 {
                 self.publish(random, asks, at, answer.bytes);

@@ -2,7 +2,8 @@
 
 use calls::Calls;
 use oracle::expected::{self, Answer};
-use oracle::image::records_of;
+use oracle::image::{bytes_of, records_of, RECORD_LENGTH};
+use oracle::model::ValueAndOrigin;
 use std::fmt;
 
 #[derive(Clone, Copy, Debug, PartialEq, Eq, PartialOrd, Ord)]
@@ -98,17 +99,17 @@ pub struct Question {
     pub images: Vec<Vec<u8>>,
     pub actor: u16,
     pub key: u32,
-    pub value: u64,
+    pub value: ValueAndOrigin,
 }
 
 impl Question {
     pub fn of_one(call: Call, map: &[u8]) -> Question {
-        Question { call, images: vec![map.to_vec()], actor: 0, key: 0, value: 0 }
+        Question { call, images: vec![map.to_vec()], actor: 0, key: 0, value: (0, 0) }
     }
 
     pub fn of_two(call: Call, first: &[u8], second: &[u8]) -> Question {
         let images = vec![first.to_vec(), second.to_vec()];
-        Question { call, images, actor: 0, key: 0, value: 0 }
+        Question { call, images, actor: 0, key: 0, value: (0, 0) }
     }
 
     /// What must be answered, given room enough. An error is a disagreement of the published
@@ -147,7 +148,10 @@ impl Question {
                 let deleted = calls.reset_remove_deleted(first, second, out.len());
                 (calls.reset_remove(first, second, out), vec![deleted])
             }
-            Call::Update => (calls.update(first, self.actor, self.key, self.value, out), vec![]),
+            Call::Update => {
+                let (value, origin) = self.value;
+                (calls.update(first, self.actor, self.key, value, origin, out), vec![])
+            }
             Call::RmGet => (calls.rm_get(first, self.key, out), vec![]),
             Call::RmReadCtx => (calls.rm_read_ctx(first, self.key, out), vec![]),
             Call::Get => (calls.get(first, self.key, out), vec![]),
@@ -173,6 +177,24 @@ impl Question {
         }
     }
 
+    /// Whether no origin of a value in the images has any part in the answer.
+    pub fn is_blind_to_origins(&self) -> bool {
+        !matches!(self.call, Call::Apply | Call::Merge | Call::ResetRemove | Call::Get)
+    }
+
+    /// The same question, where each value's origin in the images is another, or by chance the same.
+    pub fn with_other_origins(&self, mut origin: impl FnMut() -> u16) -> Question {
+        let changed = |image: &Vec<u8>| {
+            let mut records = records_of(image);
+            for record in records.iter_mut().filter(|record| record.holds_value()) {
+                record.actor = origin();
+            }
+            let behind = &image[records.len() * RECORD_LENGTH..];
+            [&bytes_of(&records)[..], behind].concat()
+        };
+        Question { images: self.images.iter().map(changed).collect(), ..self.clone() }
+    }
+
     /// Whether the call has an output buffer.
     pub fn writes(&self) -> bool {
         !matches!(self.call, Call::Len | Call::ValidateOp | Call::ValidateMerge)
@@ -195,7 +217,9 @@ impl fmt::Display for Question {
     fn fmt(&self, f: &mut fmt::Formatter<'_>) -> fmt::Result {
         write!(f, "{}", self.call.name())?;
         if self.call == Call::Update {
-            write!(f, " by actor {} of key {} to {}", self.actor, self.key, self.value)?;
+            let (value, origin) = self.value;
+            write!(f, " by actor {} of key {} to {value}", self.actor, self.key)?;
+            write!(f, ", origin {origin}")?;
         } else if matches!(self.call, Call::RmGet | Call::RmReadCtx | Call::Get | Call::Bay) {
             write!(f, " of key {}", self.key)?;
         }

@@ -2,21 +2,24 @@
 
 use crate::panics::caught;
 use crate::random::Random;
-use oracle::model::Clock;
+use oracle::model::{Clock, ValueAndOrigin};
 use oracle::published::register_in;
 
-fn random_register(random: &mut Random) -> Vec<(Clock, u64)> {
+fn random_register(random: &mut Random) -> Vec<(Clock, ValueAndOrigin)> {
     let amount = random.below(5);
     (0..amount)
         .map(|_| {
             let clock = Clock::from([(random.below(2) as u16, random.between(1, 2) as u64)]);
-            (clock, random.below(2) as u64)
+            (clock, (random.below(2) as u64, random.below(2) as u16))
         })
         .collect()
 }
 
 /// A register that holds one of another's pairs once more or once less, as a cut can leave it.
-fn with_another_count(random: &mut Random, values: &[(Clock, u64)]) -> Vec<(Clock, u64)> {
+fn with_another_count(
+    random: &mut Random,
+    values: &[(Clock, ValueAndOrigin)],
+) -> Vec<(Clock, ValueAndOrigin)> {
     let mut changed = values.to_vec();
     if !changed.is_empty() {
         let place = random.below(changed.len());
@@ -29,15 +32,28 @@ fn with_another_count(random: &mut Random, values: &[(Clock, u64)]) -> Vec<(Cloc
     changed
 }
 
+/// A register that differs in one origin alone.
+fn with_another_origin(
+    random: &mut Random,
+    values: &[(Clock, ValueAndOrigin)],
+) -> Vec<(Clock, ValueAndOrigin)> {
+    let mut changed = values.to_vec();
+    if !changed.is_empty() {
+        let place = random.below(changed.len());
+        changed[place].1 .1 ^= 1 << random.below(16);
+    }
+    changed
+}
+
 /// How many times a pair occurs.
-fn times(values: &[(Clock, u64)], pair: &(Clock, u64)) -> usize {
+fn times(values: &[(Clock, ValueAndOrigin)], pair: &(Clock, ValueAndOrigin)) -> usize {
     values.iter().filter(|other| *other == pair).count()
 }
 
-fn plain_register(values: &[(Clock, u64)]) -> plain::Register {
+fn plain_register(values: &[(Clock, ValueAndOrigin)]) -> plain::Register {
     let mut register = plain::Register::EMPTY;
-    for (clock, value) in values {
-        let mut held = plain::Value { clock: plain::Clock::EMPTY, value: *value };
+    for (clock, (value, origin)) in values {
+        let mut held = plain::Value { clock: plain::Clock::EMPTY, value: *value, origin: *origin };
         for (actor, counter) in clock {
             held.clock.add(plain::Dot { actor: *actor, counter: *counter });
         }
@@ -54,16 +70,18 @@ pub fn compare_equality(random: &mut Random, pairs: u64) -> u64 {
     let (mut differences, mut panics, mut repeated) = (0, 0, 0);
     for _ in 0..pairs {
         let ours = random_register(random);
-        let mut theirs = match random.below(3) {
+        let mut theirs = match random.below(4) {
             0 => ours.clone(),
             1 => with_another_count(random, &ours),
+            2 => with_another_origin(random, &ours),
             _ => random_register(random),
         };
         let turn = random.below(theirs.len() + 1);
         theirs.rotate_left(turn);
         let rule =
             ours.iter().chain(&theirs).all(|pair| times(&ours, pair) == times(&theirs, pair));
-        let repeats = |values: &[(Clock, u64)]| values.iter().any(|pair| times(values, pair) > 1);
+        let repeats =
+            |values: &[(Clock, ValueAndOrigin)]| values.iter().any(|pair| times(values, pair) > 1);
         repeated += u64::from(repeats(&ours) || repeats(&theirs));
         let (one, another) = (register_in(&ours), register_in(&theirs));
         let published = caught(|| one == another);

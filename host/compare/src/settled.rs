@@ -101,7 +101,7 @@ pub fn failed_examples(calls: &dyn Calls) -> u32 {
     }
 
     let spent = image(&[(1, 0, 1, 0, u64::MAX)]);
-    let answer = examples.out(|calls, out| calls.update(&spent, 1, 5, 7, out));
+    let answer = examples.out(|calls, out| calls.update(&spent, 1, 5, 7, 0, out));
     examples.is("W11", answer, 9, &[]);
 
     // a register stands in an entry here, and the put comes with an unseen dot of actor 2
@@ -118,7 +118,34 @@ pub fn failed_examples(calls: &dyn Calls) -> u32 {
     examples.is("W12", answer, 0, &after);
 
     update_across_removal(&mut examples);
+    origins(&mut examples);
     examples.failed
+}
+
+/// 02's words on origins: the code moves with its value, and a second record for one value is malformed.
+fn origins(examples: &mut Examples) {
+    let set = [(10, 0, 1, 5, 1), (11, 0, 0x0201, 0, 40), (12, 0, 1, 0, 1)];
+    let answer = examples.out(|calls, out| calls.update(&[], 1, 5, 40, 0x0201, out));
+    examples.is("an update with an origin", answer, 0, &set);
+    let mut set_map = M;
+    set_map[2] = (3, 0, 0x0201, 5, 40);
+    let answer = examples.apply(&[], &set);
+    examples.is("its put", answer, 0, &set_map);
+    let without = &set_map[..1];
+    let answer = examples.out(|calls, out| calls.merge(&image(&set_map), &image(&M), out));
+    examples.is("a merge with the same clocks keeps ours", answer, 0, &set_map);
+    let answer = examples.out(|calls, out| calls.merge(&image(&M), &image(&set_map), out));
+    examples.is("a merge with the same clocks, from the other side", answer, 0, &M);
+    let answer = examples.out(|calls, out| calls.merge(&image(&set_map), &image(without), out));
+    examples.is("a merge with one that has removed it", answer, 0, without);
+    for (one, another) in [(0, 1), (1, 0), (1, 1)] {
+        let twice = [M[0], M[1], (3, 0, one, 5, 40), (3, 0, another, 5, 40), M[3]];
+        let answer = examples.apply(&twice, &set);
+        examples.is("two records for one value", answer, 1, &[]);
+        let twice = [set[0], (11, 0, one, 0, 40), (11, 0, another, 0, 40), set[2]];
+        let answer = examples.apply(&M, &twice);
+        examples.is("two records for one put", answer, 1, &[]);
+    }
 }
 
 /// 01's first error that looks right: an update and a removal of its key do not cross.

@@ -2,7 +2,7 @@
 
 use crate::asks::Asks;
 use calls::{LONGEST_CLOCK, LONGEST_MAP, LONGEST_OPERATION};
-use oracle::image::{bytes_of, clock_image, operation_image, read_map, Record};
+use oracle::image::{bytes_of, clock_image, operation_image, read_map, records_of, Record};
 use oracle::model::{Clock, Operation};
 use std::collections::BTreeSet;
 
@@ -24,7 +24,7 @@ fn any_records() -> Vec<Record> {
     records
 }
 
-/// Well-formed map records over two actors, two keys, two indexes and two counters.
+/// Well-formed map records over two actors, two keys, two indexes, two counters and two origins.
 fn map_records() -> Vec<Record> {
     let mut records = Vec::new();
     let none = Record::default();
@@ -48,7 +48,9 @@ fn map_records() -> Vec<Record> {
     }
     for index in 0..=1 {
         for key in 5..=6 {
-            records.push(Record { kind: 3, index, key, number: 7, ..none });
+            for origin in 0..=1 {
+                records.push(Record { kind: 3, index, actor: origin, key, number: 7 });
+            }
             records.push(Record { kind: 6, index, key, ..none });
         }
     }
@@ -99,7 +101,7 @@ fn small_operations() -> Vec<Vec<u8>> {
                     counter,
                     key: 5,
                     put_clock: clock.clone(),
-                    put_value: 8,
+                    put_value: (8, counter as u16 - 1),
                 });
             }
         }
@@ -110,11 +112,11 @@ fn small_operations() -> Vec<Vec<u8>> {
 /// All images of at most two arbitrary records, as a map, an operation and a clock.
 pub fn short_images(asks: &mut dyn Asks) {
     let records = any_records();
-    asks.every_call(&[], &[], 1, 5, 7);
+    asks.every_call(&[], &[], 1, 5, (7, 1));
     for first in &records {
         let one = bytes_of(&[*first]);
-        asks.every_call(&one, &[], 1, 5, 7);
-        asks.every_call(&[], &one, 1, 5, 7);
+        asks.every_call(&one, &[], 1, 5, (7, 1));
+        asks.every_call(&[], &one, 1, 5, (7, 1));
         for second in &records {
             let two = bytes_of(&[*first, *second]);
             asks.len(&two);
@@ -141,8 +143,8 @@ pub fn every_length(asks: &mut dyn Asks) {
         image
     };
     for length in 0..=map.len() + 17 {
-        asks.every_call(&resized(&map, length), &map, 1, 5, 7);
-        asks.every_call(&map, &resized(&map, length), 1, 5, 7);
+        asks.every_call(&resized(&map, length), &map, 1, 5, (7, 1));
+        asks.every_call(&map, &resized(&map, length), 1, 5, (7, 1));
     }
     for length in 0..=removal.len() + 17 {
         asks.apply(&map, &resized(&removal, length));
@@ -155,8 +157,8 @@ pub fn every_length(asks: &mut dyn Asks) {
         for length in longest - 15..=longest + 18 {
             // form is bad everywhere here, so only the length can answer 2
             let zeros = vec![0; length];
-            asks.every_call(&zeros, &map, 1, 5, 7);
-            asks.every_call(&map, &zeros, 1, 5, 7);
+            asks.every_call(&zeros, &map, 1, 5, (7, 1));
+            asks.every_call(&map, &zeros, 1, 5, (7, 1));
         }
     }
 }
@@ -185,7 +187,7 @@ pub fn small_maps(asks: &mut dyn Asks) {
             asks.validate_op(map, operation);
         }
         for actor in 1..=3 {
-            asks.update(map, actor, 5, 9);
+            asks.update(map, actor, 5, (9, actor - 1));
         }
         for key in 5..=7 {
             asks.rm_get(map, key);
@@ -193,7 +195,9 @@ pub fn small_maps(asks: &mut dyn Asks) {
             asks.get(map, key);
         }
     }
-    let shortest: Vec<&Vec<u8>> = good.iter().filter(|map| map.len() <= 3 * 16).collect();
+    let has_value = |map: &[u8]| records_of(map).iter().any(Record::holds_value);
+    let shortest: Vec<&Vec<u8>> =
+        good.iter().filter(|map| map.len() <= 3 * 16 || has_value(map)).collect();
     for map in &shortest {
         for other in &shortest {
             asks.merge(map, other);

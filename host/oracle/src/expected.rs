@@ -2,7 +2,7 @@
 
 use crate::bays::{report, BAYS};
 use crate::image::{map_image, operation_image, read_clock, read_map, read_operation};
-use crate::model::{Map, Operation};
+use crate::model::{Map, Operation, ValueAndOrigin};
 use crate::published;
 
 #[derive(Clone, Debug, Default, PartialEq, Eq)]
@@ -94,7 +94,7 @@ pub fn reset_remove(map: &[u8], clock: &[u8]) -> Result<Answer, String> {
     }
 }
 
-pub fn update(map: &[u8], actor: u16, key: u32, value: u64) -> Answer {
+pub fn update(map: &[u8], actor: u16, key: u32, value: ValueAndOrigin) -> Answer {
     after_reading(|| {
         let operation = published::update(&read_map(map)?, actor, key, value).ok_or(9u32)?;
         Ok(written_operation(&operation))

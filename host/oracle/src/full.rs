@@ -35,7 +35,7 @@ fn entry_of(sizes: &Sizes, base: u64) -> Entry {
     let values = (1..=sizes.values)
         .map(|place| {
             let clock = clock_of(sizes.actors, |actor| base + u64::from(actor == place));
-            (clock, base + u64::from(place))
+            (clock, (base + u64::from(place), place))
         })
         .collect();
     Entry { clock: clock_of(sizes.actors, |actor| base + u64::from(actor)), values }

@@ -52,23 +52,19 @@ impl Record {
         bytes
     }
 
-    /// What records ascend by.
+    /// A value's record, which has an origin code where others have an actor.
+    pub fn holds_value(&self) -> bool {
+        matches!(self.kind, VALUE | PUT_VALUE)
+    }
+
+    /// What records ascend by: an origin has no part in it.
     pub fn place(&self) -> (u8, u32, u8, u16) {
-        (self.kind, self.key, self.index, self.actor)
+        (self.kind, self.key, self.index, if self.holds_value() { 0 } else { self.actor })
     }
 
     fn unused_fields_are_zero(&self) -> bool {
         let uses_index = matches!(self.kind, VALUE | VALUE_DOT | WAITING_DOT | WAITING_KEY);
-        let uses_actor = matches!(
-            self.kind,
-            MAP_CLOCK_DOT
-                | ENTRY_DOT
-                | VALUE_DOT
-                | WAITING_DOT
-                | REMOVAL_DOT
-                | UPDATE_HEAD
-                | PUT_DOT
-        );
+        let uses_actor = !matches!(self.kind, WAITING_KEY | REMOVAL_HEAD | REMOVAL_KEY);
         let uses_key = matches!(
             self.kind,
             ENTRY_DOT | VALUE | VALUE_DOT | WAITING_KEY | REMOVAL_KEY | UPDATE_HEAD
@@ -226,7 +222,7 @@ fn related_map(records: &[Record]) -> Option<Map> {
                     .filter(|r| (r.key, r.index) == (key, value.index))
                     .copied()
                     .collect();
-                (clock_of(&dots), value.number)
+                (clock_of(&dots), (value.number, value.actor))
             })
             .collect(),
     };
@@ -267,7 +263,7 @@ fn related_operation(records: &[Record]) -> Option<Operation> {
             counter: head.number,
             key: head.key,
             put_clock: clock_of(&of_kind(records, PUT_DOT)),
-            put_value: put_value.number,
+            put_value: (put_value.number, put_value.actor),
         })
     }
 }
@@ -327,16 +323,14 @@ pub fn map_image(map: &Map) -> Vec<u8> {
     let mut records = dots(MAP_CLOCK_DOT, 0, 0, &map.clock);
     for (key, entry) in &map.entries {
         records.extend(dots(ENTRY_DOT, 0, *key, &entry.clock));
-        for (index, (clock, value)) in entry.values.iter().enumerate() {
-            let index_byte = index as u8;
-            let value = Record {
+        for (index, (clock, (value, origin))) in entry.values.iter().enumerate() {
+            records.push(Record {
                 kind: VALUE,
-                index: index_byte,
+                index: index as u8,
+                actor: *origin,
                 key: *key,
                 number: *value,
-                ..Record::default()
-            };
-            records.push(value);
+            });
             records.extend(dots(VALUE_DOT, index, *key, clock));
         }
     }
@@ -372,7 +366,8 @@ pub fn operation_image(operation: &Operation) -> Vec<u8> {
                 number: *counter,
                 ..Record::default()
             };
-            let value = Record { kind: PUT_VALUE, number: *put_value, ..Record::default() };
+            let (number, origin) = *put_value;
+            let value = Record { kind: PUT_VALUE, actor: origin, number, ..Record::default() };
             let mut records = vec![head, value];
             records.extend(dots(PUT_DOT, 0, 0, put_clock));
             in_order(records)

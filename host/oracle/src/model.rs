@@ -5,10 +5,13 @@ use std::collections::{BTreeMap, BTreeSet};
 /// Its `Ord` is the order of waiting clocks: pair by pair (actor, then counter), a prefix first.
 pub type Clock = BTreeMap<u16, u64>;
 
+/// A value with its origin code: the pair is the published register's value.
+pub type ValueAndOrigin = (u64, u16);
+
 #[derive(Clone, Debug, Default, PartialEq, Eq)]
 pub struct Entry {
     pub clock: Clock,
-    pub values: Vec<(Clock, u64)>,
+    pub values: Vec<(Clock, ValueAndOrigin)>,
 }
 
 #[derive(Clone, Debug, Default, PartialEq, Eq)]
@@ -21,7 +24,7 @@ pub struct Map {
 #[derive(Clone, Debug, PartialEq, Eq)]
 pub enum Operation {
     Removal { clock: Clock, keys: BTreeSet<u32> },
-    Update { actor: u16, counter: u64, key: u32, put_clock: Clock, put_value: u64 },
+    Update { actor: u16, counter: u64, key: u32, put_clock: Clock, put_value: ValueAndOrigin },
 }
 
 pub const MOST_DOTS: usize = 8;

@@ -1,11 +1,11 @@
 //! The published crate crdts: maps put in and taken out, and each of its calls on them.
 
-use crate::model::{counter, cut, Clock, Entry, Map, Operation};
+use crate::model::{counter, cut, Clock, Entry, Map, Operation, ValueAndOrigin};
 use crate::tree::{from_tree, to_tree, Tree};
 use crdts::{mvreg, CmRDT, CvRDT, Dot, MVReg, ResetRemove, VClock};
 use std::collections::{BTreeMap, BTreeSet};
 
-pub type PublishedRegister = MVReg<u64, u16>;
+pub type PublishedRegister = MVReg<ValueAndOrigin, u16>;
 pub type PublishedMap = crdts::Map<u32, PublishedRegister, u16>;
 pub type PublishedOperation = crdts::map::Op<u32, PublishedRegister, u16>;
 
@@ -21,15 +21,15 @@ fn clock_tree(clock: &Clock) -> Tree {
     Tree::List(vec![Tree::Table(dots)])
 }
 
-fn register_tree(values: &[(Clock, u64)]) -> Tree {
+fn register_tree(values: &[(Clock, ValueAndOrigin)]) -> Tree {
     let values = values
         .iter()
-        .map(|(clock, value)| Tree::List(vec![clock_tree(clock), Tree::Number(*value)]))
+        .map(|(clock, value)| Tree::List(vec![clock_tree(clock), to_tree(value)]))
         .collect();
     Tree::List(vec![Tree::List(values)])
 }
 
-pub fn register_in(values: &[(Clock, u64)]) -> PublishedRegister {
+pub fn register_in(values: &[(Clock, ValueAndOrigin)]) -> PublishedRegister {
     from_tree(register_tree(values))
 }
 
@@ -80,16 +80,16 @@ fn clock_of(tree: Tree) -> Clock {
     dots.table().into_iter().map(|(actor, counter)| (actor_of(actor), counter.number())).collect()
 }
 
-fn values_of(tree: Tree) -> Vec<(Clock, u64)> {
+fn values_of(tree: Tree) -> Vec<(Clock, ValueAndOrigin)> {
     let [values] = tree.fields();
     let pair = |value: Tree| {
         let [clock, value] = value.fields();
-        (clock_of(clock), value.number())
+        (clock_of(clock), from_tree(value))
     };
     values.list().into_iter().map(pair).collect()
 }
 
-pub fn register_out(register: &PublishedRegister) -> Vec<(Clock, u64)> {
+pub fn register_out(register: &PublishedRegister) -> Vec<(Clock, ValueAndOrigin)> {
     values_of(to_tree(register))
 }
 
@@ -206,7 +206,7 @@ pub fn validate_merge(map: &Map, other: &Map) -> Option<(u16, u64, u32, u32)> {
 }
 
 /// None at 2^64-1, where the published crate overflows and document 01 answers 9.
-pub fn update(map: &Map, actor: u16, key: u32, value: u64) -> Option<Operation> {
+pub fn update(map: &Map, actor: u16, key: u32, value: ValueAndOrigin) -> Option<Operation> {
     if counter(&map.clock, actor) == u64::MAX {
         return None;
     }

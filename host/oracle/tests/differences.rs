@@ -10,12 +10,13 @@ fn clock<const N: usize>(dots: [(u16, u64); N]) -> Clock {
 }
 
 fn update(actor: u16, counter: u64) -> Operation {
-    Operation::Update { actor, counter, key: 5, put_clock: Clock::new(), put_value: 0 }
+    Operation::Update { actor, counter, key: 5, put_clock: Clock::new(), put_value: (0, 0) }
 }
 
 #[test]
 fn maps_come_out_as_they_went_in() {
-    let entry = Entry { clock: clock([(1, 2)]), values: vec![(clock([(3, 9)]), u64::MAX)] };
+    let entry =
+        Entry { clock: clock([(1, 2)]), values: vec![(clock([(3, 9)]), (u64::MAX, u16::MAX))] };
     let map = Map {
         clock: clock([(1, 2), (65535, u64::MAX)]),
         entries: BTreeMap::from([(u32::MAX, entry), (5, Entry::default())]),
@@ -55,12 +56,12 @@ fn equal_waiting_clocks_after_a_reset() {
 /// pair before a missing one.
 #[test]
 fn repeated_pairs_in_register_equality() {
-    let pair = (clock([(1, 1)]), 7);
+    let pair = (clock([(1, 1)]), (7, 3));
     let twice = published::register_in(&[pair.clone(), pair.clone()]);
     let once = published::register_in(&[pair]);
     assert!(catch_unwind(|| once == twice).is_err());
     assert!(catch_unwind(|| twice == once).is_err());
-    let other = published::register_in(&[(clock([(1, 2)]), 7)]);
+    let other = published::register_in(&[(clock([(1, 2)]), (7, 3))]);
     assert!(twice != other, "a missing pair that is met first is just unequal");
 }
 
@@ -83,5 +84,5 @@ fn making_an_update_at_the_last_counter() {
     let published_map = published::map_in(&map);
     let make = || published_map.read_ctx().derive_add_ctx(1).dot.counter;
     assert!(catch_unwind(make).is_err());
-    assert_eq!(published::update(&map, 1, 5, 0), None);
+    assert_eq!(published::update(&map, 1, 5, (0, 0)), None);
 }

@@ -22,7 +22,11 @@ pub fn castribba_apply(map: &[u8], op: &[u8], out: &mut [u8]) -> u64 {
 }
 
 /// How many dots a change deletes from entry clocks, where its answer has room in so many bytes.
-fn deleted(map: &[u8], room: usize, change: impl FnOnce(&mut Map) -> Result<(), u32>) -> Result<u64, u32> {
+fn deleted(
+    map: &[u8],
+    room: usize,
+    change: impl FnOnce(&mut Map) -> Result<(), u32>,
+) -> Result<u64, u32> {
     let mut ours = Map::EMPTY;
     read_map_into(map, &mut ours)?;
     let before = ours.entry_dots();
@@ -60,11 +64,18 @@ pub fn castribba_reset_remove_deleted(map: &[u8], clock: &[u8], out_len: usize) 
     deleted(map, out_len, |ours| ours.reset_remove(&read_clock(clock)?)).unwrap_or(0)
 }
 
-pub fn castribba_update(map: &[u8], actor: u16, key: u32, value: u64, out: &mut [u8]) -> u64 {
+pub fn castribba_update(
+    map: &[u8],
+    actor: u16,
+    key: u32,
+    value: u64,
+    origin: u16,
+    out: &mut [u8],
+) -> u64 {
     word(|| {
         let mut ours = Map::EMPTY;
         read_map_into(map, &mut ours)?;
-        write_op(&ours.update(actor, key, value)?, out)
+        write_op(&ours.update(actor, key, value, origin)?, out)
     })
 }
 

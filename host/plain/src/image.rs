@@ -27,7 +27,7 @@ const USES_KEY: u8 = 4;
 const USES_NUMBER: u8 = 8;
 
 /// The fields that each kind may use; there is no kind 0.
-const FIELDS: [u8; 13] = [0, 10, 14, 13, 15, 11, 5, 0, 10, 4, 14, 8, 10];
+const FIELDS: [u8; 13] = [0, 10, 14, 15, 15, 11, 5, 0, 10, 4, 14, 10, 10];
 
 #[derive(Clone, Copy)]
 struct Record {
@@ -58,17 +58,23 @@ impl Record {
         bytes[8..16].copy_from_slice(&self.number.to_le_bytes());
     }
 
-    /// Kind, key, index and actor in one number: what records ascend by.
+    /// A value's record, which has an origin where others have an actor.
+    fn holds_value(&self) -> bool {
+        matches!(self.kind, VALUE | PUT_VALUE)
+    }
+
+    /// Kind, key, index and actor in one number: what records ascend by. An origin has no part in it.
     fn place(&self) -> u64 {
+        let actor = if self.holds_value() { 0 } else { self.actor };
         u64::from(self.kind) << 56
             | u64::from(self.key) << 24
             | u64::from(self.index) << 16
-            | u64::from(self.actor)
+            | u64::from(actor)
     }
 
     fn is_well_formed(&self) -> bool {
         let fields = FIELDS[usize::from(self.kind)];
-        let is_counter = fields & (USES_ACTOR | USES_NUMBER) == USES_ACTOR | USES_NUMBER;
+        let is_counter = fields & USES_NUMBER != 0 && !self.holds_value();
         (fields & USES_INDEX != 0 || self.index == 0)
             && (fields & USES_ACTOR != 0 || self.actor == 0)
             && (fields & USES_KEY != 0 || self.key == 0)
@@ -78,6 +84,11 @@ impl Record {
 
     fn dot(&self) -> Dot {
         Dot { actor: self.actor, counter: self.number }
+    }
+
+    /// A value whose clock is still to come.
+    fn value(&self) -> Value {
+        Value { clock: Clock::EMPTY, value: self.number, origin: self.actor }
     }
 }
 
@@ -219,7 +230,7 @@ fn add_records(bytes: &[u8], map: &mut Map) -> Option<()> {
                 if usize::from(record.index) != entry.register.len {
                     return None;
                 }
-                entry.register.push(&Value { clock: Clock::EMPTY, value: record.number });
+                entry.register.push(&record.value());
             }
             VALUE_DOT => {
                 let entry = walk_to(map, &mut of_dots, record.key)?;
@@ -292,7 +303,7 @@ fn removal_of(records: impl Iterator<Item = Record>) -> Option<Operation> {
 fn update_of(head: Record, mut records: impl Iterator<Item = Record>) -> Option<Operation> {
     // the put value comes right behind the head, and order allows only one
     let value = records.next().filter(|record| record.kind == PUT_VALUE)?;
-    let mut put = Value { clock: Clock::EMPTY, value: value.number };
+    let mut put = value.value();
     for record in records {
         put.clock.push(record.dot())?;
     }
@@ -357,7 +368,7 @@ pub fn write_map(map: &Map, out: &mut [u8]) -> Result<usize, u32> {
     }
     for entry in map.entries() {
         for (index, value) in entry.register.values().iter().enumerate() {
-            writer.record(VALUE, index, 0, entry.key, value.value);
+            writer.record(VALUE, index, value.origin, entry.key, value.value);
         }
     }
     for entry in map.entries() {
@@ -409,7 +420,7 @@ pub fn write_op(operation: &Operation, out: &mut [u8]) -> Result<usize, u32> {
         }
         Operation::Update { dot, key, put } => {
             writer.record(UPDATE_HEAD, 0, dot.actor, *key, dot.counter);
-            writer.record(PUT_VALUE, 0, 0, 0, put.value);
+            writer.record(PUT_VALUE, 0, put.origin, 0, put.value);
             writer.clock(PUT_DOT, 0, 0, &put.clock);
         }
     }

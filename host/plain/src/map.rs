@@ -443,12 +443,12 @@ impl Map {
     }
 
     /// Makes an update; the map is not changed.
-    pub fn update(&self, actor: u16, key: u32, value: u64) -> Result<Operation, u32> {
+    pub fn update(&self, actor: u16, key: u32, value: u64, origin: u16) -> Result<Operation, u32> {
         let counter = self.clock.counter(actor).checked_add(1).ok_or(number::COUNTER_SPENT)?;
         let dot = Dot { actor, counter };
         let mut clock = self.clock;
         clock.add(dot).ok_or(number::OVER_DOTS)?;
-        Ok(Operation::Update { dot, key, put: Value { clock, value } })
+        Ok(Operation::Update { dot, key, put: Value { clock, value, origin } })
     }
 
     /// Makes a removal of the key under its entry clock, empty where there is no entry.

@@ -6,10 +6,12 @@ use crate::{Clock, MOST_VALUES};
 pub struct Value {
     pub clock: Clock,
     pub value: u64,
+    /// Who set it: it moves with the value and decides nothing.
+    pub origin: u16,
 }
 
 impl Value {
-    pub const NONE: Value = Value { clock: Clock::EMPTY, value: 0 };
+    pub const NONE: Value = Value { clock: Clock::EMPTY, value: 0, origin: 0 };
 }
 
 /// A stored register has room for 4 values; one in work has room for 8 (4 and 4 merged, or 4 and
@@ -71,7 +73,7 @@ impl<const ROOM: usize> Register<ROOM> {
         }
     }
 
-    /// Equality ignores order: every value with its clock is found in the other.
+    /// Equality ignores order: every value with its origin and clock occurs as often in the other.
     pub fn equals<const OTHER: usize>(&self, other: &Register<OTHER>) -> bool {
         let times = |values: &[Value], pair: &Value| values.iter().filter(|v| *v == pair).count();
         let mut pairs = self.values().iter().chain(other.values());

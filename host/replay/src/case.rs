@@ -43,6 +43,7 @@ pub struct Case {
     pub actor: u16,
     pub key: u32,
     pub value: u64,
+    pub origin: u16,
     pub room: usize,
     pub number: u32,
     /// The length answered, or the word of a call that carries.
@@ -66,12 +67,13 @@ impl Case {
         let name = CALLS[self.call - 1].0.trim_start_matches("castribba_");
         writeln!(
             file,
-            "\n{} {name} {} {} {} {} {} {} {}",
+            "\n{} {name} {} {} {} {} {} {} {} {}",
             self.call,
             u8::from(fresh),
             self.actor,
             self.key,
             self.value,
+            self.origin,
             self.room,
             self.number,
             self.length

@@ -23,7 +23,7 @@ const ROUNDS: usize = 20_000;
 /// No digit may stand here: the program reads all digits, and nothing else.
 const PREFACE: &str = "\
 The oracle's answers to calls of castribba, made by the host's replay/make. Only numbers are read.
-A case is: call, whether images follow (or stay as they were), actor, key, value, the output
+A case is: call, whether images follow (or stay as they were), actor, key, value, origin, the output
 buffer's length, the number answered, the length answered (or the word of a call that carries).
 Then come its two images, if any follow, and what it writes. An image is its length in bytes and
 its records as mapdump prints them: kind, index, actor, key, number. A lent clock is its places
@@ -38,7 +38,8 @@ fn ask_longest(sampler: &mut Sampler) {
     let removal = Operation::Removal { clock: map.clock, keys: [8].into() };
     sampler.apply(&image, &operation_image(&removal));
     let put_clock = [(1, u64::MAX)].into_iter().collect();
-    let another = Operation::Update { actor: 1, counter: u64::MAX, key: 1000, put_clock, put_value: 1 };
+    let another =
+        Operation::Update { actor: 1, counter: u64::MAX, key: 1000, put_clock, put_value: (1, 1) };
     sampler.apply(&image, &operation_image(&another));
     sampler.get(&image, 8);
     sampler.len(&image);

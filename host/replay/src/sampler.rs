@@ -120,13 +120,15 @@ impl Asks for Sampler {
         let bytes = question.images.iter().map(Vec::len).sum::<usize>() + answer.bytes.len();
         if self.takes(question.call, answer.number, bytes) {
             let images = self.both(question.images);
+            let (value, origin) = question.value;
             let place = place_of(question.call);
             let case = |call, number, length, out| Case {
                 call,
                 images: images.clone(),
                 actor: question.actor,
                 key: question.key,
-                value: question.value,
+                value,
+                origin,
                 room,
                 number,
                 length,
@@ -158,6 +160,7 @@ impl Asks for Sampler {
                 actor,
                 key: 0,
                 value: counter,
+                origin: 0,
                 room: out.len(),
                 number,
                 length: 0,

@@ -109,7 +109,7 @@ fn set(words: &Words) -> Result<u8, Failure> {
     let (actor, key) = (words.number(1, "ACTOR")?, words.number(2, "KEY")?);
     let value = words.number(3, "VALUE")?;
     let map = map_in(&words.operands[0])?;
-    let op = refused(words, map.update(actor, key, value))?;
+    let op = refused(words, map.update(actor, key, value, words.origin()?))?;
     write_edit(words, map, &op)
 }
 

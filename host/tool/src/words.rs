@@ -16,11 +16,12 @@ castribba: settings maps, looked at and edited
   castribba diff MAP OTHER                  keys only in one, and keys that differ
 
 A FILE, MAP, OTHER or OP is a file that holds an image and nothing else, or - for standard input. The
-empty map is an empty file. KEY, ACTOR and VALUE are decimal numbers.
+empty map is an empty file. KEY, ACTOR, VALUE and CODE are decimal numbers.
 
 set, remove, apply and merge write a map:
   -o FILE        to this file, which may be the one that was read; else to standard output
   --op FILE      set and remove: the operation too, for the others to apply
+  --origin CODE  set: who set the value, a code that stays with it; else 0, for none
   --anyway       apply: over a gap in the actor's updates, which are then lost
                  merge: though one dot stands under different keys, which loses both
 
@@ -34,35 +35,36 @@ pub struct Words {
     pub operands: Vec<String>,
     pub output: Option<String>,
     pub operation: Option<String>,
+    pub origin: Option<String>,
     pub anyway: bool,
 }
 
-/// What a command takes: its operands, whether it writes a map, and the option of its own.
+/// What a command takes: its operands, whether it writes a map, and the options of its own.
 struct Form {
     command: &'static str,
     operands: &'static [&'static str],
     writes: bool,
-    option: &'static str,
+    options: &'static [&'static str],
 }
 
 const fn form(
     command: &'static str,
     operands: &'static [&'static str],
     writes: bool,
-    option: &'static str,
+    options: &'static [&'static str],
 ) -> Form {
-    Form { command, operands, writes, option }
+    Form { command, operands, writes, options }
 }
 
 const FORMS: [Form; 8] = [
-    form("show", &["FILE"], false, ""),
-    form("bays", &["MAP"], false, ""),
-    form("get", &["MAP", "KEY"], false, ""),
-    form("set", &["MAP", "ACTOR", "KEY", "VALUE"], true, "--op"),
-    form("remove", &["MAP", "KEY"], true, "--op"),
-    form("apply", &["MAP", "OP"], true, "--anyway"),
-    form("merge", &["MAP", "OTHER"], true, "--anyway"),
-    form("diff", &["MAP", "OTHER"], false, ""),
+    form("show", &["FILE"], false, &[]),
+    form("bays", &["MAP"], false, &[]),
+    form("get", &["MAP", "KEY"], false, &[]),
+    form("set", &["MAP", "ACTOR", "KEY", "VALUE"], true, &["--op", "--origin"]),
+    form("remove", &["MAP", "KEY"], true, &["--op"]),
+    form("apply", &["MAP", "OP"], true, &["--anyway"]),
+    form("merge", &["MAP", "OTHER"], true, &["--anyway"]),
+    form("diff", &["MAP", "OTHER"], false, &[]),
 ];
 
 impl Words {
@@ -73,13 +75,20 @@ impl Words {
         let Some(form) = FORMS.iter().find(|form| form.command == command) else {
             return trouble(format!("no command '{command}'; castribba --help lists them"));
         };
-        let mut words =
-            Words { command, operands: Vec::new(), output: None, operation: None, anyway: false };
+        let mut words = Words {
+            command,
+            operands: Vec::new(),
+            output: None,
+            operation: None,
+            origin: None,
+            anyway: false,
+        };
         while let Some(word) = given.next() {
-            let known = (word == "-o" && form.writes) || word == form.option;
+            let known = (word == "-o" && form.writes) || form.options.contains(&word.as_str());
             match word.as_str() {
-                "-o" if known => once(&word, &mut words.output, given.next())?,
-                "--op" if known => once(&word, &mut words.operation, given.next())?,
+                "-o" if known => once(&word, "file", &mut words.output, given.next())?,
+                "--op" if known => once(&word, "file", &mut words.operation, given.next())?,
+                "--origin" if known => once(&word, "number", &mut words.origin, given.next())?,
                 "--anyway" if known => words.anyway = true,
                 _ if looks_like_option(&word) => {
                     return trouble(format!("{} has no option {word}", words.command));
@@ -110,12 +119,20 @@ impl Words {
 
     /// An operand that is a number of some width.
     pub fn number<N: FromStr + Limit>(&self, place: usize, name: &str) -> Result<N, Failure> {
-        let word = &self.operands[place];
-        let digits = word.bytes().all(|byte| byte.is_ascii_digit());
-        match word.parse() {
-            Ok(number) if digits => Ok(number),
-            _ => trouble(format!("{name} is a number from 0 to {}, and not '{word}'", N::MOST)),
-        }
+        number_of(&self.operands[place], name)
+    }
+
+    /// The origin of a value: 0, for none, where none is given.
+    pub fn origin(&self) -> Result<u16, Failure> {
+        self.origin.as_deref().map_or(Ok(0), |code| number_of(code, "CODE"))
+    }
+}
+
+fn number_of<N: FromStr + Limit>(word: &str, name: &str) -> Result<N, Failure> {
+    let digits = word.bytes().all(|byte| byte.is_ascii_digit());
+    match word.parse() {
+        Ok(number) if digits => Ok(number),
+        _ => trouble(format!("{name} is a number from 0 to {}, and not '{word}'", N::MOST)),
     }
 }
 
@@ -124,12 +141,17 @@ fn looks_like_option(word: &str) -> bool {
     word.strip_prefix('-').is_some_and(|rest| !rest.is_empty() && rest.parse::<u64>().is_err())
 }
 
-fn once(word: &str, place: &mut Option<String>, file: Option<String>) -> Result<(), Failure> {
-    match file {
-        None => trouble(format!("{word} wants a file behind it")),
+fn once(
+    word: &str,
+    what: &str,
+    place: &mut Option<String>,
+    given: Option<String>,
+) -> Result<(), Failure> {
+    match given {
+        None => trouble(format!("{word} wants a {what} behind it")),
         Some(_) if place.is_some() => trouble(format!("{word} was given twice")),
         Some(_) => {
-            *place = file;
+            *place = given;
             Ok(())
         }
     }

@@ -4,13 +4,16 @@ use Rattle.delivery.proofs.value_at.Statement.{statement}
 use Rattle.delivery.proofs.value_at.Tie as tie
 
 returns : tie.Need-returns
-returns c = rw (c .clock-at .ensures, c .before .read64 .ensures)
+returns c = rw (c .read16 .ensures, c .before .before .clock-at .ensures, c .before .before .before .read64 .ensures)
 
 pub value-at-spec : {M : Type 1} → statement M
 value-at-spec =
     tie.close
     (tie.spec
     (λ c κs. search needs)
+    (λ c. search needs)
+    (λ c κs. search needs)
+    (λ c. search needs)
     (λ c. search needs)
     (λ c κs. search needs)
     returns)

@@ -4,7 +4,7 @@ use native.Mathlib.Omega.{arith}
 use borrow.Author.Needs.{needs}
 use Rattle.clock.specs.Dots.{clockOf, cutDots}
 use Rattle.queued.specs.Queue.{cutsFor}
-use Rattle.leaving.proofs.Lying.{value-run, value-short, value-lawful, value-number, value-stands}
+use Rattle.leaving.proofs.Lying.{value-run, value-short, value-lawful, value-content, value-stands}
 use Rattle.leaving.proofs.source_of.Statement.{statement}
 use Rattle.leaving.proofs.source_of.Tie as tie
 
@@ -98,7 +98,7 @@ returns c =
           let b = g .inside in
           let dots = c .before .before .marks-left .ensures u w (e .key) q r m n ∙ ap (cutsFor w (e .key)) (ap (cutsFor u (e .key)) (ap (cutDots _) (value-run h _ low))) in (
             record { order = g .order; few = g .few; run = g .run; value = omega arith },
-            λ i. record { clock = clockOf (dots i); value = value-number h _ low i },
+            λ i. record { clock = clockOf (dots i); value = value-content h _ low i },
           ),
     )
 

@@ -11,7 +11,7 @@ use Rattle.loader.proofs.least.Statement.{statement}
 use Rattle.loader.proofs.least.Tie as tie
 
 abbrev Inv-loop : tie.InvT-loop
-Inv-loop values n best₀ i₀ best i = (i ≤ n) × Folding (λ m. m) lower (getD (values .values) 0 noneRead .value) (values .values) (values .len) i best
+Inv-loop values n best₀ i₀ best i = (i ≤ n) × Folding (λ m. m) lower (getD (values .values) 0 noneRead .value .number) (values .values) (values .len) i best
 
 abbrev μ-loop : tie.MeasureT-loop
 μ-loop values n best₀ i₀ best i = n - i

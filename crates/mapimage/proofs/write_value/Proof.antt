@@ -10,10 +10,10 @@ use Rattle.mapimage.proofs.write_value.Statement.{statement}
 use Rattle.mapimage.proofs.write_value.Tie as tie
 
 write-record-requires : tie.Need-write-record-requires
-write-record-requires c κs = let h = rw (eq-eqb _ _ (c .before .if1 .taken)) at (c .before .before .before .pre) in omega arith
+write-record-requires c κs = let h = rw (eq-eqb _ _ (c .before .before .if1 .taken)) at (c .before .before .before .before .pre) in omega arith
 
 returns : tie.Need-returns
-returns c = rw (eq-eqb _ _ (c .before .before .before .before .if1 .taken)) (wrote-one _ _ _ _ _ (c .before .before .write-record .ensures))
+returns c = rw (eq-eqb _ _ (c .before .before .before .before .before .if1 .taken)) (wrote-one _ _ _ _ _ (c .before .before .write-record .ensures))
 
 write-dots-requires : tie.Need-write-dots-requires
 write-dots-requires c κs =

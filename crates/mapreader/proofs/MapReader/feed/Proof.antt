@@ -135,11 +135,11 @@ mul-hand c = omega (arith, small (c .before .before .before .before .before .bef
 element-set-from-hand : tie.Need-element-set-from-hand Inv-records μ-records
 element-set-from-hand c = omega (arith, small (c .before .before .before .before .before .before .before))
 
-mul-t86 : tie.Need-mul-t86 Inv-records μ-records
-mul-t86 c = omega (arith, small (c .before .before .before .before .before .before .before .before))
+mul-t87 : tie.Need-mul-t87 Inv-records μ-records
+mul-t87 c = omega (arith, small (c .before .before .before .before .before .before .before .before))
 
-array-read-t89 : tie.Need-array-read-t89 Inv-records μ-records
-array-read-t89 c = omega (arith, small (c .before .before .before .before .before .before .before .before))
+array-read-t90 : tie.Need-array-read-t90 Inv-records μ-records
+array-read-t90 c = omega (arith, small (c .before .before .before .before .before .before .before .before))
 
 mul-hand-2 : tie.Need-mul-hand-2 Inv-records μ-records
 mul-hand-2 c = omega (arith, small (c .before .before .before .before .before .before .before .before))
@@ -569,8 +569,8 @@ records-less-12 c = less (c .before .before .before .before .before .before .bef
 mul-t39 : tie.Need-mul-t39 Inv-records μ-records
 mul-t39 c = let v = c .before .records .inv in omega (arith, v .1 .0, v .1 .1 .0)
 
-array-read-t121 : tie.Need-array-read-t121 Inv-records μ-records
-array-read-t121 c = let v = c .before .records .inv in omega (arith, v .1 .0, v .1 .1 .0)
+array-read-t122 : tie.Need-array-read-t122 Inv-records μ-records
+array-read-t122 c = let v = c .before .records .inv in omega (arith, v .1 .0, v .1 .1 .0)
 
 mul-hand-3 : tie.Need-mul-hand-3 Inv-records μ-records
 mul-hand-3 c = let v = c .before .records .inv in omega (arith, v .1 .0, v .1 .1 .0)
@@ -631,8 +631,8 @@ feed-spec =
     records-again-5
     records-less-6
     records-again-6
-    mul-t86
-    array-read-t89
+    mul-t87
+    array-read-t90
     mul-hand-2
     element-set-from-hand-2
     add-entries
@@ -670,7 +670,7 @@ feed-spec =
     (λ c. search needs)
     records-again-14
     mul-t39
-    array-read-t121
+    array-read-t122
     mul-hand-3
     element-set-from-hand-3
     returns)

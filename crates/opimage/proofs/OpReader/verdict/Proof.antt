@@ -1,5 +1,6 @@
 -- `OpReader::verdict` meets its contract. Assumes nothing.
 use borrow.Author.Tests.{eq-eqb, ne-eqb}
+use Rattle.clockimage.specs.Image.{contentOf}
 use Rattle.opimage.proofs.Packs.{related-counts, one-of}
 use borrow.Author.Needs.{needs}
 use Rattle.opimage.proofs.OpReader.verdict.Statement.{statement}
@@ -12,16 +13,16 @@ returns c l s =
 
 returns-2 : tie.Need-returns-2
 returns-2 c l s =
-    let at-removes = c .before .before .before .before .before in
+    let at-removes = c .before .before .before .before .before .before in
     let z = at-removes .before .before .before .if1 .left in
     let p = s .parts z in
-    rw (← s .scanned .number, eq-eqb _ _ z, ← related-counts (at-removes .before .before .before .before .before .before .args .self .counts) l (p .counts), ← at-removes .removes .ensures, ← at-removes .before .updates .ensures, c .before .before .before .before .if2 .taken)
+    rw (← s .scanned .number, eq-eqb _ _ z, ← related-counts (at-removes .before .before .before .before .before .before .args .self .counts) l (p .counts), ← at-removes .removes .ensures, ← at-removes .before .updates .ensures, c .before .before .before .before .before .if2 .taken)
     (λ i. record {
       number = 0;
       op = record {
         up = one-of (at-removes .before .before .before .before .before .before .args .self .counts) l (p .counts) i;
         removal = record { clock = p .under i; keys = p .keys i };
-        update = record { dot = record { actor = p .head i .actor; counter = p .head i .number }; key = p .head i .key; put = record { clock = p .put i; value = p .value i } };
+        update = record { dot = record { actor = p .head i .actor; counter = p .head i .number }; key = p .head i .key; put = record { clock = p .put i; value = contentOf (p .value i) } };
       };
     })
 

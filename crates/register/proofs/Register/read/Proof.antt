@@ -1,4 +1,4 @@
--- `Register::read` meets its contract, by those of `clock_over` and `numbers`. Assumes nothing.
+-- `Register::read` meets its contract, by those of `clock_over` and `contents`. Assumes nothing.
 use Rattle.register.specs.Values.{readOf}
 use borrow.Author.Needs.{needs}
 use Rattle.register.proofs.Register.read.Statement.{statement}
@@ -6,7 +6,7 @@ use Rattle.register.proofs.Register.read.Tie as tie
 
 returns : tie.Need-returns
 unfolding readOf
-returns c = rw (c .before .clock-over .ensures, c .numbers .ensures)
+returns c = rw (c .before .clock-over .ensures, c .contents .ensures)
 
 pub read-spec : {M : Type 1} → statement M
 read-spec =

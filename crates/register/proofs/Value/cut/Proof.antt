@@ -5,7 +5,7 @@ use Rattle.register.proofs.Value.cut.Statement.{statement}
 use Rattle.register.proofs.Value.cut.Tie as tie
 
 returns : tie.Need-returns
-returns c = rw (cut-left _ _ (c .before .cut .ensures))
+returns c = rw (cut-left _ _ (c .before .before .cut .ensures))
 
 pub cut-spec : {M : Type 1} → statement M
 cut-spec =

@@ -1,19 +1,19 @@
--- `Register::numbers` meets its contract: the loop adds one value after the other. Assumes nothing.
+-- `Register::contents` meets its contract: the loop adds one value after the other. Assumes nothing.
 use mathlib.Core.Path.{refl, ap}
 use mathlib.Core.List.{[], map}
 use Prim.Native.Nat.{_-_, _≤_}
 use lib.ListN.{length-map}
 use Rattle.lists.specs.Pad.{pad}
 use Rattle.lists.proofs.Trailing.{Trailing, trailing-start, trailing-add, trailing-room, trailing-end}
-use Rattle.register.specs.Values.{valuesOf, numbersOf}
+use Rattle.register.specs.Values.{valuesOf, contentsOf}
 use Rattle.register.proofs.Packs.{noneRead}
 use borrow.Author.Needs.{needs}
 use native.Mathlib.Omega.{arith}
-use Rattle.register.proofs.Register.numbers.Statement.{statement}
-use Rattle.register.proofs.Register.numbers.Tie as tie
+use Rattle.register.proofs.Register.contents.Statement.{statement}
+use Rattle.register.proofs.Register.contents.Tie as tie
 
 abbrev Inv-loop : tie.InvT-loop
-Inv-loop self n out₀ i₀ out i = (i ≤ n) × Trailing numbersOf (λ v. v .value) (map (λ v. v .value) (valuesOf self)) (self .values) (self .len) i out
+Inv-loop self n out₀ i₀ out i = (i ≤ n) × Trailing contentsOf (λ v. v .value) (map (λ v. v .value) (valuesOf self)) (self .values) (self .len) i out
 
 abbrev μ-loop : tie.MeasureT-loop
 μ-loop self n out₀ i₀ out i = n - i
@@ -33,8 +33,8 @@ loop-again c = (search needs, trailing-add noneRead (c .before .before .before .
 returns : tie.Need-returns Inv-loop μ-loop
 returns c = trailing-end (c .before .loop .inv .1) (omega arith)
 
-pub numbers-spec : {M : Type 1} → statement M
-numbers-spec =
+pub contents-spec : {M : Type 1} → statement M
+contents-spec =
     tie.close
     (tie.spec
     Inv-loop

@@ -1,0 +1,20 @@
+-- `Contents::push` meets its contract: a store behind the last. Assumes nothing.
+use mathlib.Core.Path.{ap}
+use Rattle.lists.proofs.Pads.{push-pad, length-snoc}
+use Rattle.register.specs.Values.{valueLimit, noContent}
+use borrow.Author.Needs.{needs}
+use native.Mathlib.Omega.{arith}
+use Rattle.register.proofs.Contents.push.Statement.{statement}
+use Rattle.register.proofs.Contents.push.Tie as tie
+
+returns : tie.Need-returns
+returns c = λ l e. rw (e, push-pad noContent valueLimit l _ (omega (arith, ap (λ k. k .len) e)), length-snoc l _)
+
+pub push-spec : {M : Type 1} → statement M
+push-spec =
+    tie.close
+    (tie.spec
+    (λ c. search needs)
+    (λ c. search needs)
+    (λ c. search needs)
+    returns)
