@@ -1,7 +1,33 @@
 //! castribba.h and loader.h, declared for Rust: what a pointer points to, and for how long, is the
 //! caller's to see to. [`slices`](crate::slices) and `loader` have the same calls, safe.
 
-use crate::slices::{LentClock, LentPieces};
+use crate::PIECES;
+
+/// A dot of a [`LentClock`]: `castribba_dot`.
+#[derive(Clone, Copy, Debug, Default, PartialEq, Eq)]
+#[repr(C)]
+pub struct LentDot {
+    pub actor: u16,
+    pub counter: u64,
+}
+
+/// A clock to be advanced in place: `castribba_clock`. Dots from `len` on are not read.
+#[derive(Clone, Copy, Debug, Default, PartialEq, Eq)]
+#[repr(C)]
+pub struct LentClock {
+    pub dots: [LentDot; 8],
+    pub len: usize,
+}
+
+/// The reader of a map's image that comes in pieces: `castribba_pieces`, whose bytes are the archive's own.
+///
+/// It may hold any content, and [`castribba_pieces_begin`] makes a reader of it, as
+/// [`Pieces`](crate::Pieces) does by itself.
+#[derive(Clone, Copy, Debug, PartialEq, Eq)]
+#[repr(C)]
+pub struct LentPieces {
+    pub bytes: [u8; PIECES],
+}
 
 #[rustfmt::skip]
 extern "C" {

@@ -14,33 +14,9 @@
 //! ```
 
 use crate::declared;
-use crate::{Refusal, PIECES};
+use crate::Refusal;
 
-/// A dot of a [`LentClock`]: `castribba_dot`.
-#[derive(Clone, Copy, Debug, Default, PartialEq, Eq)]
-#[repr(C)]
-pub struct LentDot {
-    pub actor: u16,
-    pub counter: u64,
-}
-
-/// A clock to be advanced in place: `castribba_clock`. Dots from `len` on are not read.
-#[derive(Clone, Copy, Debug, Default, PartialEq, Eq)]
-#[repr(C)]
-pub struct LentClock {
-    pub dots: [LentDot; 8],
-    pub len: usize,
-}
-
-/// The reader of a map's image that comes in pieces: `castribba_pieces`, whose bytes are the archive's own.
-///
-/// It may hold any content, and [`pieces_begin`] makes a reader of it: [`Pieces`](crate::Pieces) does that
-/// by itself.
-#[derive(Clone, Copy, Debug, PartialEq, Eq)]
-#[repr(C)]
-pub struct LentPieces {
-    pub bytes: [u8; PIECES],
-}
+pub use crate::declared::{LentClock, LentDot, LentPieces};
 
 const GAP: u32 = 11;
 const DOUBLE_SPENT: u32 = 12;

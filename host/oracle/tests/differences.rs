@@ -1,4 +1,4 @@
-//! Keeps README.md's list of differences true: what the published crate does on each smallest input.
+//! Keeps docs/DIFFERENCES.md's list true: what the published crate does on each smallest input.
 
 use oracle::model::{Clock, Entry, Map, Operation};
 use oracle::published;
