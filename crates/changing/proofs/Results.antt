@@ -119,7 +119,7 @@ removal-keys s r n end q e f =
     let z : 0 + (1 + n) ≡ 1 + n = omega arith in
     (h, sym (ap (λ k. part s k end) z) ∙ sym (part-drop s (1 + n) 0 end (omega arith)) ∙ ap (drop (1 + n)) whole ∙ drop-at x y (1 + n) k)
 
-removal-dots : (s : List ℕ) (r : Removal) (n end : ℕ) → removalRecords r ≡ recordsOf s → n ≡ length (underOf r) → end ≡ length s / 16 → map dotOf (part s 1 (1 + n)) ≡ underOf r
+pub removal-dots : (s : List ℕ) (r : Removal) (n end : ℕ) → removalRecords r ≡ recordsOf s → n ≡ length (underOf r) → end ≡ length s / 16 → map dotOf (part s 1 (1 + n)) ≡ underOf r
 removal-dots s r n end q e f =
     let h = removal-keys s r n end q e f .0 in
     let rest : part s 1 end ≡ dotRecords 8 0 0 (underOf r) ++ map (keyRecord 9 0) (listedIn r) = sym (part-drop s 1 0 end (omega arith)) ∙ ap (drop 1) (all-records s end f ∙ sym q) in

@@ -17,8 +17,10 @@ use Rattle.parts.specs.Valid.{ValidWaiting}
 use Rattle.parts.specs.Waits.{waits}
 use Rattle.map.specs.Model.{mapAs}
 use Rattle.map.specs.Judging.{exceeding, overDots}
-use Rattle.map.specs.Valid.{Valid}
+use Rattle.map.specs.Valid.{Valid, RemovalWithin}
 use Rattle.records.specs.declared.Record.{Record}
+use Rattle.records.specs.Records.{recordsOf}
+use Rattle.opimage.specs.OpImage.{removalRecords}
 use Rattle.mapimage.specs.MapImage.{flatFrom, waitingDots, waitingKeys}
 use Rattle.walks.specs.declared.Span.{Span}
 use Rattle.queued.specs.Queue.{Keyed}
@@ -42,6 +44,12 @@ limitNumber l w = cond (exceeding entryLimit l) 5 (cond (some overfull l) 6 (wai
 -- a removal that waits where a clock has not seen it
 abbrev pub held : List Dot → Removal → List Removal
 held seen r = cond (waits seen r) (r ∷ []) []
+
+-- the image of a removal, whose clock has so many dots
+pub record RemovalLies (s : List ℕ) (dots : ℕ) (r : Removal) : Type 0 where
+  pub within : RemovalWithin r
+  pub records : removalRecords r ≡ recordsOf s
+  pub count : dots ≡ length (underOf r)
 
 -- a plan of w, made of removals whose keys stand in s and in t
 pub record Planned (s t : List ℕ) (ours theirs : Span) (plan : Plan) (w : List Removal) : Type 0 where

@@ -1,10 +1,14 @@
 // The three calls that change a map, on images where they lie.
 ghost use mathlib.Core.Path.{_≡_};
+ghost use mathlib.Core.List.{List};
 ghost use Prim.Native.Nat.{_≤_};
 ghost use lib.ListN.{length};
+ghost use Rattle.clock.specs.declared.Dot.{Dot};
 ghost use Rattle.clock.specs.Dots.{dotsOf};
 ghost use Rattle.clock.specs.Lawful.{Lawful};
-ghost use Rattle.parts.specs.Valid.{ValidRemoval};
+ghost use Rattle.parts.specs.declared.Removal.{Removal};
+ghost use Rattle.parts.specs.Waits.{waits};
+ghost use Rattle.map.specs.Model.{seenBy};
 ghost use Rattle.map.specs.Judging.{judged};
 ghost use Rattle.map.specs.Merging.{merge};
 ghost use Rattle.map.specs.Removing.{remove};
@@ -18,43 +22,61 @@ ghost use Rattle.maprecords.specs.Related.{readMap};
 ghost use Rattle.answers.specs.Answer.{Answered};
 ghost use Rattle.promises.specs.Calls.{mapAnswer};
 ghost use Rattle.promises.specs.Promises.{ApplyPromise, MergePromise, ResetRemovePromise};
-ghost use Rattle.layout.specs.Whole.{LaidOut};
+ghost use Rattle.layout.specs.Whole.{Lies, LaidOut};
 ghost use Rattle.queued.specs.Queue.{Keyed, Queued};
-ghost use Rattle.changing.specs.Drafted.{held};
+ghost use Rattle.changing.specs.Drafted.{held, RemovalLies};
 use clock::Clock;
+use clock::Order;
 use layout::Laid;
 use parts::Removal;
 use parts::Update;
 use queued::Queue;
 use queued::STARTS;
+use walks::Layout;
 use walks::Span;
 
 mod finishing;
 pub mod waiting;
 
-// Where the dots of a removal stand in its image, where it waits.
-pub fn held_queue(op: &[u8], r: Removal, seen: Clock) -> Queue
-    requires { ⌜ RemovalWithin r × (removalRecords r ≡ recordsOf (now op)) ⌝ }
-    ensures { λ k. ⌜ Queued (now (op .entry)) k (held (dotsOf seen) r) ⌝ }
+// Whether a removal waits: the map's clock is less than its own or concurrent with it, by their records where they lie.
+pub fn removal_waits(map: &[u8], l: Layout, op: &[u8], dots: usize) -> bool
+    requires { ⌜ Lies (now map) (readMap (now map) .map) l × ((r : Removal) × RemovalLies (now op) dots r) ⌝ }
+    ensures { λ b. ⌜ ((r : Removal) → RemovalLies (now (op .entry)) dots r → b ≡ waits (seenBy (readMap (now (map .entry)) .map)) r) ⌝ }
 {
-    if r.waits(seen) {
-        let clock = r.clock;
+    let seen = l.second * 16;
+    let end = (1 + dots) * 16;
+    let o = comparing::compare_runs(&map[0..seen], &op[16..end]);
+    match o {
+        Order::Less => true,
+        Order::Concurrent => true,
+        Order::Equal => false,
+        Order::Greater => false,
+    }
+}
+
+// Where the dots of a removal stand in its image, where it waits.
+pub fn held_queue(op: &[u8], dots: usize, waiting: bool) -> Queue
+    requires { ⌜ ((r : Removal) × RemovalLies (now op) dots r) ⌝ }
+    ensures { λ k. ⌜ ((r : Removal) (seen : List Dot) → RemovalLies (now (op .entry)) dots r → waiting ≡ waits seen r
+        → Queued (now (op .entry)) k (held seen r)) ⌝ }
+{
+    if waiting {
         let mut starts: [usize; STARTS] = [1; STARTS];
-        starts[1] = 1 + clock.size();
+        starts[1] = 1 + dots;
         return Queue { starts, len: 1 };
     }
     Queue::none()
 }
 
 // Where the keys of a removal stand in its image, where it waits.
-pub fn held_keys(op: &[u8], r: Removal, seen: Clock) -> Span
-    requires { ⌜ ValidRemoval r × (removalRecords r ≡ recordsOf (now op)) ⌝ }
-    ensures { λ k. ⌜ Keyed (now (op .entry)) (k .from) (k .to) 0 (held (dotsOf seen) r) ⌝ }
+pub fn held_keys(op: &[u8], dots: usize, waiting: bool) -> Span
+    requires { ⌜ ((r : Removal) × RemovalLies (now op) dots r) ⌝ }
+    ensures { λ k. ⌜ ((r : Removal) (seen : List Dot) → RemovalLies (now (op .entry)) dots r → waiting ≡ waits seen r
+        → Keyed (now (op .entry)) (k .from) (k .to) 0 (held seen r)) ⌝ }
 {
-    if r.waits(seen) {
-        let clock = r.clock;
+    if waiting {
         return Span {
-            from: 1 + clock.size(),
+            from: 1 + dots,
             to: op.len() / 16,
         };
     }
@@ -68,9 +90,12 @@ fn remove_by(map: &[u8], a: Laid, r: Removal, op: &[u8], out: &mut [u8]) -> u64
 {
     let clock = a.clock;
     let l = a.layout;
+    let under = r.clock;
+    let dots = under.size();
+    let waiting = removal_waits(map, l, op, dots);
     let q = queued::queue_of(map, l, a.waits);
-    let p = held_queue(op, r, clock);
-    let theirs = held_keys(op, r, clock);
+    let p = held_queue(op, dots, waiting);
+    let theirs = held_keys(op, dots, waiting);
     let none = Clock::new();
     let plan = planned::join_plan(map, q, op, p, none);
     let sk = sketch::drawing::draw_removed(map, l, r);

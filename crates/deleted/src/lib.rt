@@ -81,9 +81,12 @@ fn removal_deleted(map: &[u8], a: Laid, r: Removal, op: &[u8], room: usize) -> u
 {
     let clock = a.clock;
     let l = a.layout;
+    let under = r.clock;
+    let dots = under.size();
+    let waiting = changing::removal_waits(map, l, op, dots);
     let q = queued::queue_of(map, l, a.waits);
-    let p = changing::held_queue(op, r, clock);
-    let theirs = changing::held_keys(op, r, clock);
+    let p = changing::held_queue(op, dots, waiting);
+    let theirs = changing::held_keys(op, dots, waiting);
     let none = Clock::new();
     let plan = planned::join_plan(map, q, op, p, none);
     let sk = sketch::drawing::draw_removed(map, l, r);

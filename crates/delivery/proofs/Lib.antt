@@ -1,5 +1,7 @@
 pub mod Belows
 pub mod Views
+pub mod Lookups
+pub mod Rooms
 pub mod Ascends
 pub mod Counting
 pub mod Lengths

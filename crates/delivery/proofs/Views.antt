@@ -2,13 +2,14 @@
 -- Assumes nothing.
 use mathlib.Core.Path.{_≡_, ap}
 use mathlib.Core.List.{List, [], _∷_, map}
-use Prim.Native.Nat.{ℕ, _+_, _≤_, _<_}
+use Prim.Native.Nat.{ℕ, _+_, _*_, _≤_, _<_}
 use lib.ListN.{length, drop}
 use Rattle.lists.proofs.Pads.{take-pad}
-use Rattle.clock.specs.Dots.{dotLimit, noDot}
-use Rattle.parts.specs.Model.{keyLimit, underOf}
+use Rattle.clock.specs.Dots.{dotLimit, noDot, dotsOf}
+use Rattle.register.specs.Values.{valueLimit, noValue}
+use Rattle.parts.specs.Model.{keyLimit, dotsIn, valuesIn, underOf}
 use Rattle.mapimage.specs.MapImage.{keyNumber, keyNumbers}
-use Rattle.memory.specs.Memory.{keysPlace, keyPlace, removalPlace, countAt, dotsAt, entryAt, entryCount, entriesAt, listedAt, removalAt, waitingCountAt, waitingAt}
+use Rattle.memory.specs.Memory.{dotRoom, ownPlace, valuesPlace, valuePlace, keysPlace, keyPlace, removalPlace, countAt, dotAt, dotsAt, valueAt, valuesAt, entryAt, entryCount, entriesAt, listedAt, removalAt, waitingCountAt, waitingAt}
 use Rattle.records.specs.Bytes.{numAt}
 use Rattle.memory.proofs.Views.{length-of}
 use Rattle.delivery.proofs.Belows.{left-on, left-end}
@@ -17,6 +18,33 @@ module _ (w : List ℕ) where
   pub length-dots : (at : ℕ) → length (dotsAt w at) ≡ countAt dotLimit at w
   unfolding dotsAt
   length-dots at = length-of _ (countAt dotLimit at w)
+
+  pub dots-left : (at i : ℕ) → i < countAt dotLimit at w → drop i (dotsAt w at) ≡ dotAt w (at + 1 + i * dotRoom) ∷ drop (i + 1) (dotsAt w at)
+  unfolding dotsAt
+  dots-left at i h = left-on _ (countAt dotLimit at w) i h
+
+  pub dots-end : (at i : ℕ) → countAt dotLimit at w ≤ i → drop i (dotsAt w at) ≡ []
+  unfolding dotsAt
+  dots-end at i h = left-end _ (countAt dotLimit at w) i h
+
+  -- the values of an entry, and the dots of one
+  pub values-left : (j i : ℕ) → i < countAt valueLimit (valuesPlace j) w → drop i (valuesAt w j) ≡ valueAt w (valuePlace j i) ∷ drop (i + 1) (valuesAt w j)
+  unfolding valuesAt
+  values-left j i h = left-on _ (countAt valueLimit (valuesPlace j) w) i h
+
+  pub values-end : (j i : ℕ) → countAt valueLimit (valuesPlace j) w ≤ i → drop i (valuesAt w j) ≡ []
+  unfolding valuesAt
+  values-end j i h = left-end _ (countAt valueLimit (valuesPlace j) w) i h
+
+  pub value-dots : (at : ℕ) → dotsOf (valueAt w at .clock) ≡ dotsAt w (at + 8)
+  value-dots at = take-pad noDot dotLimit (dotsAt w (at + 8))
+
+  -- an entry's dots and values
+  pub entry-dots : (j : ℕ) → dotsIn (entryAt w j) ≡ dotsAt w (ownPlace j)
+  entry-dots j = take-pad noDot dotLimit (dotsAt w (ownPlace j))
+
+  pub entry-values : (j : ℕ) → valuesIn (entryAt w j) ≡ valuesAt w j
+  entry-values j = take-pad noValue valueLimit (valuesAt w j)
 
   pub entries-left : (j : ℕ) → j < entryCount w → drop j (entriesAt w) ≡ entryAt w j ∷ drop (j + 1) (entriesAt w)
   unfolding entriesAt

@@ -4,15 +4,15 @@ ghost use mathlib.Core.Bool.{true};
 ghost use Prim.Native.Nat.{_+_, _*_, _^_, _≤_, _<_, min};
 ghost use lib.Dec.{ltb};
 ghost use lib.ListN.{length};
-ghost use Rattle.clock.specs.Dots.{dotLimit, clockOf};
+ghost use Rattle.clock.specs.Dots.{dotLimit, clockOf, counterIn, covers};
 ghost use Rattle.register.specs.Values.{registerOf};
 ghost use Rattle.parts.specs.Model.{entryLimit, waitingLimit, underOf};
 ghost use Rattle.records.specs.Records.{bytesOf, Wrote};
 ghost use Rattle.scan.specs.Each.{every};
 ghost use Rattle.mapimage.specs.Sorted.{leastFrom};
 ghost use Rattle.mapimage.specs.MapImage.{flatFrom, entryRecords, waitingDots, keyNumbers, waitingKeys};
-ghost use Rattle.maprecords.specs.Related.{entryWhole, ascend};
-ghost use Rattle.answers.specs.Sizes.{entriesMost, totalOf, entrySize};
+ghost use Rattle.maprecords.specs.Related.{dotted, entryWhole, ascend};
+ghost use Rattle.answers.specs.Sizes.{registerMost, entriesMost, totalOf, valueSize, entrySize};
 ghost use Rattle.memory.specs.Memory.{readerRoom, dotRoom, clockRoom, valueRoom, clockPlace, dotAt, dotsAt, valueAt, valuesAt, entryAt, entriesAt, removalAt, waitingAt};
 ghost use Rattle.delivery.specs.Delivery.{relatedAt, endNumber, imageAt, Ended};
 use clock::Clock;
@@ -63,7 +63,9 @@ fn clock_at(mem: &[u8; READER], at: usize) -> Clock
     while i < n {
         let d = dot_at(mem, at + 1 + i * DOT_ROOM);
         i += 1;
-        clock = clock.push(d);
+        let k = clock.len;
+        clock.dots[k] = d;
+        clock.len = k + 1;
     }
     clock
 }
@@ -90,7 +92,9 @@ fn register_at(mem: &[u8; READER], j: usize) -> Register
     while i < n {
         let v = value_at(mem, at + 1 + i * VALUE_ROOM);
         i += 1;
-        register = register.push(v);
+        let k = register.len;
+        register.values[k] = v;
+        register.len = k + 1;
     }
     register
 }
@@ -111,18 +115,77 @@ fn entry_at(mem: &[u8; READER], j: usize) -> Entry
     }
 }
 
+// The counter of an actor in the clock at a place.
+fn counter_at(mem: &[u8; READER], at: usize, actor: u16) -> u64
+    requires { ⌜ at + clockRoom ≤ readerRoom ⌝ }
+    ensures { λ r. ⌜ r ≡ counterIn (dotsAt (now (mem .entry)) at) actor ⌝ }
+{
+    let n = memory::count(mem, at, DOTS);
+    let mut i: usize = 0;
+    while i < n {
+        let d = dot_at(mem, at + 1 + i * DOT_ROOM);
+        i += 1;
+        if d.actor == actor {
+            return d.counter;
+        }
+    }
+    0
+}
+
+// Whether the clock at a place covers the one at another.
+fn covers_at(mem: &[u8; READER], at: usize, other: usize) -> bool
+    requires { ⌜ (at + clockRoom ≤ readerRoom) × (other + clockRoom ≤ readerRoom) ⌝ }
+    ensures { λ b. ⌜ b ≡ covers (dotsAt (now (mem .entry)) at) (dotsAt (now (mem .entry)) other) ⌝ }
+{
+    let n = memory::count(mem, other, DOTS);
+    let mut i: usize = 0;
+    while i < n {
+        let d = dot_at(mem, other + 1 + i * DOT_ROOM);
+        i += 1;
+        if counter_at(mem, at, d.actor) < d.counter {
+            return false;
+        }
+    }
+    true
+}
+
+// Whether each value of an entry has a dot.
+fn dotted_at(mem: &[u8; READER], j: usize) -> bool
+    requires { ⌜ j < entryLimit ⌝ }
+    ensures { λ b. ⌜ b ≡ every dotted (valuesAt (now (mem .entry)) j) ⌝ }
+{
+    let at = ENTRY_PLACE + j * ENTRY_ROOM + 4 + CLOCK_ROOM;
+    let n = memory::count(mem, at, VALUES);
+    let mut i: usize = 0;
+    while i < n {
+        let dots = memory::count(mem, at + 1 + i * VALUE_ROOM + 8, DOTS);
+        i += 1;
+        if dots == 0 {
+            return false;
+        }
+    }
+    true
+}
+
+fn whole_at(mem: &[u8; READER], j: usize) -> bool
+    requires { ⌜ j < entryLimit ⌝ }
+    ensures { λ b. ⌜ b ≡ entryWhole (dotsAt (now (mem .entry)) clockPlace) (entryAt (now (mem .entry)) j) ⌝ }
+{
+    let own = ENTRY_PLACE + j * ENTRY_ROOM + 4;
+    covers_at(mem, CLOCK, own) & dotted_at(mem, j)
+}
+
 fn entries_whole(mem: &[u8; READER]) -> bool
     ensures { λ b. ⌜ b ≡ every (entryWhole (dotsAt (now (mem .entry)) clockPlace)) (entriesAt (now (mem .entry))) ⌝ }
 {
-    let clock = clock_at(mem, CLOCK);
     let n = memory::count(mem, ENTRY_COUNT, ENTRIES);
     let mut j: usize = 0;
     while j < n {
-        let e = entry_at(mem, j);
-        if !maprecords::entry_whole(clock, e) {
+        let k = j;
+        j += 1;
+        if !whole_at(mem, k) {
             return false;
         }
-        j += 1;
     }
     true
 }
@@ -173,6 +236,23 @@ fn number_of(mem: &[u8; READER]) -> u8
     if related(mem) { 0 } else { 3 }
 }
 
+// How many records the values of an entry have.
+fn count_values(mem: &[u8; READER], j: usize) -> usize
+    requires { ⌜ j < entryLimit ⌝ }
+    ensures { λ r. ⌜ (r ≡ totalOf valueSize (valuesAt (now (mem .entry)) j)) × (r ≤ registerMost) ⌝ }
+{
+    let at = ENTRY_PLACE + j * ENTRY_ROOM + 4 + CLOCK_ROOM;
+    let n = memory::count(mem, at, VALUES);
+    let mut total: usize = 0;
+    let mut i: usize = 0;
+    while i < n {
+        let dots = memory::count(mem, at + 1 + i * VALUE_ROOM + 8, DOTS);
+        i += 1;
+        total += 1 + dots;
+    }
+    total
+}
+
 // How many records the entries have.
 fn count_entries(mem: &[u8; READER]) -> usize
     ensures { λ r. ⌜ (r ≡ totalOf entrySize (entriesAt (now (mem .entry)))) × (r ≤ entriesMost) ⌝ }
@@ -181,11 +261,10 @@ fn count_entries(mem: &[u8; READER]) -> usize
     let mut total: usize = 0;
     let mut j: usize = 0;
     while j < n {
-        let e = entry_at(mem, j);
+        let dots = memory::count(mem, ENTRY_PLACE + j * ENTRY_ROOM + 4, DOTS);
+        let values = count_values(mem, j);
         j += 1;
-        let clock = e.clock;
-        let register = e.register;
-        total += clock.size() + answers::count_values(register);
+        total += dots + values;
     }
     total
 }

@@ -1,14 +1,11 @@
-// A key's records where they lie, and what they say: the clock of its entry, and its register.
+// A key's records where they lie, and the clock of its entry.
 ghost use mathlib.Core.Path.{_≡_};
 ghost use mathlib.Core.List.{List};
 ghost use Prim.Native.Nat.{ℕ, _*_, _≤_, _<_};
 ghost use lib.ListN.{length};
 ghost use Rattle.lists.specs.Order.{Ascending, by};
 ghost use Rattle.clock.specs.Dots.{clockOf};
-ghost use Rattle.register.specs.declared.Value.{Value};
-ghost use Rattle.register.specs.Values.{registerOf};
 ghost use Rattle.parts.specs.declared.Entry.{Entry};
-ghost use Rattle.parts.specs.Model.{valuesIn};
 ghost use Rattle.parts.specs.Entries.{entryAt};
 ghost use Rattle.map.specs.Model.{entriesIn};
 ghost use Rattle.asking.specs.Asking.{clockAt};
@@ -16,12 +13,8 @@ ghost use Rattle.mapimage.specs.MapImage.{flatFrom, entryRecords};
 ghost use Rattle.maprecords.specs.Related.{readMap};
 ghost use Rattle.walks.specs.Walk.{part};
 ghost use Rattle.layout.specs.Whole.{Lies};
-ghost use Rattle.keyed.specs.Keyed.{EntryLies, Registered, Owned, Stops};
+ghost use Rattle.keyed.specs.Keyed.{EntryLies, Owned, Stops};
 use clock::Clock;
-use register::Content;
-use register::Register;
-use register::Value;
-use walks::BY_INDEX;
 use walks::BY_KEY;
 use walks::Layout;
 use walks::Span;
@@ -83,45 +76,6 @@ pub fn clock_at(s: &[u8], l: Layout, key: u32) -> Clock
     let from = dots.from * 16;
     let to = dots.to * 16;
     runs::clock_of(&s[from..to])
-}
-
-// The register of some values with their dots.
-fn register_of(s: &[u8], values: Span, clocks: Span) -> Register
-    requires { ⌜ ((l : List Value) × Registered (now s) l values clocks) ⌝ }
-    ensures { λ r. ⌜ ((l : List Value) → Registered (now (s .entry)) l values clocks → r ≡ registerOf l) ⌝ }
-{
-    let end = values.to;
-    let last = clocks.to;
-    let mut place = values.from;
-    let mut dots = clocks.from;
-    let mut out = Register::new();
-    while place < end {
-        let r = records::read_record(s, place * 16);
-        place += 1;
-        let next = walks::first_from(s, BY_INDEX, r.index as u64 + 1, dots, last);
-        let from = dots * 16;
-        let to = next * 16;
-        let clock = runs::clock_of(&s[from..to]);
-        dots = next;
-        let v = Value {
-            clock,
-            value: Content {
-                number: r.number,
-                origin: r.actor,
-            },
-        };
-        out = out.push(v);
-    }
-    out
-}
-
-// The register of a key's entry, empty where there is none.
-pub fn register_at(s: &[u8], l: Layout, key: u32) -> Register
-    requires { ⌜ Lies (now s) (readMap (now s) .map) l ⌝ }
-    ensures { λ r. ⌜ r ≡ registerOf (valuesIn (entryAt key (entriesIn (readMap (now (s .entry)) .map)))) ⌝ }
-{
-    let at = spans_of(s, l, key);
-    register_of(s, at.values, at.clocks)
 }
 
 // The entry whose dots begin at a place.

@@ -1,4 +1,5 @@
 pub mod Smallest
+pub mod Adding
 pub mod Reporting
 pub mod Strict
 pub mod Chosen

@@ -4,10 +4,9 @@ use mathlib.Core.Path.{_≡_, refl, ap, sym, _∙_}
 use mathlib.Core.Bool.{true, not}
 use mathlib.Core.Logic.{_⊎_, inl, inr, ⊎-elim}
 use mathlib.Core.List.{List, [], _∷_, List·Memᴰ·head, List·Memᴰ·tail, List·Memᴰ·not-nil, List·Memᴰ·cases-cons}
-use Prim.Native.Nat.{ℕ, zero, suc, _≤_, _<_, min}
+use Prim.Native.Nat.{ℕ, _≤_, min}
 use native.Mathlib.Omega.{arith}
 use lib.Dec.{ltb}
-use lib.ListN.{length, take, getD}
 use borrow.Author.Tests.{ltb-true, ltb-false, eq-eqb, eqb-true, not-false}
 use Rattle.lists.specs.First.{some}
 use Rattle.lists.specs.Fold.{fold}
@@ -20,20 +19,6 @@ use Rattle.loader.specs.Choice.{smallest, another, differ}
 -- the smaller of a number and a value
 abbrev pub lower : ℕ → Value → ℕ
 lower n v = min n (v .value .number)
-
--- of none it is 0
-pub smallest-none : (l : List Value) → length l ≡ 0 → 0 ≡ smallest l
-unfolding smallest
-smallest-none [] e = refl
-smallest-none (v ∷ l) e = omega arith
-
--- to start with the first value and then meet it again changes nothing
-pub smallest-from : (xs : List Value) (n : ℕ) (d : Value) → 0 < length (take n xs) → fold lower (getD xs 0 d .value .number) (take n xs) ≡ smallest (take n xs)
-unfolding smallest fold
-smallest-from [] zero d h = omega arith
-smallest-from [] (suc n) d h = omega arith
-smallest-from (v ∷ l) zero d h = omega arith
-smallest-from (v ∷ l) (suc n) d h = let e : min (v .value .number) (v .value .number) ≡ v .value .number = omega arith in ap (λ m. fold lower m (take n l)) e
 
 fold-start : (n : ℕ) (l : List Value) → fold lower n l ≤ n
 unfolding fold

@@ -1,17 +1,24 @@
 // The boot loader's choice: for a bay, the smallest of the values that no other has overwritten, as a report of eleven bytes.
 ghost use mathlib.Core.Path.{_≡_};
-ghost use Prim.Native.Nat.{_*_, _+_, _≤_};
-ghost use lib.ListN.{length};
-ghost use Rattle.lists.specs.First.{some};
-ghost use Rattle.register.specs.Values.{valuesOf};
+ghost use mathlib.Core.Bool.{false};
+ghost use mathlib.Core.List.{List, [], _∷_, _++_};
+ghost use Prim.Native.Nat.{ℕ, _*_, _+_, _≤_, _<_};
+ghost use lib.ListN.{length, getD};
+ghost use Rattle.register.specs.declared.Value.{Value};
+ghost use Rattle.register.specs.Values.{valueLimit, noValue, yielding};
 ghost use Rattle.records.specs.Records.{Wrote};
+ghost use Rattle.mapimage.specs.MapImage.{flatFrom, valueRecords};
 ghost use Rattle.maprecords.specs.Related.{readMap};
 ghost use Rattle.layout.specs.Whole.{Lies};
-ghost use Rattle.loader.specs.Choice.{smallest, another, reportOf};
+ghost use Rattle.keyed.specs.Keyed.{Holds, Registered};
+ghost use Rattle.comparing.specs.Registers.{RunsOf};
+ghost use Rattle.loader.specs.Choice.{below, reportOn, reportOf};
 ghost use Rattle.loader.specs.Reports.{reportAt, flagOf, reportBytes, reportsAfter};
 ghost use Rattle.loader.specs.Calls.{bayCount, isBay, BayPromise, BaysPromise};
-use register::Register;
+use clock::Order;
+use sketch::STARTS;
 use walks::Layout;
+use walks::Span;
 
 // The keys that are bays: from 1 to this.
 pub const BAYS: u32 = 24;
@@ -29,57 +36,100 @@ pub struct Report {
     pub value: u64,
 }
 
-// The smallest value.
-fn least(values: Register) -> u64
-    ensures { λ r. ⌜ r ≡ smallest (valuesOf values) ⌝ }
+// Whether the first of two clocks is strictly below the second.
+fn is_less(o: Order) -> bool
+    ensures { λ r. ⌜ r ≡ yielding false o ⌝ }
 {
-    let n = values.size();
-    if n == 0 {
-        return 0;
+    match o {
+        Order::Less => true,
+        Order::Equal => false,
+        Order::Greater => false,
+        Order::Concurrent => false,
     }
-    let first = values.values[0];
-    let mut best = first.value.number;
-    let mut i: usize = 0;
-    while i < n {
-        let v = values.values[i];
-        i += 1;
-        if v.value.number < best {
-            best = v.value.number;
-        }
-    }
-    best
 }
 
-// Whether some value is another than this.
-fn other_than(values: Register, value: u64) -> bool
-    ensures { λ r. ⌜ r ≡ some (another value) (valuesOf values) ⌝ }
+// Whether the clock of the value at place k is strictly below that of another, by the runs of their dots where they lie.
+fn is_below(map: &[u8], starts: [usize; STARTS], n: usize, k: usize) -> bool
+    requires { ⌜ (k < n) × ((l : List Value) × RunsOf (now map) starts n l) ⌝ }
+    ensures { λ r. ⌜ ((l : List Value) → RunsOf (now (map .entry)) starts n l → r ≡ below l (getD l k noValue)) ⌝ }
 {
-    let n = values.size();
-    let mut i: usize = 0;
-    while i < n {
-        let v = values.values[i];
-        i += 1;
-        if value != v.value.number {
+    let from = starts[k] * 16;
+    let to = starts[k + 1] * 16;
+    let mut j: usize = 0;
+    while j < n {
+        let p = starts[j] * 16;
+        let q = starts[j + 1] * 16;
+        let o = comparing::compare_runs(&map[from..to], &map[p..q]);
+        j += 1;
+        if is_less(o) {
             return true;
         }
     }
     false
 }
 
-// The choice on a register.
-pub fn choose(register: Register) -> Report
-    ensures { λ r. ⌜ r ≡ reportOf (valuesOf register) ⌝ }
+// The number that the record of the value at place k says.
+fn number_at(map: &[u8], values: Span, k: usize) -> u64
+    requires { ⌜ ((key : ℕ) × (l : List Value) × Holds (now map) (flatFrom (valueRecords 3 key) 0 l) values × (k < length l)) ⌝ }
+    ensures { λ r. ⌜ ((key : ℕ) (l : List Value) → Holds (now (map .entry)) (flatFrom (valueRecords 3 key) 0 l) values → k < length l
+        → r ≡ getD l k noValue .value .number) ⌝ }
 {
-    let left = register.standing(register, false);
-    let n = left.size();
-    let value = least(left);
-    let differ = other_than(left, value);
-    Report {
-        count: n as u8,
-        differ,
-        found: n != 0,
-        value,
+    records::read64(map, (values.from + k) * 16 + 8)
+}
+
+// A report with one value more.
+fn with_value(r: Report, value: u64) -> Report
+    requires { ⌜ r .count < valueLimit ⌝ }
+    ensures { λ x. ⌜ (x .count ≡ r .count + 1) × ((l : List Value) (v : Value) → r ≡ reportOn l → value ≡ v .value .number → x ≡ reportOn (l ++ (v ∷ []))) ⌝ }
+{
+    let count = r.count + 1;
+    let found = true;
+    if !r.found {
+        return Report {
+            count,
+            differ: false,
+            found,
+            value,
+        };
     }
+    if value < r.value {
+        return Report {
+            count,
+            differ: true,
+            found,
+            value,
+        };
+    }
+    Report {
+        count,
+        differ: r.differ | (r.value < value),
+        found,
+        value: r.value,
+    }
+}
+
+// The choice on a register where it lies.
+fn choose(map: &[u8], values: Span, clocks: Span) -> Report
+    requires { ⌜ ((l : List Value) × Registered (now map) l values clocks) ⌝ }
+    ensures { λ r. ⌜ ((l : List Value) → Registered (now (map .entry)) l values clocks → r ≡ reportOf l) ⌝ }
+{
+    let n = values.to - values.from;
+    let starts = sketch::walking::starts_of(map, n, clocks.from, clocks.to);
+    let mut r = Report {
+        count: 0,
+        differ: false,
+        found: false,
+        value: 0,
+    };
+    let mut i: usize = 0;
+    while i < n {
+        let k = i;
+        i += 1;
+        if !is_below(map, starts, n, k) {
+            r = with_value(r, number_at(map, values, k));
+        }
+    }
+    r
 }
 
 // The report of a bay of an image.
@@ -87,7 +137,8 @@ fn report_at(map: &[u8], l: Layout, bay: u32) -> Report
     requires { ⌜ Lies (now map) (readMap (now map) .map) l ⌝ }
     ensures { λ r. ⌜ r ≡ reportAt (readMap (now (map .entry)) .map) bay ⌝ }
 {
-    choose(keyed::register_at(map, l, bay))
+    let at = keyed::spans_of(map, l, bay);
+    choose(map, at.values, at.clocks)
 }
 
 fn flag(b: bool) -> u8

@@ -94,7 +94,7 @@ fn meet(s: &[u8], e: Lain, t: &[u8], f: Lain, mine: Clock, yours: Clock) -> Kept
     let k = theirs.from * 16;
     let l = theirs.to * 16;
     let c = leaving::own_clock(s, e);
-    let o = standing::compare_runs(&s[i..j], &t[k..l]);
+    let o = comparing::compare_runs(&s[i..j], &t[k..l]);
     if is_equal(o) {
         let none = Clock::new();
         return Kept {

@@ -73,12 +73,26 @@ value-at key i n [] h = absurd (omega arith)
 value-at key i zero (v ∷ l) h = refl
 value-at key i (suc n) (v ∷ l) h = value-at key (i + 1) n l (omega arith)
 
+-- the values whose records stand somewhere
+module _ {s : List ℕ} (key : ℕ) (l : List Value) {r : Span} (h : Holds s (flatFrom (valueRecords 3 key) 0 l) r) where
+  pub many-there : r .to - r .from ≡ length l
+  many-there = sym (length-part s (r .from) (r .to)) ∙ ap length (h .records) ∙ one-each key 0 l
+
+  module _ (j : ℕ) (k : j < length l) where
+    pub content-there : contentOf (recordFrom s ((r .from + j) * 16)) ≡ getD l j noValue .value
+    content-there =
+        ap contentOf (sym (part-at s j (r .from) (r .to) (omega (arith, many-there))) ∙ ap (λ l. getD l j noRecord) (h .records))
+        ∙ value-at key 0 j l k
+
+    pub inside-there : (r .from + j) * 16 + 16 ≤ length s
+    inside-there = let w = h .within in omega (arith, many-there)
+
 module _ {s : List ℕ} {e : Entry} {r : Lain} (h : LiesAt s e r) where
   pub own-says : RunSays (between s (r .dots .from) (r .dots .to)) (dotsIn e)
   own-says = run-says 2 0 (e .key) (dotsIn e) (h .dots) (h .short) (h .fit .clock)
 
   pub many-values : r .values .to - r .values .from ≡ length (valuesIn e)
-  many-values = sym (length-part s (r .values .from) (r .values .to)) ∙ ap length (h .values .records) ∙ one-each (e .key) 0 (valuesIn e)
+  many-values = many-there (e .key) (valuesIn e) (h .values)
 
   module _ (j : ℕ) (k : j < length (valuesIn e)) where
     stands : getD (valuesIn e) j noValue ∈ valuesIn e
@@ -89,10 +103,7 @@ module _ {s : List ℕ} {e : Entry} {r : Lain} (h : LiesAt s e r) where
         (h .fit .valid _ stands .clock)
 
     pub value-content : contentOf (recordFrom s ((r .values .from + j) * 16)) ≡ getD (valuesIn e) j noValue .value
-    value-content =
-        ap contentOf (sym (part-at s j (r .values .from) (r .values .to) (omega (arith, many-values)))
-        ∙ ap (λ l. getD l j noRecord) (h .values .records))
-        ∙ value-at (e .key) 0 j (valuesIn e) k
+    value-content = content-there (e .key) (valuesIn e) (h .values) j k
 
     pub value-inside : (r .values .from + j) * 16 + 16 ≤ length s
-    value-inside = let w = h .values .within in omega (arith, many-values)
+    value-inside = inside-there (e .key) (valuesIn e) (h .values) j k

@@ -1,24 +1,29 @@
 -- Where the dots of each value begin: a turn of the walk finds the run of one value.
 -- Assumes nothing.
 use mathlib.Core.Path.{_≡_, ap, _∙_}
-use mathlib.Core.List.{List, _∷_, Memᴰ·of-map}
+use mathlib.Core.List.{List, _∷_, map, Memᴰ·of-map}
 use Prim.Native.Nat.{ℕ, suc, _+_, _*_, _≤_, _<_}
 use native.Mathlib.Omega.{arith}
 use lib.Dec.{ltb}
 use lib.ListN.{length, drop, getD, set}
-use lib.Seq.{drop-cons, getD-set-same, getD-set-other}
+use lib.Seq.{take-length, drop-cons, getD-set-same, getD-set-other}
 use borrow.Author.Tests.{ltb-true, ltb-false}
+use Rattle.lists.specs.Order.{_∈_}
+use Rattle.lists.proofs.Rests.{in-list}
 use Rattle.scan.proofs.Eachs.{decide}
 use Rattle.clock.specs.Dots.{dotsOf}
 use Rattle.register.specs.declared.Value.{Value}
-use Rattle.register.specs.Values.{noValue}
+use Rattle.register.specs.Values.{valueLimit, noValue}
+use Rattle.parts.specs.Valid.{ValidValue}
 use Rattle.records.specs.declared.Record.{Record}
-use Rattle.clockimage.specs.Image.{dotRecord, dotRecords}
+use Rattle.clockimage.specs.Image.{dotOf, dotRecord, dotRecords}
+use Rattle.clockimage.proofs.RoundTrip.{dots-back}
 use Rattle.mapimage.specs.MapImage.{flatFrom}
 use Rattle.walks.specs.Walk.{part, Splits}
 use Rattle.keyed.specs.Keyed.{Holds}
 use Rattle.layout.proofs.Values.{fours, fours-later}
 use Rattle.layout.proofs.Found.{Cut, cut-at}
+use Rattle.comparing.specs.Registers.{RunsOf}
 use Rattle.sketch.specs.Walking.{between, Runs}
 
 abbrev RunAt : List ℕ → ℕ → List Value → List ℕ → ℕ → Type 0
@@ -70,3 +75,21 @@ module _ {s : List ℕ} {key end : ℕ} {l : List Value} where
 
   pub started-all : {i at : ℕ} {starts : List ℕ} → Started s key end l i at starts → length l ≤ i → Runs s key l starts
   started-all h n = record { each = λ j k. h .each j (omega arith) }
+
+-- so the values can be compared where they lie
+pub runs-compared : {s : List ℕ} {key n : ℕ} {l : List Value} {starts : List ℕ} → Runs s key l starts → n ≡ length l → length l ≤ valueLimit
+    → ((v : Value) → v ∈ l → ValidValue v) → RunsOf s starts n l
+runs-compared {s} {key} {n} {l} h e few valid = record {
+  count = e;
+  few = few;
+  each = λ j less.
+      let low : j < length l = omega arith in
+      let g = h .each j low in
+      let i : getD l j noValue ∈ l = rw (take-length l) at (in-list l (length l) j noValue (rw (take-length l) low)) in
+      record {
+        order = g .order;
+        within = g .within;
+        dots = ap (map dotOf) (g .records) ∙ dots-back 4 j key (dotsOf (getD l j noValue .clock));
+        lawful = valid (getD l j noValue) i .clock;
+      };
+}

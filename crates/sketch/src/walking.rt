@@ -18,7 +18,7 @@ use walks::Layout;
 use walks::Span;
 
 // Where the dots of each of n values begin, and where the last one's end.
-fn starts_of(s: &[u8], n: usize, from: usize, end: usize) -> [usize; STARTS]
+pub fn starts_of(s: &[u8], n: usize, from: usize, end: usize) -> [usize; STARTS]
     requires { ⌜ (n ≤ valueLimit) × ((from ≤ end) × (end * 16 ≤ length (now s))) ⌝ }
     ensures { λ r. ⌜ ((key : ℕ) (l : List Value) → n ≡ length l → part (now (s .entry)) from end ≡ flatFrom (valueRecords 4 key) 0 l
         → Runs (now (s .entry)) key l r) ⌝ }

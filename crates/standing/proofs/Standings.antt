@@ -4,7 +4,6 @@ use mathlib.Core.Path.{_≡_, refl, ap, sym, _∙_}
 use mathlib.Core.Bool.{Bool, true, false, not, cond, _&&_, _||_}
 use mathlib.Core.List.{List, [], _∷_, _++_, map}
 use Prim.Native.Nat.{ℕ, _+_, _*_, _-_, _≤_, _<_}
-use native.Mathlib.Omega.{arith}
 use lib.ListN.{length, take, drop, getD, set}
 use lib.Seq.{take-length}
 use Rattle.lists.specs.First.{firstIn, some}
@@ -17,20 +16,8 @@ use Rattle.clock.specs.declared.Order.the-variants.{Equal, Greater, Less, Concu
 use Rattle.clock.specs.Dots.{dotsOf, covers, outcome, orderOf}
 use Rattle.register.specs.declared.Value.{Value}
 use Rattle.register.specs.Values.{noValue, yielding, yields, outdone, standing}
-use Rattle.records.proofs.Joined.{records-slice}
-use Rattle.clockimage.specs.Image.{dotOf}
-use Rattle.runs.specs.Run.{runDots}
 use Rattle.marks.specs.Marks.{picked}
-use Rattle.standing.specs.Registers.{RunOf}
 use Rattle.marks.proofs.Marking.{Marking, marking-start, marking-off, marking-skip, marking-end}
-
--- the dots of a run, cut out of the image
-pub run-dots : {s : List ℕ} {from to : ℕ} {v : Value} → RunOf s from to v
-    → runDots (take (to * 16 - from * 16) (drop (from * 16) s)) ≡ dotsOf (v .clock)
-run-dots {s} {from} {to} r =
-    let h = r .order in
-    let k = r .within in
-    ap (map dotOf) (records-slice s (from * 16) (to * 16 - from * 16) (to - from) (omega arith) (omega arith)) ∙ r .dots
 
 -- what an order says of the second beside the first
 abbrev pub back : Bool → Order → Bool

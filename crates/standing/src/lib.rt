@@ -3,13 +3,13 @@ ghost use mathlib.Core.Path.{_≡_};
 ghost use mathlib.Core.Bool.{true, false, cond};
 ghost use mathlib.Core.List.{List, [], _∷_, _++_};
 ghost use Rattle.lists.specs.Sift.{those};
-ghost use Rattle.clock.specs.Dots.{dotsOf, outcome, orderOf};
+ghost use Rattle.clock.specs.Dots.{dotsOf};
 ghost use Rattle.clock.specs.Lawful.{Lawful};
 ghost use Rattle.register.specs.declared.Value.{Value};
 ghost use Rattle.register.specs.Values.{outdone, standing, remaining, mergeValues};
 ghost use Rattle.runs.specs.Run.{runDots};
 ghost use Rattle.marks.specs.Marks.{picked};
-ghost use Rattle.standing.specs.Registers.{RunsOf};
+ghost use Rattle.comparing.specs.Registers.{RunsOf};
 use clock::Order;
 use register::VALUES;
 
@@ -31,64 +31,6 @@ pub struct Outdone {
     pub yields: bool,
 }
 
-// What two coverings say together.
-fn outcome(over: bool, under: bool) -> Order
-    ensures { λ r. ⌜ r ≡ outcome over under ⌝ }
-{
-    if over {
-        if under { Order::Equal } else { Order::Greater }
-    } else if under {
-        Order::Less
-    } else {
-        Order::Concurrent
-    }
-}
-
-// How the clocks of two runs of dots stand to each other: one walk along both.
-pub fn compare_runs(x: &[u8], y: &[u8]) -> Order
-    requires { ⌜ Lawful (runDots (now x)) × Lawful (runDots (now y)) ⌝ }
-    ensures { λ r. ⌜ r ≡ orderOf (runDots (now (x .entry))) (runDots (now (y .entry))) ⌝ }
-{
-    let n = x.len() / 16;
-    let m = y.len() / 16;
-    let mut over = true;
-    let mut under = true;
-    let mut i: usize = 0;
-    let mut j: usize = 0;
-    while i < n && j < m {
-        let d = marks::dot_at(x, i);
-        let e = marks::dot_at(y, j);
-        if d.actor < e.actor {
-            if !over {
-                return Order::Concurrent;
-            }
-            under = false;
-            i += 1;
-        } else if e.actor < d.actor {
-            if !under {
-                return Order::Concurrent;
-            }
-            over = false;
-            j += 1;
-        } else {
-            i += 1;
-            j += 1;
-            if d.counter < e.counter {
-                if !under {
-                    return Order::Concurrent;
-                }
-                over = false;
-            } else if e.counter < d.counter {
-                if !over {
-                    return Order::Concurrent;
-                }
-                under = false;
-            }
-        }
-    }
-    outcome(over & (m <= j), under & (n <= i))
-}
-
 // How the value of a run stands against a register's values: whether it yields to one, and else which of those do not yield to it.
 fn against(run: &[u8], s: &[u8], starts: [usize; 5], n: usize, before: [bool; VALUES]) -> Stood
     requires { ⌜ Lawful (runDots (now run)) × ((l : List Value) × RunsOf (now s) starts n l) ⌝ }
@@ -102,7 +44,7 @@ fn against(run: &[u8], s: &[u8], starts: [usize; 5], n: usize, before: [bool; VA
         let k = j;
         let p = starts[k] * 16;
         let q = starts[k + 1] * 16;
-        let o = compare_runs(run, &s[p..q]);
+        let o = comparing::compare_runs(run, &s[p..q]);
         j += 1;
         match o {
             Order::Less => {
@@ -162,7 +104,7 @@ pub fn put_stands(s: &[u8], starts: [usize; 5], n: usize, put: &[u8]) -> Outdone
         let k = i;
         let p = starts[k] * 16;
         let q = starts[k + 1] * 16;
-        let o = compare_runs(&s[p..q], put);
+        let o = comparing::compare_runs(&s[p..q], put);
         i += 1;
         match o {
             Order::Less => {

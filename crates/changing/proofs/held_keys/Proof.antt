@@ -8,22 +8,18 @@ use Rattle.changing.proofs.held_keys.Statement.{statement}
 use Rattle.changing.proofs.held_keys.Tie as tie
 
 returns : tie.Need-returns
-returns f =
-    let t = sym (f .before .before .before .waits .ensures) ∙ f .before .before .if1 .taken in
-    let a = f .before .before .before .before .before .args in
-    let p = f .before .before .before .before .before .pre in
-    let k = removal-keys (a .op .now) (a .r) _ _ (p .1) (f .size .ensures .0) refl in
-    rw t (keyed-removal (a .r) (k .0) (omega arith) (p .0 .keys) (k .1))
+returns f = λ r seen h e.
+    let a = f .before .args in
+    let k = removal-keys (a .op .now) r _ _ (h .records) (h .count) refl in
+    rw (sym e ∙ f .if1 .taken) (keyed-removal r (k .0) (omega arith) (h .within .valid .keys) (k .1))
 
 returns-2 : tie.Need-returns-2
-returns-2 f = rw (sym (f .before .waits .ensures) ∙ f .if1 .left) (keyed-none _ 0 (omega arith))
+returns-2 f = λ r seen h e. rw (sym e ∙ f .if1 .left) (keyed-none _ 0 (omega arith))
 
 pub held-keys-spec : {M : Type 1} → statement M
 held-keys-spec =
     tie.close
     (tie.spec
-    (λ c κs. search needs)
-    (λ c κs. search needs)
-    (λ c. search needs)
+    (λ c. let h = c .before .pre .1 in omega (arith, h .count, h .within .dots))
     returns
     returns-2)

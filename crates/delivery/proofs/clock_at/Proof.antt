@@ -1,12 +1,15 @@
--- `clock_at` meets its contract: one dot after the other. Assumes nothing.
+-- `clock_at` meets its contract: one dot after the other, in place. Assumes nothing.
 use mathlib.Core.Path.{_≡_, ap, sym, _∙_}
 use mathlib.Core.List.{map}
-use Prim.Native.Nat.{_+_, _*_, _≤_, _-_}
-use Rattle.clock.specs.Dots.{clockOf}
+use Prim.Native.Nat.{_+_, _*_, _≤_, _<_, _-_}
+use lib.ListN.{length}
+use Rattle.clock.specs.Dots.{dotLimit, clockOf}
+use Rattle.clock.proofs.Packs.{pushed}
 use Rattle.maprecords.specs.Reading.{below}
 use Rattle.memory.specs.Memory.{dotRoom, dotAt, dotsAt}
 use Rattle.memory.proofs.Views.{length-of}
 use Rattle.delivery.proofs.Belows.{made-none, made-next}
+use Rattle.delivery.proofs.Rooms.{dot-room}
 use borrow.Author.Needs.{needs}
 use native.Mathlib.Omega.{arith}
 use Rattle.delivery.proofs.clock_at.Statement.{statement}
@@ -21,15 +24,22 @@ abbrev μ-loop : tie.MeasureT-loop
 loop-holds : tie.Need-loop-holds Inv-loop μ-loop
 loop-holds c = (omega arith, c .new .ensures ∙ ap clockOf (sym (made-none _)))
 
-push-requires : tie.Need-push-requires Inv-loop μ-loop
-push-requires c κs =
+-- there is room for the dot
+few : (c : tie.After-dot-at Inv-loop μ-loop) → let s = c .before .before in
+    let a = s .before .before .before .args in
+    length (map (λ j. dotAt (a .mem .now) (a .at + 1 + j * dotRoom)) (below (s .loop .i))) < dotLimit
+few c =
     let s = c .before .before in
-    omega (arith, ap (λ k. k .len) (s .loop .inv .1) ∙ length-of _ (s .loop .i))
+    let a = s .before .before .before .args in
+    omega (arith, length-of (λ j. dotAt (a .mem .now) (a .at + 1 + j * dotRoom)) (s .loop .i), s .before .before .count .ensures)
+
+room : (c : tie.After-dot-at Inv-loop μ-loop) → let s = c .before .before in (s .loop .clock .len < dotLimit) × (length (s .loop .clock .dots) ≡ dotLimit)
+room c = dot-room _ (c .before .before .loop .inv .1) (few c)
 
 loop-again : tie.Need-loop-again Inv-loop μ-loop
 loop-again c =
-    let s = c .before .before .before in
-    (omega arith, made-next _ clockOf (s .loop .i) (c .before .dot-at .ensures) (c .push .ensures _ (s .loop .inv .1)))
+    let s = c .before .before in
+    (omega arith, made-next _ clockOf (s .loop .i) (c .dot-at .ensures) (pushed _ _ (s .loop .inv .1) (few c)))
 
 returns : tie.Need-returns Inv-loop μ-loop
 unfolding dotsAt
@@ -53,7 +63,9 @@ clock-at-spec =
     (λ c. search needs)
     (λ c κs. search needs)
     (λ c. search needs)
-    push-requires
+    (λ c. omega (arith, room c))
+    (λ c. omega (arith, room c))
+    (λ c. omega (arith, room c))
     (λ c. search needs)
     loop-again
     returns)

@@ -1,10 +1,10 @@
 -- `count_entries` meets its contract: the loop adds up what each has. Assumes nothing.
-use mathlib.Core.Path.{_≡_, ap}
+use mathlib.Core.Path.{_≡_, ap, _∙_}
 use Prim.Native.Nat.{_+_, _*_, _≤_, _-_}
-use lib.ListN.{drop}
-use Rattle.answers.specs.Sizes.{entryMost, totalOf, entrySize}
-use Rattle.memory.specs.Memory.{entriesAt}
-use Rattle.delivery.proofs.Views.{entries-left, entries-end}
+use lib.ListN.{length, drop}
+use Rattle.answers.specs.Sizes.{entryMost, totalOf, valueSize, entrySize}
+use Rattle.memory.specs.Memory.{ownPlace, entriesAt}
+use Rattle.delivery.proofs.Views.{length-dots, entry-dots, entry-values, entries-left, entries-end}
 use borrow.Author.Needs.{needs}
 use native.Mathlib.Omega.{arith}
 use Rattle.delivery.proofs.count_entries.Statement.{statement}
@@ -17,17 +17,16 @@ Inv-loop mem n total₀ j₀ total j =
 abbrev μ-loop : tie.MeasureT-loop
 μ-loop mem n total₀ j₀ total j = n - j
 
-loop-holds : tie.Need-loop-holds Inv-loop μ-loop
-loop-holds c = (omega arith, (omega arith, omega arith))
-
 loop-again : tie.Need-loop-again Inv-loop μ-loop
 unfolding totalOf
 loop-again c =
-    let t = c .before .before .before .before in
-    let s = t .before .before in
+    let s = c .before .before .before in
     let w = s .before .before .args .mem .now in
     let e = ap (totalOf entrySize) (entries-left w (s .loop .j) (omega arith)) in
-    let x = ap entrySize (t .entry-at .ensures) in
+    let x = ap length (entry-dots w (s .loop .j)) ∙ length-dots w (ownPlace (s .loop .j)) in
+    let y = ap (totalOf valueSize) (entry-values w (s .loop .j)) in
+    let p = c .before .count2 .ensures in
+    let q = c .count-values .ensures in
     (omega arith, (omega arith, omega arith))
 
 returns : tie.Need-returns Inv-loop μ-loop
@@ -45,11 +44,13 @@ count-entries-spec =
     Inv-loop
     μ-loop
     (λ c κs. search needs)
-    loop-holds
-    (λ c κs. search needs)
+    (λ c. (omega arith, (omega arith, omega arith)))
+    (λ c. search needs)
+    (λ c. search needs)
     (λ c. search needs)
     (λ c κs. search needs)
     (λ c κs. search needs)
+    (λ c. search needs)
     (λ c. search needs)
     (λ c. search needs)
     (λ c. search needs)

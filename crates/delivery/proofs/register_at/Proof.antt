@@ -1,12 +1,15 @@
--- `register_at` meets its contract: one value after the other. Assumes nothing.
+-- `register_at` meets its contract: one value after the other, in place. Assumes nothing.
 use mathlib.Core.Path.{_≡_, ap, sym, _∙_}
 use mathlib.Core.List.{map}
-use Prim.Native.Nat.{_≤_, _-_}
-use Rattle.register.specs.Values.{registerOf}
+use Prim.Native.Nat.{_≤_, _<_, _-_}
+use lib.ListN.{length}
+use Rattle.register.specs.Values.{valueLimit, registerOf}
+use Rattle.register.proofs.Packs.{pushed}
 use Rattle.maprecords.specs.Reading.{below}
 use Rattle.memory.specs.Memory.{valuePlace, valueAt, valuesAt}
 use Rattle.memory.proofs.Views.{length-of}
 use Rattle.delivery.proofs.Belows.{made-none, made-next}
+use Rattle.delivery.proofs.Rooms.{value-room}
 use borrow.Author.Needs.{needs}
 use native.Mathlib.Omega.{arith}
 use Rattle.delivery.proofs.register_at.Statement.{statement}
@@ -21,15 +24,22 @@ abbrev μ-loop : tie.MeasureT-loop
 loop-holds : tie.Need-loop-holds Inv-loop μ-loop
 loop-holds c = (omega arith, c .new .ensures ∙ ap registerOf (sym (made-none _)))
 
-push-requires : tie.Need-push-requires Inv-loop μ-loop
-push-requires c κs =
+-- there is room for the value
+few : (c : tie.After-value-at Inv-loop μ-loop) → let s = c .before .before in
+    let a = s .before .before .before .args in
+    length (map (λ k. valueAt (a .mem .now) (valuePlace (a .j) k)) (below (s .loop .i))) < valueLimit
+few c =
     let s = c .before .before in
-    omega (arith, ap (λ k. k .len) (s .loop .inv .1) ∙ length-of _ (s .loop .i))
+    let a = s .before .before .before .args in
+    omega (arith, length-of (λ k. valueAt (a .mem .now) (valuePlace (a .j) k)) (s .loop .i), s .before .before .count .ensures)
+
+room : (c : tie.After-value-at Inv-loop μ-loop) → let s = c .before .before in (s .loop .register .len < valueLimit) × (length (s .loop .register .values) ≡ valueLimit)
+room c = value-room _ (c .before .before .loop .inv .1) (few c)
 
 loop-again : tie.Need-loop-again Inv-loop μ-loop
 loop-again c =
-    let s = c .before .before .before in
-    (omega arith, made-next _ registerOf (s .loop .i) (c .before .value-at .ensures) (c .push .ensures _ (s .loop .inv .1)))
+    let s = c .before .before in
+    (omega arith, made-next _ registerOf (s .loop .i) (c .value-at .ensures) (pushed _ _ (s .loop .inv .1) (few c)))
 
 returns : tie.Need-returns Inv-loop μ-loop
 unfolding valuesAt
@@ -57,7 +67,9 @@ register-at-spec =
     (λ c. search needs)
     (λ c κs. search needs)
     (λ c. search needs)
-    push-requires
+    (λ c. omega (arith, room c))
+    (λ c. omega (arith, room c))
+    (λ c. omega (arith, room c))
     (λ c. search needs)
     loop-again
     returns)

@@ -9,8 +9,9 @@ use Rattle.clock.specs.Dots.{dotsOf, orderOf}
 use Rattle.register.specs.declared.Value.{Value}
 use Rattle.register.specs.Values.{valueLimit, noValue}
 use Rattle.runs.specs.Run.{runDots}
-use Rattle.standing.specs.Registers.{RunOf, RunsOf}
-use Rattle.standing.proofs.Standings.{run-dots, Passed, passed-start, passed-on, passed-off, passed-stops, passed-end}
+use Rattle.comparing.specs.Registers.{RunOf, RunsOf}
+use Rattle.comparing.proofs.Cut.{run-dots}
+use Rattle.standing.proofs.Standings.{Passed, passed-start, passed-on, passed-off, passed-stops, passed-end}
 use borrow.Author.Needs.{needs}
 use native.Mathlib.Omega.{arith}
 use Rattle.standing.proofs.against.Statement.{statement}

@@ -10,8 +10,8 @@ use Rattle.clock.specs.Dots.{dotsOf, orderOf}
 use Rattle.register.specs.declared.Value.{Value}
 use Rattle.register.specs.Values.{valueLimit, noValue}
 use Rattle.runs.specs.Run.{runDots}
-use Rattle.standing.specs.Registers.{RunOf, RunsOf}
-use Rattle.standing.proofs.Standings.{run-dots}
+use Rattle.comparing.specs.Registers.{RunOf, RunsOf}
+use Rattle.comparing.proofs.Cut.{run-dots}
 use Rattle.standing.proofs.Registers.{Putting, putting-start, putting-on, putting-off, putting-end}
 use borrow.Author.Needs.{needs}
 use native.Mathlib.Omega.{arith}

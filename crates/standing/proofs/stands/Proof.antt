@@ -4,8 +4,8 @@ use Prim.Native.Nat.{_≤_, _<_, _-_, _+_}
 use lib.ListN.{getD}
 use Rattle.register.specs.declared.Value.{Value}
 use Rattle.register.specs.Values.{valueLimit, noValue}
-use Rattle.standing.specs.Registers.{RunOf, RunsOf}
-use Rattle.standing.proofs.Standings.{run-dots}
+use Rattle.comparing.specs.Registers.{RunOf, RunsOf}
+use Rattle.comparing.proofs.Cut.{run-dots}
 use Rattle.standing.proofs.Registers.{Merging, merging-start, merging-on, merging-off, merging-end}
 use borrow.Author.Needs.{needs}
 use native.Mathlib.Omega.{arith}

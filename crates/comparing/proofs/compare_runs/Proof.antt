@@ -17,8 +17,8 @@ use Rattle.runs.specs.Run.{runDots}
 use Rattle.marks.proofs.Dots.{run-at, length-run}
 use borrow.Author.Needs.{needs}
 use native.Mathlib.Omega.{arith}
-use Rattle.standing.proofs.compare_runs.Statement.{statement}
-use Rattle.standing.proofs.compare_runs.Tie as tie
+use Rattle.comparing.proofs.compare_runs.Statement.{statement}
+use Rattle.comparing.proofs.compare_runs.Tie as tie
 
 -- all of a list, as the walk speaks of it
 abbrev all : List Dot → List Dot
