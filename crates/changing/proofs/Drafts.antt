@@ -25,6 +25,7 @@ use Rattle.walks.specs.declared.Span.{Span}
 use Rattle.planned.specs.declared.Plan.{Plan}
 use Rattle.sketch.specs.declared.Sketch.{Sketch}
 use Rattle.sketch.specs.Drawn.{drawnAll, sectionsOf, AllReady}
+use Rattle.sketch.proofs.Counts.{all-records}
 use Rattle.changing.specs.Drafted.{waitingRecords, waitingNumber, limitNumber, Drafted}
 use Rattle.changing.proofs.Numbers.{draft-records, draft-length, settled, whole-room}
 
@@ -49,11 +50,13 @@ module _ {s t : List ℕ} {ours theirs : Span} {clock : Clock} {sk : Sketch} {pl
         draft-records c l w ∙ ap₂ (λ a b. dotRecords 1 0 0 a ++ (sectionsOf b ++ waitingRecords w)) (sym (dots-of c (d .seen))) (sym drawn-whole)
 
     -- how long the image is, by what the code counts
-    pub counted : {n k r : ℕ} → n ≡ length (dotsOf clock) → k ≡ length (sectionsOf (drawnAll s t sk)) → r ≡ length (waitingRecords w) → length (mapImage (mapAs c l w)) ≡ (n + (k + r)) * 16
-    counted p q r =
+    pub counted : {n r : ℕ} → n ≡ length (dotsOf clock) → r ≡ length (waitingRecords w)
+        → length (mapImage (mapAs c l w)) ≡ (n + (sk .sums .dots + sk .sums .others + r)) * 16
+    counted p q =
+        let h = settled l w z in
         let x = ap length (dots-of c (d .seen)) in
-        let y = ap (λ h. length (sectionsOf h)) drawn-whole in
-        draft-length c l w ∙ omega (arith, x, y, p, q, r)
+        let y = d .entries .sums .records (h .few) (h .narrow) ∙ all-records l in
+        draft-length c l w ∙ omega (arith, x, y, p, q)
 
     module _ (o : List ℕ) (room : length (mapImage (mapAs c l w)) ≤ length o) where
       pub start : Writing whole whole 0 o o 0

@@ -29,15 +29,15 @@ pub fn finish(
     ensures { λ r. ⌜ ((c : List Dot) (l : List Entry) (w : List Removal) → Drafted (now (s .entry)) (now (t .entry)) ours theirs clock sk plan c l w
         → Answered (mapAnswer 0 0 (judged (mapAs c l w))) (now (out .entry)) (now (out .exit)) r) ⌝ }
 {
-    let waits = waiting::weigh(sk.count, sk.wide, plan, s, ours, t, theirs);
+    let sums = sk.sums;
+    let waits = waiting::weigh(sums.count, sums.wide, plan, s, ours, t, theirs);
     if waits.number != 0 {
         return answers::word(waits.number);
     }
-    let records = clock.size() + (sketch::counting::count_records(sk) + waits.records);
+    let records = clock.size() + (sums.dots + sums.others + waits.records);
     if out.len() / 16 < records {
         return answers::word(10);
     }
-    let entries = clockimage::write_dots(out, 0, 1, 0, 0, clock);
-    let rest = sketch::writing::write_sketch(s, t, sk, out, entries);
+    let rest = sketch::writing::write_sketch(s, t, clock, sk, out);
     waiting::write_waiting(plan, s, ours, t, theirs, out, rest) as u64
 }

@@ -1,4 +1,4 @@
--- What is counted by: the section of an image's entry dots, the clocks of a sketch, and what a removal or a reset leaves of entries.
+-- What is counted by: the section of an image's entry dots, and what a removal or a reset leaves of entries.
 -- Assumes nothing.
 use mathlib.Core.Path.{_≡_, refl, ap, sym, _∙_}
 use mathlib.Core.Bool.{false}
@@ -10,12 +10,9 @@ use lib.ListN.{length}
 use Rattle.lists.specs.Sift.{sift}
 use Rattle.clock.specs.declared.Dot.{Dot}
 use Rattle.clock.specs.Dots.{dotsOf}
-use Rattle.clock.proofs.Packs.{dots-of}
 use Rattle.clockimage.specs.declared.ReadClock.{ReadClock}
 use Rattle.clockimage.specs.ClockImage.{readClock}
-use Rattle.parts.specs.declared.Entry.{Entry}
 use Rattle.parts.specs.declared.Removal.{Removal}
-use Rattle.parts.specs.Model.{dotsIn}
 use Rattle.parts.specs.Entries.{stays, cutEntry, removeEntries}
 use Rattle.parts.proofs.Pieces.{entries-of}
 use Rattle.map.specs.declared.Map.{Map}
@@ -27,7 +24,6 @@ use Rattle.opimage.specs.declared.ReadOp.{ReadOp}
 use Rattle.opimage.specs.OpImage.{readOp}
 use Rattle.maprecords.specs.Related.{readMap}
 use Rattle.answers.specs.Answer.{Answer, numberOf, Counted}
-use Rattle.answers.specs.Sizes.{totalOf}
 use Rattle.answers.proofs.Lengths.{entry-dots}
 use Rattle.promises.specs.Calls.{mapAnswer}
 use Rattle.promises.specs.Deleted.{dotsAmong, entryDots, applyDeleted, resetDeleted}
@@ -35,21 +31,12 @@ use Rattle.promises.proofs.Deletes.{removal-leaves, reset-leaves, apply-deletes
 use Rattle.walks.specs.declared.Layout.{Layout}
 use Rattle.walks.proofs.Loops.{length-part}
 use Rattle.layout.specs.Whole.{Lies}
-use Rattle.sketch.specs.declared.Sketch.{Sketch}
-use Rattle.sketch.specs.declared.Sketched.{Sketched}
-use Rattle.sketch.specs.Drawn.{drawn, itemsOf, drawnAll}
-use Rattle.sketch.proofs.Counts.{total-map}
 use Rattle.changing.proofs.Results.{applied-removal}
 
 -- the records of kind 2 are the entries' dots
 pub section-dots : {s : List ℕ} {m : Map} {l : Layout} → Lies s m l → l .third - l .second ≡ entryDots m
 unfolding entryDots
 section-dots {s} {m} {l} h = sym (length-part s (l .second) (l .third)) ∙ ap length (sym (h .sections .second)) ∙ entry-dots (entriesIn m)
-
--- an entry is drawn with its clock
-pub sketch-dots : (s t : List ℕ) (sk : Sketch) → totalOf (λ (k : Sketched). length (dotsOf (k .clock))) (itemsOf sk) ≡ dotsAmong (drawnAll s t sk)
-sketch-dots s t sk = total-map (λ (k : Sketched). length (dotsOf (k .clock))) (λ e. length (dotsIn e)) (drawn s t) (itemsOf sk)
-    (λ k i. ap length (sym (dots-of (dotsOf (k .clock)) refl)))
 
 -- what is left, by the entries alone
 pub removed-among : (m : Map) (r : Removal) → entryDots (remove m r) ≡ dotsAmong (removeEntries r (entriesIn m))

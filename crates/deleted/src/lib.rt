@@ -1,13 +1,12 @@
 // How many dots a removal and a reset delete from entry clocks, on images where they lie.
 ghost use mathlib.Core.Path.{_≡_};
 ghost use mathlib.Core.List.{List};
-ghost use Prim.Native.Nat.{ℕ, _+_, _*_, _≤_};
+ghost use Prim.Native.Nat.{ℕ, _+_, _≤_};
 ghost use Rattle.clock.specs.declared.Dot.{Dot};
-ghost use Rattle.clock.specs.Dots.{dotLimit, dotsOf};
+ghost use Rattle.clock.specs.Dots.{dotsOf};
 ghost use Rattle.clock.specs.Lawful.{Lawful};
 ghost use Rattle.parts.specs.declared.Entry.{Entry};
 ghost use Rattle.parts.specs.declared.Removal.{Removal};
-ghost use Rattle.parts.specs.Model.{entryLimit};
 ghost use Rattle.map.specs.Model.{mapAs};
 ghost use Rattle.map.specs.Judging.{judged};
 ghost use Rattle.map.specs.Removing.{remove};
@@ -21,35 +20,19 @@ ghost use Rattle.promises.specs.Calls.{mapAnswer};
 ghost use Rattle.promises.specs.Deleted.{dotsAmong, entryDots};
 ghost use Rattle.promises.specs.Promises.{ApplyDeletedPromise, ResetRemoveDeletedPromise};
 ghost use Rattle.layout.specs.Whole.{LaidOut};
-ghost use Rattle.sketch.specs.Drawn.{drawnAll};
+ghost use Rattle.sketch.specs.declared.Sketched.{Sketched};
 ghost use Rattle.changing.specs.Drafted.{Drafted};
 use clock::Clock;
 use layout::Laid;
 use parts::Removal;
 use planned::Plan;
-use sketch::Sketch;
+use sketch::Sums;
 use walks::Span;
-
-// The dots in the clocks of the entries that are drawn.
-fn count_dots(sk: Sketch) -> usize
-    ensures { λ r. ⌜ ((s t : List ℕ) → r ≡ dotsAmong (drawnAll s t sk)) × (r ≤ entryLimit * dotLimit) ⌝ }
-{
-    let n = sk.size();
-    let mut total: usize = 0;
-    let mut i: usize = 0;
-    while i < n {
-        let e = sk.items[i];
-        i += 1;
-        let clock = e.clock;
-        total += clock.size();
-    }
-    total
-}
 
 // How many dots a draft has less than there were, where it breaks no limit and has so much room.
 fn fewer(
     clock: Clock,
-    sk: Sketch,
+    sums: Sums,
     plan: Plan,
     s: &[u8],
     ours: Span,
@@ -58,19 +41,21 @@ fn fewer(
     room: usize,
     had: usize,
 ) -> u64
-    requires { ⌜ ((c : List Dot) × ((l : List Entry) × ((w : List Removal) × (Drafted (now s) (now t) ours theirs clock sk plan c l w × (dotsAmong l ≤ had))))) ⌝ }
-    ensures { λ r. ⌜ ((c : List Dot) (l : List Entry) (w : List Removal) (n : ℕ) → Drafted (now (s .entry)) (now (t .entry)) ours theirs clock sk plan c l w → dotsAmong l + n ≡ had
+    requires { ⌜ ((items : List Sketched) × ((c : List Dot) × ((l : List Entry) × ((w : List Removal)
+        × (Drafted (now s) (now t) ours theirs clock (record { items = items; sums = sums }) plan c l w × (dotsAmong l ≤ had)))))) ⌝ }
+    ensures { λ r. ⌜ ((items : List Sketched) (c : List Dot) (l : List Entry) (w : List Removal) (n : ℕ)
+        → Drafted (now (s .entry)) (now (t .entry)) ours theirs clock (record { items = items; sums = sums }) plan c l w → dotsAmong l + n ≡ had
         → Counted (mapAnswer 0 0 (judged (mapAs c l w))) room n r) ⌝ }
 {
-    let waits = changing::waiting::weigh(sk.count, sk.wide, plan, s, ours, t, theirs);
+    let waits = changing::waiting::weigh(sums.count, sums.wide, plan, s, ours, t, theirs);
     if waits.number != 0 {
         return 0;
     }
-    let records = clock.size() + (sketch::counting::count_records(sk) + waits.records);
+    let records = clock.size() + (sums.dots + sums.others + waits.records);
     if room / 16 < records {
         return 0;
     }
-    (had - count_dots(sk)) as u64
+    (had - sums.dots) as u64
 }
 
 // Of a map that was read, with a removal.
@@ -95,7 +80,8 @@ fn removal_deleted(map: &[u8], a: Laid, r: Removal, op: &[u8], room: usize) -> u
         to: l.end,
     };
     let had = l.third - l.second;
-    fewer(clock, sk, plan, map, ours, op, theirs, room, had)
+    let sums = sk.sums;
+    fewer(clock, sums, plan, map, ours, op, theirs, room, had)
 }
 
 pub fn apply_deleted(map: &[u8], op: &[u8], room: usize) -> u64
@@ -134,7 +120,8 @@ fn reset_deleted(map: &[u8], a: Laid, by: Clock, room: usize) -> u64
     };
     let theirs = Span { from: 0, to: 0 };
     let had = l.third - l.second;
-    fewer(clock, sk, plan, map, ours, map, theirs, room, had)
+    let sums = sk.sums;
+    fewer(clock, sums, plan, map, ours, map, theirs, room, had)
 }
 
 pub fn reset_remove_deleted(map: &[u8], clock: &[u8], room: usize) -> u64

@@ -17,7 +17,8 @@ use Rattle.clock.proofs.Cuts.{cut-none}
 use Rattle.parts.specs.declared.Removal.{Removal}
 use Rattle.parts.specs.Model.{waitingLimit, underOf, listedIn}
 use Rattle.parts.specs.Entries.{listed}
-use Rattle.queued.specs.Queue.{cutsFor, lists, Marked}
+use Rattle.queued.specs.declared.Queue.{Queue}
+use Rattle.queued.specs.Queue.{cutsFor, lists, Queued, Marked}
 use Rattle.leaving.specs.Left.{Untouched}
 
 -- no mark is set, so none at a place
@@ -36,15 +37,15 @@ cuts-none [] key x f = refl
 cuts-none (r ∷ w) key x f =
     ap (λ b. cutsFor w key (cond b (cutDots (underOf r) x) x)) (f 0 (omega arith)) ∙ cuts-none w key x (λ j h. f (suc j) (omega arith))
 
-cuts-marked : (w : List Removal) (key : ℕ) (x : List Dot) {under : List Bool} → length w ≤ waitingLimit → Marked w key under
-    → some (λ b. b) (take waitingLimit under) ≡ false → cutsFor w key x ≡ x
-cuts-marked w key x {under} few m t =
-    cuts-none w key x (λ j h. sym (m .each j (omega arith)) ∙ none-at waitingLimit under j t (omega arith))
+cuts-marked : (w : List Removal) (key : ℕ) (x : List Dot) {under : List Bool} {n : ℕ} → n ≡ length w → length w ≤ waitingLimit → Marked w key under
+    → some (λ b. b) (take n under) ≡ false → cutsFor w key x ≡ x
+cuts-marked w key x {under} {n} e few m t =
+    cuts-none w key x (λ j h. sym (m .each j (omega arith)) ∙ none-at n under j t (omega (arith, e)))
 
 -- what nothing cuts stays as it is
-pub whole-left : {gone : Clock} {theirs ours : List Bool} (u : Untouched gone theirs ours) (v w : List Removal) (key : ℕ) {x : List Dot} → Lawful x
-    → length v ≤ waitingLimit → length w ≤ waitingLimit → Marked v key theirs → Marked w key ours
+pub whole-left : {gone : Clock} {theirs ours : List Bool} {s t : List ℕ} {cs ds : Queue} (u : Untouched gone (ds .len) theirs (cs .len) ours)
+    (v w : List Removal) (key : ℕ) {x : List Dot} → Lawful x → Queued t ds v → Queued s cs w → Marked v key theirs → Marked w key ours
     → cutsFor w key (cutsFor v key (cutDots (dotsOf gone) x)) ≡ x
 whole-left u v w key {x} h a b m n =
     ap (λ d. cutsFor w key (cutsFor v key (cutDots d x))) (u .no-clock) ∙ ap (λ d. cutsFor w key (cutsFor v key d)) (cut-none h)
-    ∙ ap (cutsFor w key) (cuts-marked v key x a m (u .no-theirs)) ∙ cuts-marked w key x b n (u .no-ours)
+    ∙ ap (cutsFor w key) (cuts-marked v key x (a .count) (a .few) m (u .no-theirs)) ∙ cuts-marked w key x (b .count) (b .few) n (u .no-ours)

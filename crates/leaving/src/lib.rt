@@ -53,12 +53,13 @@ pub fn own_left(s: &[u8], x: Lain, by: Clock) -> Clock
     marks::pick_clock(&s[from..to], left)
 }
 
-// Whether a removal lists a key.
-fn any_listed(under: [bool; WAITING]) -> bool
-    ensures { λ r. ⌜ r ≡ some (λ b. b) (take waitingLimit under) ⌝ }
+// Whether one of n removals lists a key.
+fn any_listed(under: [bool; WAITING], n: usize) -> bool
+    requires { ⌜ n ≤ waitingLimit ⌝ }
+    ensures { λ r. ⌜ r ≡ some (λ b. b) (take n under) ⌝ }
 {
     let mut i: usize = 0;
-    while i < WAITING {
+    while i < n {
         if under[i] {
             return true;
         }
@@ -68,14 +69,21 @@ fn any_listed(under: [bool; WAITING]) -> bool
 }
 
 // Whether values stay whole: a clock deletes nothing, and no removal lists their key.
-fn stay_whole(gone: Clock, theirs: [bool; WAITING], ours: [bool; WAITING]) -> bool
-    ensures { λ r. ⌜ (r ≡ true → Untouched gone theirs ours) ⌝ }
+fn stay_whole(
+    gone: Clock,
+    m: usize,
+    theirs: [bool; WAITING],
+    n: usize,
+    ours: [bool; WAITING],
+) -> bool
+    requires { ⌜ (m ≤ waitingLimit) × (n ≤ waitingLimit) ⌝ }
+    ensures { λ r. ⌜ (r ≡ true → Untouched gone m theirs n ours) ⌝ }
 {
     if gone.is_empty() {
-        if any_listed(theirs) {
+        if any_listed(theirs, m) {
             return false;
         }
-        return !any_listed(ours);
+        return !any_listed(ours, n);
     }
     false
 }
@@ -92,7 +100,7 @@ fn marks_left(
     cs: Queue,
     ours: [bool; WAITING],
 ) -> [bool; DOTS]
-    requires { ⌜ ((length (now run) ≤ dotLimit * 16) × ((whole ≡ true → Untouched gone theirs ours) × (Lawful (runDots (now run)) × Lawful (dotsOf gone)))) × (((w : List Removal) × Queued (now t) ds w) × ((w : List Removal) × Queued (now s) cs w)) ⌝ }
+    requires { ⌜ ((length (now run) ≤ dotLimit * 16) × ((whole ≡ true → Untouched gone (ds .len) theirs (cs .len) ours) × (Lawful (runDots (now run)) × Lawful (dotsOf gone)))) × (((w : List Removal) × Queued (now t) ds w) × ((w : List Removal) × Queued (now s) cs w)) ⌝ }
     ensures { λ r. ⌜ ((v w : List Removal) (key : ℕ) → Queued (now (t .entry)) ds v → Queued (now (s .entry)) cs w → Marked v key theirs → Marked w key ours
         → picked r (runDots (now (run .entry))) ≡ cutsFor w key (cutsFor v key (cutDots (dotsOf gone) (runDots (now (run .entry)))))) ⌝ }
 {
@@ -119,7 +127,7 @@ fn source_of(
     cs: Queue,
     ours: [bool; WAITING],
 ) -> Source
-    requires { ⌜ ((e : Entry) × LiesAt (now v) e x × (k < length (valuesIn e))) × (((whole ≡ true → Untouched gone theirs ours) × (Lawful (dotsOf gone) × (length (now v) ≤ mapLongest))) × (((w : List Removal) × Queued (now t) ds w) × ((w : List Removal) × Queued (now s) cs w))) ⌝ }
+    requires { ⌜ ((e : Entry) × LiesAt (now v) e x × (k < length (valuesIn e))) × (((whole ≡ true → Untouched gone (ds .len) theirs (cs .len) ours) × (Lawful (dotsOf gone) × (length (now v) ≤ mapLongest))) × (((w : List Removal) × Queued (now t) ds w) × ((w : List Removal) × Queued (now s) cs w))) ⌝ }
     ensures { λ r. ⌜ ((r .second ≡ second) × ((r .from ≤ r .to) × (r .to ≤ r .from + dotLimit))) × ((e : Entry) (u w : List Removal) → LiesAt (now (v .entry)) e x → k < length (valuesIn e) → Queued (now (t .entry)) ds u → Queued (now (s .entry)) cs w
         → Marked u (e .key) theirs → Marked w (e .key) ours → Placed (now (v .entry)) r × (valueIn (now (v .entry)) r ≡ valueLeft w u (e .key) (dotsOf gone) (getD (valuesIn e) k noValue))) ⌝ }
 {
@@ -159,7 +167,7 @@ pub fn draw_values(
     ensures { λ r. ⌜ (r .len ≤ before .len + valueLimit) × ((a b : List ℕ) (key : ℕ) (d : List Dot) (l : List Value) (e : Entry) (u w : List Removal) → cond second b a ≡ now (v .entry) → Draws a b key d l before → LiesAt (now (v .entry)) e x
         → Queued (now (t .entry)) ds u → Queued (now (s .entry)) cs w → Marked u (e .key) theirs → Marked w (e .key) ours → Draws a b key d (l ++ sift alive (valueLeft w u (e .key) (dotsOf gone)) (picked stand (valuesIn e))) r) ⌝ }
 {
-    let whole = stay_whole(gone, theirs, ours);
+    let whole = stay_whole(gone, ds.len, theirs, cs.len, ours);
     let values = x.values;
     let n = values.to - values.from;
     let mut out = before;

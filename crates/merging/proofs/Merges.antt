@@ -7,7 +7,7 @@ use Prim.Native.Nat.{ℕ, _+_, _*_, _/_, _%_, _≤_}
 use native.Mathlib.Omega.{arith}
 use lib.Dec.{leb}
 use lib.ListN.{length}
-use borrow.Author.Tests.{le-leb}
+use borrow.Author.Tests.{le-leb, eq-eqb, ne-eqb}
 use Rattle.lists.specs.Order.{_∈_}
 use Rattle.lists.specs.Sift.{sift}
 use Rattle.lists.specs.Weave.{weave}
@@ -36,7 +36,7 @@ use Rattle.sketch.specs.declared.Cursor.{Cursor}
 use Rattle.sketch.specs.declared.Sketch.{Sketch}
 use Rattle.sketch.specs.declared.Sketched.{Sketched}
 use Rattle.sketch.specs.Walking.{Ahead}
-use Rattle.sketch.specs.Drawn.{Draws, Sketches}
+use Rattle.sketch.specs.Drawn.{clockIn, Draws, Sketches}
 use Rattle.sketch.proofs.Stepping.{startOf, all-ahead}
 use Rattle.leaving.specs.Left.{valueLeft}
 use Rattle.leaving.proofs.Growing.{Grown, grown-on, grown-same, grown-end}
@@ -61,8 +61,17 @@ pub record Drawing (m n : Map) (s t : List ℕ) (l k : Layout) (out : Sketch) (f
   pub over : (e : Entry) → e ∈ fs → low ≤ e .key
   pub listed : Keyed s f (l .end) (keyNumber 0 low) (waitingIn m)
   pub others : Keyed t g (k .end) (keyNumber 0 low) (waitingIn n)
-  pub few : out .count + (length es + length fs) ≤ 2 * entryLimit
+  pub few : out .sums .count + (length es + length fs) ≤ 2 * entryLimit
   pub grown : Grown (Sketches s t) (mergedEntries m n) (sift stays (fate m n) (woven (seenBy m) (seenBy n) es fs)) out
+
+-- something, or nothing, is left of a clock, by how many dots it has
+pub some-left : (d : List Dot) {n : ℕ} → n ≡ length d → (n ≡ 0 → ⊥) → isEmpty d ≡ false
+unfolding isEmpty
+some-left d e h = ne-eqb (length d) 0 (λ z. h (e ∙ z))
+
+pub none-left : (d : List Dot) {n : ℕ} → n ≡ length d → n ≡ 0 → isEmpty d ≡ true
+unfolding isEmpty
+none-left d e h = eq-eqb (length d) 0 (sym e ∙ h)
 
 -- the keys of an image's waiting removals
 ranks-back : (l : List ℕ) → map rank (map numberRecord l) ≡ l
@@ -77,7 +86,7 @@ keyed-all {s} {m} h = record {
   numbers = ap (map rank) (sym (h .sections .sixth)) ∙ ranks-back _ ∙ sym (those-all (leb 0) _ (λ n i. le-leb 0 n (omega arith)));
 }
 
-pub drawing-start : {s t : List ℕ} {m n : Map} {l k : Layout} {out : Sketch} → Lies s m l → Lies t n k → out .count ≡ 0 → Sketches s t [] out
+pub drawing-start : {s t : List ℕ} {m n : Map} {l k : Layout} {out : Sketch} → Lies s m l → Lies t n k → out .sums .count ≡ 0 → Sketches s t [] out
     → Drawing m n s t l k out (l .sixth) (k .sixth) (startOf l) (startOf k)
 drawing-start {s} {t} {m} {n} h i none p =
     let a = fits-means m (h .within .limits) .count in
@@ -128,7 +137,7 @@ module _ {m n : Map} {s t : List ℕ} {l k : Layout} {out : Sketch} {f g : ℕ} 
     -- what was drawn of the key, by the entry that lies there
     abbrev pub Drew : ℕ → List Dot → Sketched → Type 0
     Drew k gone sk =
-        (sk .clock ≡ clockOf (cutsFor (waitingIn m) k (cutsFor (waitingIn n) k (c .keep))))
+        (clockIn (sk .own) ≡ clockOf (cutsFor (waitingIn m) k (cutsFor (waitingIn n) k (c .keep))))
         × (isEmpty (cutsFor (waitingIn m) k (cutsFor (waitingIn n) k (c .keep))) ≡ false
         → Draws s t key (cutsFor (waitingIn m) k (cutsFor (waitingIn n) k (c .keep))) (sift alive (valueLeft (waitingIn m) (waitingIn n) k gone) (mergeValues (valuesIn (c .ours)) (valuesIn (c .theirs)))) sk)
 
@@ -147,7 +156,7 @@ module _ {m n : Map} {s t : List ℕ} {l k : Layout} {out : Sketch} {f g : ℕ} 
         (ap (sift stays (fate m n)) (c .first) ∙ one-stays (fate m n) one _ (its-stay ∙ ap not e) ∙ ap (λ z. z ∷ sift stays (fate m n) (woven (seenBy m) (seenBy n) (c .more) (c .others))) its-fate)
         step
 
-    pub drawing-on : {next : Sketch} {f′ g′ : ℕ} → Keyed s f′ (l .end) (keyNumber 0 (key + 1)) (waitingIn m) → Keyed t g′ (k .end) (keyNumber 0 (key + 1)) (waitingIn n) → next .count ≤ out .count + 1 → Left next
+    pub drawing-on : {next : Sketch} {f′ g′ : ℕ} → Keyed s f′ (l .end) (keyNumber 0 (key + 1)) (waitingIn m) → Keyed t g′ (k .end) (keyNumber 0 (key + 1)) (waitingIn n) → next .sums .count ≤ out .sums .count + 1 → Left next
         → Drawing m n s t l k next f′ g′ (r .x .next) (r .y .next)
     drawing-on p q few h =
         let a = d .few in

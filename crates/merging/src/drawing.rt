@@ -18,7 +18,7 @@ ghost use Rattle.maprecords.specs.Related.{readMap};
 ghost use Rattle.layout.specs.Whole.{LaidOut};
 ghost use Rattle.queued.specs.Queue.{cutsFor, Queued, Marked};
 ghost use Rattle.sketch.specs.Walking.{LiesAt};
-ghost use Rattle.sketch.specs.Drawn.{Draws, Sketches};
+ghost use Rattle.sketch.specs.Drawn.{clockIn, Draws, Sketches};
 ghost use Rattle.merging.specs.Coming.{mergedEntries};
 ghost use Rattle.leaving.specs.Left.{valueLeft};
 use crate::Coming;
@@ -27,10 +27,10 @@ use layout::Laid;
 use parts::ENTRIES;
 use parts::WAITING;
 use queued::Queue;
-use register::VALUES;
 use sketch::Cursor;
 use sketch::Sketch;
 use sketch::Sketched;
+use sketch::Sums;
 
 // What is left of a clock where their removals that list a key have cut it, and then ours.
 fn clock_left(
@@ -94,7 +94,7 @@ fn draw_key(
         × (((w : List Removal) × Queued (now s) cs w) × ((w : List Removal) × Queued (now t) ds w))) ⌝ }
     ensures { λ r. ⌜ ((d : List Dot) (e f : Entry) (u w : List Removal) → c .keep ≡ clockOf d → LiesAt (now (s .entry)) e (c .x) → LiesAt (now (t .entry)) f (c .y) → f .key ≡ e .key
         → Queued (now (t .entry)) ds u → Queued (now (s .entry)) cs w → Marked u (e .key) theirs → Marked w (e .key) ours
-        → (r .clock ≡ clockOf (cutsFor w (e .key) (cutsFor u (e .key) d))) × (isEmpty (cutsFor w (e .key) (cutsFor u (e .key) d)) ≡ false
+        → (clockIn (r .own) ≡ clockOf (cutsFor w (e .key) (cutsFor u (e .key) d))) × (isEmpty (cutsFor w (e .key) (cutsFor u (e .key) d)) ≡ false
         → Draws (now (s .entry)) (now (t .entry)) (c .x .key) (cutsFor w (e .key) (cutsFor u (e .key) d)) (sift alive (valueLeft w u (e .key) (dotsOf (c .gone))) (mergeValues (valuesIn e) (valuesIn f))) r)) ⌝ }
 {
     let x = c.x;
@@ -119,7 +119,10 @@ fn draw_keys(s: &[u8], t: &[u8], a: Laid, b: Laid, cs: Queue, ds: Queue) -> Sket
     let yours = b.clock;
     let third = l.third;
     let last = m.third;
-    let mut out = Sketch::new();
+    let nothing = Clock::new();
+    let blank = Sketched::new(0, nothing);
+    let mut items: [Sketched; ENTRIES] = [blank; ENTRIES];
+    let mut sums = Sums::new();
     let mut f = l.sixth;
     let mut g = m.sixth;
     let mut x = Cursor {
@@ -147,17 +150,17 @@ fn draw_keys(s: &[u8], t: &[u8], a: Laid, b: Laid, cs: Queue, ds: Queue) -> Sket
         let under = ours.under;
         let over = theirs.under;
         let k = draw_key(s, t, c, cs, under, ds, over);
-        let left = k.clock;
-        if !left.is_empty() {
-            let n = out.count;
-            out.count = n + 1;
-            out.wide = out.wide | (VALUES < k.len);
+        let own = k.own;
+        if own.size() != 0 {
+            let n = sums.count;
+            let more = sums.with(k);
+            sums = more;
             if n < ENTRIES {
-                out.items[n] = k;
+                items[n] = k;
             }
         }
     }
-    out
+    Sketch { items, sums }
 }
 
 // The entries of a merge. Called at two places, the drawing keeps a frame of its own, and what is written afterwards does not stand on top of it.

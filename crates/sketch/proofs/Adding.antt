@@ -3,8 +3,8 @@
 use mathlib.Core.Path.{_≡_, refl, ap, sym, _∙_, subst}
 use mathlib.Core.Bool.{Bool, true, false, not, _||_}
 use mathlib.Core.Logic.{⊎-elim}
-use mathlib.Core.List.{List, [], _∷_, _++_, map, map-append, append-nil, List·Memᴰ·append-cases, List·Memᴰ·eq-of-singleton}
-use Prim.Native.Nat.{ℕ, suc, _+_, _-_, _≤_, _<_}
+use mathlib.Core.List.{List, [], _∷_, _++_, map, map-append, append-nil, List·Memᴰ·append-cases, List·Memᴰ·eq-of-singleton, List·Memᴰ·not-nil}
+use Prim.Native.Nat.{ℕ, suc, _+_, _*_, _-_, _≤_, _<_}
 use native.Mathlib.Omega.{arith}
 use lib.Dec.{eqb, ltb}
 use lib.ListN.{length, take, set}
@@ -16,21 +16,22 @@ use Rattle.lists.specs.Order.{_∈_}
 use Rattle.lists.proofs.Pads.{take-pad, length-snoc}
 use Rattle.lists.proofs.Tally.{some-snoc, both-pass}
 use Rattle.clock.specs.declared.Dot.{Dot}
-use Rattle.clock.specs.Dots.{dotsOf, isEmpty}
+use Rattle.clock.specs.Dots.{dotLimit, dotsOf, isEmpty}
 use Rattle.clock.proofs.Packs.{dots-of}
 use Rattle.register.specs.declared.Value.{Value}
 use Rattle.register.specs.Values.{valueLimit, noValue, alive}
 use Rattle.parts.specs.declared.Entry.{Entry}
-use Rattle.parts.specs.Model.{entryLimit, entryAs, valuesIn, overfull}
+use Rattle.parts.specs.Model.{entryLimit, entryAs, dotsIn, valuesIn, overfull}
+use Rattle.answers.specs.Sizes.{totalOf, entrySize}
 use Rattle.marks.specs.Marks.{marksSet}
 use Rattle.sketch.specs.declared.Source.{Source}
 use Rattle.sketch.specs.declared.Sketched.{Sketched}
-use Rattle.sketch.specs.declared.Sketch.{Sketch}
-use Rattle.sketch.specs.Drawn.{valueIn, imageOf, valueAt, Placed, sourcesOf, drawn, Ready, itemsOf, Draws, Sketches}
-use Rattle.sketch.proofs.Counts.{value-size}
+use Rattle.sketch.specs.declared.Sums.{Sums}
+use Rattle.sketch.specs.Drawn.{valueIn, imageOf, valueAt, Placed, sourcesOf, sourceSize, clockIn, drawn, Ready, Draws, Summed, Sketches}
+use Rattle.sketch.proofs.Counts.{value-size, entry-size, total-snoc}
 
 -- an element behind the last that is in use
-used-more : {A : Type 0} (n : ℕ) (l : List A) (a : A) → n < length l → take (n + 1) (set l n a) ≡ take n l ++ (a ∷ [])
+pub used-more : {A : Type 0} (n : ℕ) (l : List A) (a : A) → n < length l → take (n + 1) (set l n a) ≡ take n l ++ (a ∷ [])
 used-more n l a h = let e : n + 1 ≡ suc n = omega arith in rw e (take-suc-set l n a h)
 
 each-more : {A : Type 0} (P : A → Type 0) (l : List A) (a : A) → ((x : A) → x ∈ l → P x) → P a → (x : A) → x ∈ (l ++ (a ∷ [])) → P x
@@ -68,7 +69,7 @@ module _ {s t : List ℕ} {key : ℕ} {d : List Dot} {l : List Value} {k : Sketc
 
     pub add-one : length (k .sources) ≡ 4 → k .len < 4
         → Draws s t key d (l ++ those alive (valueAt s t x ∷ []))
-        (record { key = k .key; clock = k .clock; sources = set (k .sources) (k .len) x; len = k .len + 1 })
+        (record { key = k .key; own = k .own; sources = set (k .sources) (k .len) x; len = k .len + 1 })
     add-one room few =
         rw kept
         (record {
@@ -84,7 +85,7 @@ module _ {s t : List ℕ} {key : ℕ} {d : List Dot} {l : List Value} {k : Sketc
         })
 
     pub add-over : 4 ≤ k .len → Draws s t key d (l ++ those alive (valueAt s t x ∷ []))
-        (record { key = k .key; clock = k .clock; sources = k .sources; len = k .len + 1 })
+        (record { key = k .key; own = k .own; sources = k .sources; len = k .len + 1 })
     add-over full = rw kept (record { named = h .named; clock = h .clock; many = more; values = λ n. absurd (omega (arith, more)) })
 
 -- the entry that is drawn
@@ -92,7 +93,8 @@ drawn-is : {s t : List ℕ} {key : ℕ} {d : List Dot} {l : List Value} {k : Ske
     → drawn s t k ≡ entryAs key d l
 drawn-is {d = d} h n = let e = h .values n .0 in let c = dots-of d (h .clock) in λ i. entryAs (h .named i) (c i) (e i)
 
-module _ {s t : List ℕ} {l : List Entry} {sk : Sketch} (h : Sketches s t l sk) {key : ℕ} {d : List Dot} {vs : List Value} {k : Sketched}
+-- the sums over one entry more
+module _ {s t : List ℕ} {l : List Entry} {n : Sums} (h : Summed l n) {key : ℕ} {d : List Dot} {vs : List Value} {k : Sketched}
     (g : Draws s t key d vs k) where
   abbrev one : Entry
   one = entryAs key d vs
@@ -100,34 +102,81 @@ module _ {s t : List ℕ} {l : List Entry} {sk : Sketch} (h : Sketches s t l sk)
   full : ltb 4 (k .len) ≡ overfull one
   full = ap (ltb 4) (g .many ∙ ap length (sym (take-pad noValue valueLimit vs)))
 
-  counted : sk .count + 1 ≡ length (l ++ (one ∷ []))
+  counted : n .count + 1 ≡ length (l ++ (one ∷ []))
   counted = ap (λ n. n + 1) (h .count) ∙ sym (length-snoc l one)
 
-  wider : (sk .wide || ltb 4 (k .len)) ≡ some overfull (l ++ (one ∷ []))
+  wider : (n .wide || ltb 4 (k .len)) ≡ some overfull (l ++ (one ∷ []))
   wider = rw (h .wide, full) (sym (some-snoc overfull l one))
 
-  pub push-one : length (sk .items) ≡ entryLimit → sk .count < entryLimit
-      → Sketches s t (l ++ (one ∷ [])) (record { items = set (sk .items) (sk .count) k; count = sk .count + 1; wide = sk .wide || ltb 4 (k .len) })
-  push-one room few = record {
+  -- what was within the limits with one more was so before, and that one is
+  pub within-both : length (l ++ (one ∷ [])) ≤ entryLimit → some overfull (l ++ (one ∷ [])) ≡ false
+      → (length l ≤ entryLimit) × ((some overfull l ≡ false) × (length vs ≤ valueLimit))
+  within-both m thin =
+      let less : length l < entryLimit = omega (arith, m, length-snoc l one) in
+      let b = both-pass {n = length l} {k = entryLimit} (some overfull l) (overfull one)
+      (rw (lt-ltb (length l) entryLimit less, sym (some-snoc overfull l one) ∙ thin)) in
+      (omega arith, (b .1, omega (arith, ltb-false 4 (length (valuesIn one)) (b .2), ap length (take-pad noValue valueLimit vs))))
+
+  pub summed-over : entryLimit ≤ n .count
+      → Summed (l ++ (one ∷ [])) (record { count = n .count + 1; wide = n .wide || ltb 4 (k .len); dots = n .dots; others = n .others })
+  summed-over many = record {
     count = counted;
     wide = wider;
-    items = λ n thin.
-        let less : length l < entryLimit = omega (arith, length-snoc l one) in
-        let b = both-pass {n = length l} {k = entryLimit} (some overfull l) (overfull one)
-        (rw (lt-ltb (length l) entryLimit less, sym (some-snoc overfull l one) ∙ thin)) in
-        let v = h .items (omega arith) (b .1) in
-        let u = used-more (sk .count) (sk .items) k (omega arith) in
-        let short : length vs ≤ valueLimit = omega (
-          arith,
-          ltb-false 4 (length (valuesIn one)) (b .2),
-          ap length
-              (take-pad noValue valueLimit vs),
-        ) in (
-          ap (map (drawn s t)) u ∙ map-append (drawn s t) (itemsOf sk) (k ∷ []) ∙ (λ i. v .0 i ++ (drawn-is g short i ∷ [])),
-          record { each = rw u (each-more (Ready s t) (itemsOf sk) k (v .1 .each) (g .values short .1)) },
+    dots = λ m thin. absurd (omega (arith, many, m, counted));
+    records = λ m thin. absurd (omega (arith, many, m, counted));
+    few = λ m. absurd (omega (arith, many, m));
+    room = h .room;
+  }
+
+  module _ {a b : ℕ} (p : a ≡ length (dotsOf (clockIn (k .own)))) (q : (s t : List ℕ) → Ready s t k → b ≡ totalOf sourceSize (sourcesOf k)) where
+    own-dots : a ≡ length (dotsIn one)
+    own-dots = p ∙ ap (λ c. length (dotsOf c)) (g .clock) ∙ ap length (dots-of d refl) ∙ sym (ap length (dots-of d refl))
+
+    own-records : length vs ≤ valueLimit → a + b ≡ entrySize one
+    own-records short =
+        let r = g .values short .1 in
+        omega (arith, p, q s t r, entry-size k r, ap entrySize (drawn-is g short))
+
+    pub summed-one : a ≤ dotLimit → b ≤ valueLimit * (1 + dotLimit) → n .count < entryLimit
+        → Summed (l ++ (one ∷ [])) (record { count = n .count + 1; wide = n .wide || ltb 4 (k .len); dots = n .dots + a; others = n .others + b })
+    summed-one small thin less =
+        let f = h .few (omega arith) in record {
+          count = counted;
+          wide = wider;
+          dots = λ m w.
+              let x = within-both m w in
+              omega (arith, h .dots (x .0) (x .1 .0), own-dots, total-snoc (λ e. length (dotsIn e)) l one);
+          records = λ m w.
+              let x = within-both m w in
+              omega (arith, h .records (x .0) (x .1 .0), own-records (x .1 .1), total-snoc entrySize l one);
+          few = λ m. omega (arith, f, small, thin);
+          room = omega (arith, f, small, thin, less);
+        }
+
+-- no entry yet
+pub sketch-none : {s t : List ℕ} {items : List Sketched} {n : Sums} → n .count ≡ 0 → Summed [] n → Sketches s t [] (record { items = items; sums = n })
+sketch-none {s} {t} {items} {n} e h = record {
+  sums = h;
+  items = λ m thin.
+      let u : take (n .count) items ≡ [] = rw e refl in
+      (ap (map (drawn s t)) u, record { each = rw u (λ x i. absurd (List·Memᴰ·not-nil i)) });
+}
+
+module _ {s t : List ℕ} {l : List Entry} {items : List Sketched} {n : Sums} (h : Sketches s t l (record { items = items; sums = n })) {key : ℕ}
+    {d : List Dot} {vs : List Value} {k : Sketched} (g : Draws s t key d vs k) {m : Sums} (e : Summed (l ++ (entryAs key d vs ∷ [])) m)
+    (next : m .count ≡ n .count + 1) where
+  pub push-one : length items ≡ entryLimit → n .count < entryLimit
+      → Sketches s t (l ++ (entryAs key d vs ∷ [])) (record { items = set items (n .count) k; sums = m })
+  push-one room few = record {
+    sums = e;
+    items = λ i thin.
+        let x = within-both (h .sums) g i thin in
+        let v = h .items (x .0) (x .1 .0) in
+        let u : take (m .count) (set items (n .count) k) ≡ take (n .count) items ++ (k ∷ []) = rw next (used-more (n .count) items k (omega arith)) in (
+          ap (map (drawn s t)) u ∙ map-append (drawn s t) (take (n .count) items) (k ∷ []) ∙ (λ i. v .0 i ++ (drawn-is g (x .1 .1) i ∷ [])),
+          record { each = rw u (each-more (Ready s t) (take (n .count) items) k (v .1 .each) (g .values (x .1 .1) .1)) },
         );
   }
 
-  pub push-over : entryLimit ≤ sk .count → Sketches s t (l ++ (one ∷ []))
-      (record { items = sk .items; count = sk .count + 1; wide = sk .wide || ltb 4 (k .len) })
-  push-over many = record { count = counted; wide = wider; items = λ n thin. absurd (omega (arith, counted)) }
+  pub push-over : entryLimit ≤ n .count → Sketches s t (l ++ (entryAs key d vs ∷ [])) (record { items = items; sums = m })
+  push-over many = record { sums = e; items = λ i thin. absurd (omega (arith, e .count, next, many, i)) }

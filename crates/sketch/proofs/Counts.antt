@@ -10,6 +10,7 @@ use Rattle.lists.proofs.Pads.{take-pad}
 use Rattle.clock.specs.Dots.{dotsOf}
 use Rattle.clock.proofs.Packs.{dots-of}
 use Rattle.register.specs.Values.{valueLimit, noValue}
+use Rattle.parts.specs.declared.Entry.{Entry}
 use Rattle.mapimage.specs.MapImage.{flatFrom, entryRecords}
 use Rattle.answers.specs.Sizes.{totalOf, valueSize, entrySize}
 use Rattle.answers.proofs.Lengths.{in-entries}
@@ -19,8 +20,7 @@ use Rattle.marks.proofs.Picks.{length-picked}
 use Rattle.marks.proofs.Dots.{length-run}
 use Rattle.sketch.specs.declared.Source.{Source}
 use Rattle.sketch.specs.declared.Sketched.{Sketched}
-use Rattle.sketch.specs.declared.Sketch.{Sketch}
-use Rattle.sketch.specs.Drawn.{between, valueIn, valueAt, Placed, sourceSize, sourcesOf, drawn, Ready, itemsOf, AllReady, drawnAll, sectionsOf}
+use Rattle.sketch.specs.Drawn.{between, valueIn, valueAt, Placed, sourceSize, sourcesOf, clockIn, drawn, Ready, sectionsOf}
 
 -- a total over elements that g has changed
 pub total-map : {A B : Type 0} (size : A → ℕ) (other : B → ℕ) (g : A → B) (l : List A) → ((x : A) → x ∈ l → size x ≡ other (g x))
@@ -43,18 +43,24 @@ value-size {s} x h =
 
 -- the records of an entry that is drawn
 abbrev pub sketchedSize : Sketched → ℕ
-sketchedSize k = length (dotsOf (k .clock)) + totalOf sourceSize (sourcesOf k)
+sketchedSize k = length (dotsOf (clockIn (k .own))) + totalOf sourceSize (sourcesOf k)
 
-entry-size : {s t : List ℕ} (k : Sketched) → Ready s t k → sketchedSize k ≡ entrySize (drawn s t k)
+pub entry-size : {s t : List ℕ} (k : Sketched) → Ready s t k → sketchedSize k ≡ entrySize (drawn s t k)
 entry-size {s} {t} k h =
-    ap₂ _+_ (ap length (sym (dots-of (dotsOf (k .clock)) refl)))
+    ap₂ _+_ (ap length (sym (dots-of (dotsOf (clockIn (k .own))) refl)))
     (total-map sourceSize valueSize (valueAt s t) (sourcesOf k) (λ x i. value-size x (h .each x i))
     ∙ ap (totalOf valueSize) (sym (take-pad noValue valueLimit (map (valueAt s t) (sourcesOf k)))))
 
-pub all-records : {s t : List ℕ} (sk : Sketch) → AllReady s t sk → totalOf sketchedSize (itemsOf sk) ≡ length (sectionsOf (drawnAll s t sk))
-all-records {s} {t} sk h =
-    let l = drawnAll s t sk in
-    total-map sketchedSize entrySize (drawn s t) (itemsOf sk) (λ k i. entry-size k (h .each k i)) ∙ sym (in-entries l)
+-- one more
+pub total-snoc : {A : Type 0} (size : A → ℕ) (l : List A) (x : A) → totalOf size (l ++ (x ∷ [])) ≡ totalOf size l + size x
+unfolding totalOf
+total-snoc size [] x = omega arith
+total-snoc size (y ∷ l) x = omega (arith, total-snoc size l x)
+
+-- all records of entries
+pub all-records : (l : List Entry) → totalOf entrySize l ≡ length (sectionsOf l)
+all-records l =
+    sym (in-entries l)
     ∙ omega (
       arith,
       length-append (flatFrom (entryRecords 2) 0 l) (flatFrom (entryRecords 3) 0 l ++ flatFrom (entryRecords 4) 0 l),

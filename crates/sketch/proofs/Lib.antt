@@ -3,6 +3,7 @@ pub mod Stepping
 pub mod Sources
 pub mod Counts
 pub mod Adding
+pub mod Flats
 pub mod Lying
 pub mod Valued
 pub mod Walked

@@ -26,14 +26,14 @@ use Rattle.marks.specs.Marks.{picked}
 use Rattle.sketch.specs.declared.Source.{Source}
 use Rattle.sketch.specs.declared.Sketched.{Sketched}
 use Rattle.sketch.specs.declared.Sketch.{Sketch}
-use Rattle.sketch.specs.Drawn.{between, valueIn, imageOf, valueAt, Placed, sourcesOf, drawn, itemsOf, drawnAll, sectionsOf}
+use Rattle.sketch.specs.Drawn.{between, valueIn, imageOf, valueAt, Placed, sourcesOf, clockIn, drawn, itemsOf, drawnAll, sectionsOf}
 
 -- what a read past the end of an array would give
 abbrev pub noSourceRead : Source
 noSourceRead = record { second = false; value = 0; from = 0; to = 0; marks = [] }
 
 abbrev pub noSketchedRead : Sketched
-noSketchedRead = record { key = 0; clock = record { dots = []; len = 0 }; sources = []; len = 0 }
+noSketchedRead = record { key = 0; own = record { counters = []; actors = []; len = 0 }; sources = []; len = 0 }
 
 -- what f gives of elements that g has changed
 pub flat-map : {A B C : Type 0} (f : ℕ → B → List C) (g : A → B) (i : ℕ) (l : List A) → flatFrom f i (map g l) ≡ flatFrom (λ j x. f j (g x)) i l
@@ -82,8 +82,8 @@ module _ (P : List ℕ → Type 0) (s t : List ℕ) (x : Source) where
 
 -- the records of an entry that is drawn, by kind
 module _ (s t : List ℕ) (k : Sketched) where
-  pub entry-dots : (kind : ℕ) → kind ≡ 2 → entryRecords kind 0 (drawn s t k) ≡ dotRecords 2 0 (k .key) (dotsOf (k .clock))
-  entry-dots kind e = rw (eq-eqb kind 2 e) (ap (dotRecords 2 0 (k .key)) (dots-of (dotsOf (k .clock)) refl))
+  pub entry-dots : (kind : ℕ) → kind ≡ 2 → entryRecords kind 0 (drawn s t k) ≡ dotRecords 2 0 (k .key) (dotsOf (clockIn (k .own)))
+  entry-dots kind e = rw (eq-eqb kind 2 e) (ap (dotRecords 2 0 (k .key)) (dots-of (dotsOf (clockIn (k .own))) refl))
 
   pub entry-more : (kind : ℕ) → (kind ≡ 2 → ⊥) → entryRecords kind 0 (drawn s t k) ≡ flatFrom (valueRecords kind (k .key)) 0
       (map (valueAt s t) (sourcesOf k))
@@ -127,7 +127,7 @@ module _ (s t : List ℕ) (sk : Sketch) (kind : ℕ) where
         → leftFrom s t sk kind i ≡ entryRecords kind i (drawn s t (getD (sk .items) i noSketchedRead)) ++ leftFrom s t sk kind (i + 1)
     section-on h =
         let f : ℕ → Sketched → List Record = λ j x. entryRecords kind j (drawn s t x) in
-        ap (λ k. k ++ sectionsFrom (kind + 1) (drawnAll s t sk)) (flat-on f (sk .items) (sk .count) i noSketchedRead h)
+        ap (λ k. k ++ sectionsFrom (kind + 1) (drawnAll s t sk)) (flat-on f (sk .items) (sk .sums .count) i noSketchedRead h)
         ∙ append-assoc (f i (getD (sk .items) i noSketchedRead)) _ _
 
     pub section-end : length (itemsOf sk) ≤ i → leftFrom s t sk kind i ≡ sectionsFrom (kind + 1) (drawnAll s t sk)

@@ -80,8 +80,8 @@ module _ {s : List ℕ} {l : Layout} (f : Entry → Entry) where
         few = let n = w .few in omega (arith, ap length (g .parts), length-snoc (w .done) (f (g .entry)));
       }
 
-    pub walked-few : sk .count < 2 * entryLimit
-    walked-few = let n = w .few in omega (arith, w .holds s .count)
+    pub walked-few : sk .sums .count < 2 * entryLimit
+    walked-few = let n = w .few in omega (arith, w .holds s .sums .count)
 
     pub walked-end : l .third ≤ x .own → (t : List ℕ) → Sketches s t (sift stays f es) sk
     unfolding sift

@@ -2,26 +2,30 @@
 -- Assumes nothing.
 use mathlib.Core.Path.{_≡_}
 use mathlib.Core.Bool.{Bool, false, cond, _||_}
-use mathlib.Core.List.{List, _++_, map}
+use mathlib.Core.List.{List, [], _∷_, _++_, map}
 use Prim.Native.Nat.{ℕ, _+_, _*_, _-_, _≤_}
 use lib.ListN.{length, take, drop}
 use Rattle.lists.specs.First.{some}
 use Rattle.lists.specs.Order.{_∈_}
+use Rattle.clock.specs.declared.Clock.{Clock}
 use Rattle.clock.specs.declared.Dot.{Dot}
 use Rattle.clock.specs.Dots.{dotLimit, dotsOf, clockOf}
 use Rattle.register.specs.declared.Value.{Value}
 use Rattle.register.specs.Values.{valueLimit}
 use Rattle.parts.specs.declared.Entry.{Entry}
-use Rattle.parts.specs.Model.{entryLimit, entryAs, overfull}
+use Rattle.parts.specs.Model.{entryLimit, entryAs, dotsIn, overfull}
 use Rattle.parts.specs.Entries.{listed, cutEntry}
 use Rattle.records.specs.declared.Record.{Record}
 use Rattle.records.specs.Records.{recordFrom}
 use Rattle.clockimage.specs.Image.{contentOf}
 use Rattle.mapimage.specs.MapImage.{flatFrom, entryRecords}
+use Rattle.answers.specs.Sizes.{totalOf, entrySize}
 use Rattle.runs.specs.Run.{runDots}
 use Rattle.marks.specs.Marks.{picked, marksSet}
 use Rattle.sketch.specs.declared.Source.{Source}
+use Rattle.sketch.specs.declared.Flat.{Flat}
 use Rattle.sketch.specs.declared.Sketched.{Sketched}
+use Rattle.sketch.specs.declared.Sums.{Sums}
 use Rattle.sketch.specs.declared.Sketch.{Sketch}
 
 -- the most records of one entry: its dots, its values and theirs
@@ -57,16 +61,26 @@ sourcesOf k = take (k .len) (k .sources)
 abbrev pub sourceSize : Source → ℕ
 sourceSize x = 1 + marksSet (take (x .to - x .from) (x .marks))
 
+-- actors and counters, side by side
+unfoldable pub beside : List ℕ → List ℕ → List Dot
+beside (a ∷ l) (n ∷ m) = record { actor = a; counter = n } ∷ beside l m
+beside (a ∷ l) [] = []
+beside [] m = []
+
+-- the clock whose counters and actors stand apart
+abbrev pub clockIn : Flat → Clock
+clockIn f = record { dots = beside (f .actors) (f .counters); len = f .len }
+
 -- the entry that is drawn
 abbrev pub drawn : List ℕ → List ℕ → Sketched → Entry
-drawn s t k = entryAs (k .key) (dotsOf (k .clock)) (map (valueAt s t) (sourcesOf k))
+drawn s t k = entryAs (k .key) (dotsOf (clockIn (k .own))) (map (valueAt s t) (sourcesOf k))
 
 -- each of its sources is placed
 pub record Ready (s t : List ℕ) (k : Sketched) : Type 0 where
   pub each : (x : Source) → x ∈ sourcesOf k → Placed (imageOf s t x) x
 
 abbrev pub itemsOf : Sketch → List Sketched
-itemsOf sk = take (sk .count) (sk .items)
+itemsOf sk = take (sk .sums .count) (sk .items)
 
 -- so of all
 pub record AllReady (s t : List ℕ) (sk : Sketch) : Type 0 where
@@ -83,14 +97,22 @@ sectionsOf l = flatFrom (entryRecords 2) 0 l ++ (flatFrom (entryRecords 3) 0 l +
 -- what is promised of an entry in a sketch, of a key, a clock and values: how many values, and the values where they are within the limit
 pub record Draws (s t : List ℕ) (key : ℕ) (d : List Dot) (l : List Value) (k : Sketched) : Type 0 where
   pub named : k .key ≡ key
-  pub clock : k .clock ≡ clockOf d
+  pub clock : clockIn (k .own) ≡ clockOf d
   pub many : k .len ≡ length l
   pub values : length l ≤ valueLimit → (map (valueAt s t) (sourcesOf k) ≡ l) × Ready s t k
 
--- what is promised of a sketch: how many entries, whether one has too many values, and the entries where both are within the limits
+-- what is promised of the sums over entries: how many there are, whether one has too many values, and how many dots and records where both are within the limits
+pub record Summed (l : List Entry) (n : Sums) : Type 0 where
+  pub count : n .count ≡ length l
+  pub wide : n .wide ≡ some overfull l
+  pub dots : length l ≤ entryLimit → some overfull l ≡ false → n .dots ≡ totalOf (λ e. length (dotsIn e)) l
+  pub records : length l ≤ entryLimit → some overfull l ≡ false → n .dots + n .others ≡ totalOf entrySize l
+  pub few : n .count ≤ entryLimit → n .dots + n .others ≤ n .count * entryRoom
+  pub room : n .dots + n .others ≤ entryLimit * entryRoom
+
+-- what is promised of a sketch: the sums, and the entries where they are within the limits
 pub record Sketches (s t : List ℕ) (l : List Entry) (sk : Sketch) : Type 0 where
-  pub count : sk .count ≡ length l
-  pub wide : sk .wide ≡ some overfull l
+  pub sums : Summed l (sk .sums)
   pub items : length l ≤ entryLimit → some overfull l ≡ false → (drawnAll s t sk ≡ l) × AllReady s t sk
 
 -- an entry cut where its key is listed, or all are; a reset cuts all, a removal those that it lists

@@ -11,7 +11,7 @@ ghost use Rattle.clock.specs.Lawful.{Lawful};
 ghost use Rattle.register.specs.declared.Value.{Value};
 ghost use Rattle.register.specs.Values.{valueLimit, alive, cutValues};
 ghost use Rattle.parts.specs.declared.Entry.{Entry};
-ghost use Rattle.parts.specs.Model.{entryLimit, keysOf, underOf, dotsIn, valuesIn, entryAs};
+ghost use Rattle.parts.specs.Model.{keysOf, underOf, dotsIn, valuesIn};
 ghost use Rattle.parts.specs.Entries.{stays, cutEntry, listed, removeEntries};
 ghost use Rattle.map.specs.Model.{entriesIn};
 ghost use Rattle.mapimage.specs.MapImage.{mapLongest};
@@ -22,10 +22,12 @@ ghost use Rattle.marks.specs.Marks.{picked};
 ghost use Rattle.sketch.specs.Walking.{LiesAt};
 ghost use Rattle.sketch.specs.Drawn.{between, imageOf, valueAt, Placed, Draws, Sketches, cutWhere};
 use crate::Cursor;
+use crate::Flat;
 use crate::Lain;
 use crate::Sketch;
 use crate::Sketched;
 use crate::Source;
+use crate::Sums;
 use clock::Clock;
 use clock::DOTS;
 use parts::ENTRIES;
@@ -46,9 +48,10 @@ impl Sketched {
             to: 0,
             marks: [false; DOTS],
         };
+        let own = Flat::of(clock);
         Sketched {
             key,
-            clock,
+            own,
             sources: [none; VALUES],
             len: 0,
         }
@@ -71,38 +74,6 @@ impl Sketched {
         out.len = n + 1;
         if n < VALUES {
             out.sources[n] = x;
-            return out;
-        }
-        out
-    }
-}
-
-impl Sketch {
-    pub fn new() -> Sketch
-        ensures { λ r. ⌜ (r .count ≡ 0) × ((s t : List ℕ) → Sketches s t [] r) ⌝ }
-    {
-        let clock = Clock::new();
-        let none = Sketched::new(0, clock);
-        Sketch {
-            items: [none; ENTRIES],
-            count: 0,
-            wide: false,
-        }
-    }
-
-    // One entry more.
-    pub fn push(self, k: Sketched) -> Sketch
-        requires { ⌜ self .count < 2 * entryLimit ⌝ }
-        ensures { λ r. ⌜ (r .count ≡ self .count + 1) × ((s t : List ℕ) (l : List Entry) (key : ℕ) (d : List Dot) (vs : List Value)
-            → Sketches s t l self → Draws s t key d vs k
-            → Sketches s t (l ++ (entryAs key d vs ∷ [])) r) ⌝ }
-    {
-        let mut out = self;
-        let n = out.count;
-        out.count = n + 1;
-        out.wide = out.wide | (VALUES < k.len);
-        if n < ENTRIES {
-            out.items[n] = k;
             return out;
         }
         out
@@ -195,7 +166,10 @@ fn draw_cut(s: &[u8], l: Layout, all: bool, keys: Keys, by: Clock) -> Sketch
     ensures { λ r. ⌜ ((t : List ℕ) → Sketches (now (s .entry)) t (sift stays (cutWhere all (keysOf keys) (dotsOf by)) (entriesIn (readMap (now (s .entry)) .map))) r) ⌝ }
 {
     let end = l.third;
-    let mut out = Sketch::new();
+    let nothing = Clock::new();
+    let blank = Sketched::new(0, nothing);
+    let mut items: [Sketched; ENTRIES] = [blank; ENTRIES];
+    let mut sums = Sums::new();
     let mut x = Cursor {
         own: l.second,
         value: end,
@@ -209,15 +183,15 @@ fn draw_cut(s: &[u8], l: Layout, all: bool, keys: Keys, by: Clock) -> Sketch
         if !left.is_empty() {
             let k = Sketched::new(e.key, left);
             let d = draw_values(k, s, e, false, [true; VALUES], here);
-            let n = out.count;
-            out.count = n + 1;
-            out.wide = out.wide | (VALUES < d.len);
+            let n = sums.count;
+            let more = sums.with(d);
+            sums = more;
             if n < ENTRIES {
-                out.items[n] = d;
+                items[n] = d;
             }
         }
     }
-    out
+    Sketch { items, sums }
 }
 
 // What a reset leaves of the entries.

@@ -1,10 +1,10 @@
 // The entries of a result, drawn from images where they lie, and written from there.
+pub mod apart;
 pub mod counting;
 pub mod drawing;
 pub mod walking;
 pub mod writing;
 
-use clock::Clock;
 use clock::DOTS;
 use parts::ENTRIES;
 use register::VALUES;
@@ -38,17 +38,31 @@ pub struct Source {
     pub marks: [bool; DOTS],
 }
 
+// A clock with counters and actors apart: between dots in an array there are gaps, which every sketch would start and copy.
+pub struct Flat {
+    pub counters: [u64; DOTS],
+    pub actors: [u16; DOTS],
+    pub len: usize,
+}
+
 // An entry of the result: `len` counts its values on past the room.
 pub struct Sketched {
     pub key: u32,
-    pub clock: Clock,
+    pub own: Flat,
     pub sources: [Source; VALUES],
     pub len: usize,
 }
 
-// The entries of the result: how many, counted on past the room, and whether one has too many values.
-pub struct Sketch {
-    pub items: [Sketched; ENTRIES],
+// What is counted of entries: how many, on past the room, whether one has too many values, and of those in the room the dots and all other records.
+pub struct Sums {
     pub count: usize,
     pub wide: bool,
+    pub dots: usize,
+    pub others: usize,
+}
+
+// The entries of the result.
+pub struct Sketch {
+    pub items: [Sketched; ENTRIES],
+    pub sums: Sums,
 }

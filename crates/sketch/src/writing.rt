@@ -1,16 +1,19 @@
 // A sketch written: dots, values and values' dots, one section behind the other.
 ghost use mathlib.Core.Path.{_≡_};
-ghost use mathlib.Core.List.{map};
+ghost use mathlib.Core.List.{map, _++_};
 ghost use Prim.Native.Nat.{_+_, _*_, _≤_};
 ghost use lib.ListN.{length};
+ghost use Rattle.clock.specs.Dots.{dotsOf};
 ghost use Rattle.register.specs.Values.{valueLimit};
 ghost use Rattle.parts.specs.Model.{entryLimit};
 ghost use Rattle.records.specs.Records.{bytesOf, Wrote};
+ghost use Rattle.clockimage.specs.Image.{dotRecords};
 ghost use Rattle.mapimage.specs.MapImage.{flatFrom, valueRecords, entryRecords};
 ghost use Rattle.sketch.specs.Drawn.{valueIn, imageOf, valueAt, Placed, sourcesOf, drawn, Ready, itemsOf, AllReady, drawnAll, sectionsOf};
 use crate::Sketch;
 use crate::Sketched;
 use crate::Source;
+use clock::Clock;
 use parts::ENTRIES;
 use records::Record;
 use register::VALUES;
@@ -28,7 +31,8 @@ impl Sketch {
     pub fn size(self) -> usize
         ensures { λ r. ⌜ (r ≡ length (itemsOf self)) × (r ≤ entryLimit) ⌝ }
     {
-        let n = self.count;
+        let sums = self.sums;
+        let n = sums.count;
         if n < ENTRIES { n } else { ENTRIES }
     }
 }
@@ -99,19 +103,20 @@ fn write_entry(s: &[u8], t: &[u8], e: Sketched, kind: u8, out: &mut [u8], at: us
     ensures { λ next. ⌜ Wrote at (bytesOf (entryRecords kind 0 (drawn (now (s .entry)) (now (t .entry)) e))) (now (out .entry)) (now (out .exit)) next ⌝ }
 {
     if kind == 2 {
-        let clock = e.clock;
+        let own = e.own;
+        let clock = own.clock();
         return clockimage::write_dots(out, at, 2, 0, e.key, clock);
     }
     write_sources(s, t, e, kind, out, at)
 }
 
-// All records of the entries: one section behind the other. One loop, so that the sketch is copied for no section.
-pub fn write_sketch(s: &[u8], t: &[u8], sk: Sketch, out: &mut [u8], at: usize) -> usize
-    requires { ⌜ AllReady (now s) (now t) sk × (at + length (sectionsOf (drawnAll (now s) (now t) sk)) * 16 ≤ length (now out)) ⌝ }
-    ensures { λ next. ⌜ Wrote at (bytesOf (sectionsOf (drawnAll (now (s .entry)) (now (t .entry)) sk))) (now (out .entry)) (now (out .exit)) next ⌝ }
+// The records of a map's clock and of its entries: one section behind the other. One loop, and the clock here, so that the sketch is copied once.
+pub fn write_sketch(s: &[u8], t: &[u8], clock: Clock, sk: Sketch, out: &mut [u8]) -> usize
+    requires { ⌜ AllReady (now s) (now t) sk × (length (dotRecords 1 0 0 (dotsOf clock) ++ sectionsOf (drawnAll (now s) (now t) sk)) * 16 ≤ length (now out)) ⌝ }
+    ensures { λ next. ⌜ Wrote 0 (bytesOf (dotRecords 1 0 0 (dotsOf clock) ++ sectionsOf (drawnAll (now (s .entry)) (now (t .entry)) sk))) (now (out .entry)) (now (out .exit)) next ⌝ }
 {
     let n = sk.size();
-    let mut next = at;
+    let mut next = clockimage::write_dots(out, 0, 1, 0, 0, clock);
     let mut kind: u8 = 2;
     let mut i: usize = 0;
     while kind < 5 {

@@ -31,7 +31,7 @@ use Rattle.sketch.specs.declared.Cursor.{Cursor}
 use Rattle.sketch.specs.declared.Sketch.{Sketch}
 use Rattle.sketch.specs.declared.Sketched.{Sketched}
 use Rattle.sketch.specs.Walking.{Ahead}
-use Rattle.sketch.specs.Drawn.{Draws, Sketches}
+use Rattle.sketch.specs.Drawn.{clockIn, Draws, Sketches}
 use Rattle.sketch.proofs.Stepping.{startOf, all-ahead}
 use Rattle.leaving.specs.Left.{valueLeft}
 use Rattle.leaving.proofs.Growing.{Grown, grown-on, grown-same, grown-end}
@@ -52,10 +52,10 @@ pub record Drawing (m : Map) (u : Update) (s t : List ℕ) (l : Layout) (last : 
   pub above : (e : Entry) → e ∈ es → low ≤ e .key
   pub goal : done ≡ false → low ≤ u .key
   pub listed : Keyed s f last (keyNumber 0 low) (waitingIn m)
-  pub few : out .count + (length es + puts done) ≤ 2 * entryLimit
+  pub few : out .sums .count + (length es + puts done) ≤ 2 * entryLimit
   pub grown : Grown (Sketches s t) (updatedEntries m u) (sift stays (run (waitingIn m)) (coming u done es)) out
 
-pub drawing-start : {s t : List ℕ} {m : Map} (u : Update) {l : Layout} {first last : ℕ} {out : Sketch} → Lies s m l → Keyed s first last 0 (waitingIn m) → out .count ≡ 0 → Sketches s t [] out
+pub drawing-start : {s t : List ℕ} {m : Map} (u : Update) {l : Layout} {first last : ℕ} {out : Sketch} → Lies s m l → Keyed s first last 0 (waitingIn m) → out .sums .count ≡ 0 → Sketches s t [] out
     → Drawing m u s t l last out first (startOf l) false
 drawing-start {s} {t} {m} u h keys none p =
     let a = fits-means m (h .within .limits) .count in
@@ -93,7 +93,7 @@ module _ {m : Map} {u : Update} {s t : List ℕ} {l : Layout} {last : ℕ} {out 
     -- what was drawn of the key, by the entry that lies there
     abbrev pub Drew : ℕ → Sketched → Type 0
     Drew k sk =
-        (sk .clock ≡ clockOf (cutsFor (waitingIn m) k (dotsTo u (r .put) (c .entry))))
+        (clockIn (sk .own) ≡ clockOf (cutsFor (waitingIn m) k (dotsTo u (r .put) (c .entry))))
         × (isEmpty (cutsFor (waitingIn m) k (dotsTo u (r .put) (c .entry))) ≡ false
         → Draws s t key (cutsFor (waitingIn m) k (dotsTo u (r .put) (c .entry)))
         (sift alive (valueLeft (waitingIn m) [] k []) (valuesTo u (r .put) (c .entry))) sk)
@@ -129,7 +129,7 @@ module _ {m : Map} {u : Update} {s t : List ℕ} {l : Layout} {last : ℕ} {out 
           ∙ ap (λ z. z ∷ sift stays (run (waitingIn m)) (coming u (done || r .put) (c .more))) its-fate)
           step
 
-    pub drawing-on : {next : Sketch} {g : ℕ} → Keyed s g last (keyNumber 0 (key + 1)) (waitingIn m) → next .count ≤ out .count + 1 → Left next
+    pub drawing-on : {next : Sketch} {g : ℕ} → Keyed s g last (keyNumber 0 (key + 1)) (waitingIn m) → next .sums .count ≤ out .sums .count + 1 → Left next
         → Drawing m u s t l last next g (r .entry .next) (done || r .put)
     drawing-on p few h =
         let a = d .few in

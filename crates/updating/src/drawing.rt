@@ -23,7 +23,7 @@ ghost use Rattle.layout.specs.Whole.{Lies};
 ghost use Rattle.marks.specs.Marks.{picked};
 ghost use Rattle.queued.specs.Queue.{Keyed, cutsFor, Queued, Marked};
 ghost use Rattle.sketch.specs.Walking.{LiesAt};
-ghost use Rattle.sketch.specs.Drawn.{valueIn, Placed, Draws, Sketches};
+ghost use Rattle.sketch.specs.Drawn.{valueIn, Placed, clockIn, Draws, Sketches};
 ghost use Rattle.leaving.specs.Left.{valueLeft};
 ghost use Rattle.updating.specs.Updated.{dotsTo, valuesTo, PutLies};
 use crate::Next;
@@ -40,6 +40,7 @@ use sketch::Lain;
 use sketch::Sketch;
 use sketch::Sketched;
 use sketch::Source;
+use sketch::Sums;
 use walks::Layout;
 
 // The clock of an entry, with the update's dot where the put goes there.
@@ -147,7 +148,7 @@ fn draw_key(s: &[u8], op: &[u8], c: Next, dot: Dot, q: Queue, under: [bool; WAIT
     ensures { λ r. ⌜ ((u : Update) (e : Entry) (w : List Removal) → u .dot ≡ dot → PutLies (now (op .entry)) u → LiesAt (now (s .entry)) e (c .entry)
         → length (dotsTo u (c .put) e) ≤ dotLimit
         → Queued (now (s .entry)) q w → Marked w (e .key) under
-        → (r .clock ≡ clockOf (cutsFor w (e .key) (dotsTo u (c .put) e))) × (isEmpty (cutsFor w (e .key) (dotsTo u (c .put) e)) ≡ false
+        → (clockIn (r .own) ≡ clockOf (cutsFor w (e .key) (dotsTo u (c .put) e))) × (isEmpty (cutsFor w (e .key) (dotsTo u (c .put) e)) ≡ false
         → Draws (now (s .entry)) (now (op .entry)) (c .entry .key) (cutsFor w (e .key) (dotsTo u (c .put) e))
         (sift alive (valueLeft w [] (e .key) []) (valuesTo u (c .put) e)) r)) ⌝ }
 {
@@ -186,7 +187,10 @@ fn draw_keys(
 {
     let dot = u.dot;
     let third = l.third;
-    let mut out = Sketch::new();
+    let nothing = Clock::new();
+    let blank = Sketched::new(0, nothing);
+    let mut items: [Sketched; ENTRIES] = [blank; ENTRIES];
+    let mut sums = Sums::new();
     let mut f = first;
     let mut x = Cursor {
         own: l.second,
@@ -205,17 +209,17 @@ fn draw_keys(
         f = listing.next;
         let under = listing.under;
         let k = draw_key(s, op, c, dot, q, under);
-        let left = k.clock;
-        if !left.is_empty() {
-            let n = out.count;
-            out.count = n + 1;
-            out.wide = out.wide | (VALUES < k.len);
+        let own = k.own;
+        if own.size() != 0 {
+            let n = sums.count;
+            let more = sums.with(k);
+            sums = more;
             if n < ENTRIES {
-                out.items[n] = k;
+                items[n] = k;
             }
         }
     }
-    out
+    Sketch { items, sums }
 }
 
 // The entries of an update. Called at two places, the drawing keeps a frame of its own, and what is written afterwards does not stand on top of it.

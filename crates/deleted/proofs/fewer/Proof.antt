@@ -1,61 +1,58 @@
--- `fewer` meets its contract: by the number of the call beside it, and by the clocks that are drawn. Assumes nothing.
-use mathlib.Core.Path.{ap, sym, _∙_}
+-- `fewer` meets its contract: by the number of the call beside it, and by the sums over what is drawn. Assumes nothing.
+use mathlib.Core.Path.{sym, _∙_}
 use native.Mathlib.Omega.{arith}
 use borrow.Author.Needs.{needs}
-use Rattle.promises.specs.Deleted.{dotsAmong}
-use Rattle.changing.proofs.Numbers.{over-limit, short-room, done-room}
-use Rattle.changing.proofs.Drafts.{ready, drawn-whole, counted}
+use Rattle.changing.proofs.Numbers.{over-limit, short-room, done-room, settled}
+use Rattle.changing.proofs.Drafts.{counted}
 use Rattle.deleted.proofs.Counts.{refused-uncounted, done-counted}
 use Rattle.deleted.proofs.fewer.Statement.{statement}
 use Rattle.deleted.proofs.fewer.Tie as tie
 
 weigh-requires : tie.Need-weigh-requires
-weigh-requires f κs = let p = f .before .before .pre .1 .1 in (p .0, p .1 .0 .waiting)
+weigh-requires f κs = let p = f .before .before .pre .1 .1 .1 in (p .0, p .1 .0 .waiting)
 
 returns : tie.Need-returns
-returns f c l w n d e =
-    let x = f .before .before .weigh .ensures .0 l w (d .entries .count) (d .entries .wide) (d .waiting) in
+returns f items c l w n d e =
+    let x = f .before .before .weigh .ensures .0 l w (d .entries .sums .count) (d .entries .sums .wide) (d .waiting) in
     refused-uncounted (λ out q. over-limit c l w (d .dots) out (x .0) (f .if1 .taken)) (f .if1 .taken)
 
-count-records-requires : tie.Need-count-records-requires
-count-records-requires f κs =
-    let d = f .before .before .before .before .before .before .pre .1 .1 .1 .0 in
-    let x = f .before .before .before .weigh .ensures .0 _ _ (d .entries .count) (d .entries .wide) (d .waiting) in
-    (_, (_, ready d (sym (x .0) ∙ f .before .if1 .left)))
+add-records : tie.Need-add-records
+add-records f = let r = f .before .before .before .before .before .before .before .pre .1 .1 .1 .1 .0 .entries .sums .room in omega arith
+
+add-records-2 : tie.Need-add-records-2
+add-records-2 f = let r = f .before .before .before .before .before .before .before .before .pre .1 .1 .1 .1 .0 .entries .sums .room in omega (arith, f .before .before .before .before .before .weigh .ensures .1)
+
+add-records-3 : tie.Need-add-records-3
+add-records-3 f = let r = f .before .before .before .before .before .before .before .before .pre .1 .1 .1 .1 .0 .entries .sums .room in omega (arith, f .before .before .before .before .before .weigh .ensures .1, f .before .before .size .ensures .1)
 
 returns-2 : tie.Need-returns-2
-returns-2 f c l w n d e =
+returns-2 f items c l w n d e =
     let i = f .before .before .before .before in
-    let x = i .before .before .weigh .ensures .0 _ _ (d .entries .count) (d .entries .wide) (d .waiting) in
+    let x = i .before .before .weigh .ensures .0 _ _ (d .entries .sums .count) (d .entries .sums .wide) (d .waiting) in
     let z = sym (x .0) ∙ i .if1 .left in
-    let k = counted d z (f .before .before .before .size .ensures .0) (f .before .before .count-records .ensures .0 _ _ (ready d z))
-    (x .1 (i .if1 .left)) in
+    let k = counted d z (f .before .before .before .size .ensures .0) (x .1 (i .if1 .left)) in
     refused-uncounted (λ out q. short-room c l w (d .dots) out z (omega (arith, k, f .if2 .taken, q))) (λ y. omega arith)
 
 sub-result : tie.Need-sub-result
 sub-result f =
+    let o = f .before .before .before .before .before .before .before .before .before .before .pre .1 .1 in
+    let p = o .1 .1 in
+    let d = p .0 in
     let i = f .before .before .before .before .before in
-    let o = i .before .before .before .before .before in
-    let p = o .pre .1 .1 .1 in
-    let x = i .before .before .weigh .ensures .0 _ _ (p .0 .entries .count) (p .0 .entries .wide) (p .0 .waiting) in
-    omega (
-      arith,
-      f .count-dots .ensures .0 (o .args .s .now) (o .args .t .now),
-      ap (λ l. dotsAmong l)
-          (drawn-whole (p .0) (sym (x .0) ∙ i .if1 .left)),
-      p .1,
-    )
+    let x = i .before .before .weigh .ensures .0 _ _ (d .entries .sums .count) (d .entries .sums .wide) (d .waiting) in
+    let z = sym (x .0) ∙ i .if1 .left in
+    let h = settled (o .0) (o .1 .0) z in
+    omega (arith, d .entries .sums .dots (h .few) (h .narrow), p .1)
 
 returns-3 : tie.Need-returns-3
-returns-3 f c l w n d e =
+returns-3 f items c l w n d e =
     let i = f .before .before .before .before .before in
-    let o = i .before .before .before .before .before in
-    let x = i .before .before .weigh .ensures .0 _ _ (d .entries .count) (d .entries .wide) (d .waiting) in
+    let x = i .before .before .weigh .ensures .0 _ _ (d .entries .sums .count) (d .entries .sums .wide) (d .waiting) in
     let z = sym (x .0) ∙ i .if1 .left in
-    let k = counted d z (f .before .before .before .before .size .ensures .0)
-    (f .before .before .before .count-records .ensures .0 _ _ (ready d z)) (x .1 (i .if1 .left)) in
+    let k = counted d z (f .before .before .before .before .size .ensures .0) (x .1 (i .if1 .left)) in
+    let h = settled l w z in
     done-counted (λ out q. done-room c l w (d .dots) out z (omega (arith, k, f .before .if2 .left, q)))
-    (omega (arith, f .count-dots .ensures .0 (o .args .s .now) (o .args .t .now), ap (λ l. dotsAmong l) (drawn-whole d z), e))
+    (omega (arith, d .entries .sums .dots (h .few) (h .narrow), e))
 
 pub fewer-spec : {M : Type 1} → statement M
 fewer-spec =
@@ -64,10 +61,9 @@ fewer-spec =
     weigh-requires
     returns
     (λ c κs. search needs)
-    count-records-requires
-    (λ c. search needs)
-    (λ c. search needs)
+    add-records
+    add-records-2
+    add-records-3
     returns-2
-    (λ c κs. search needs)
     sub-result
     returns-3)

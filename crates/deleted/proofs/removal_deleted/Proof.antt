@@ -49,7 +49,7 @@ sub-had f = omega (arith, f .before .before .before .before .before .before .bef
 
 fewer-requires : tie.Need-fewer-requires
 fewer-requires f κs =
-    let c = f .before .before in
+    let c = f .before .before .before in
     let p = c .before .before .before .before .before .before .before .before .before .before .before .before .pre in
     let w = c .before .before .before .before .before in
     let h = p .0 .0 in
@@ -60,10 +60,13 @@ fewer-requires f κs =
         (
           _,
           (
-            removed-draft h _ j (c .before .new .ensures) (f .before .draw-removed .ensures _)
-                (c .join-plan .ensures _ _ (c .before .before .before .before .queue-of .ensures) (c .before .before .before .held-queue .ensures _ _ (lies w) (told w))
-                (h .lies .within .valid .waiting) (held-valid (j .valid) _)) (c .before .before .held-keys .ensures _ _ (lies w) (told w)),
-            removed-most (h .lies) _ refl,
+            _,
+            (
+              removed-draft h _ j (c .before .new .ensures) (f .before .before .draw-removed .ensures _)
+                  (c .join-plan .ensures _ _ (c .before .before .before .before .queue-of .ensures) (c .before .before .before .held-queue .ensures _ _ (lies w) (told w))
+                  (h .lies .within .valid .waiting) (held-valid (j .valid) _)) (c .before .before .held-keys .ensures _ _ (lies w) (told w)),
+              removed-most (h .lies) _ refl,
+            ),
           ),
         ),
       ),
@@ -71,13 +74,13 @@ fewer-requires f κs =
 
 returns : tie.Need-returns
 returns f n e =
-    let c = f .before .before .before in
+    let c = f .before .before .before .before in
     let p = c .before .before .before .before .before .before .before .before .before .before .before .before .pre in
     let w = c .before .before .before .before .before in
     let h = p .0 .0 in
     let j = p .1 .0 in
     counted-as (removed-laid (h .lies .within .valid) _)
-    (f .fewer .ensures _ _ _ n (removed-draft h _ j (c .before .new .ensures) (f .before .before .draw-removed .ensures _)
+    (f .fewer .ensures _ _ _ _ n (removed-draft h _ j (c .before .new .ensures) (f .before .before .before .draw-removed .ensures _)
     (c .join-plan .ensures _ _ (c .before .before .before .before .queue-of .ensures) (c .before .before .before .held-queue .ensures _ _ (lies w) (told w))
     (h .lies .within .valid .waiting) (held-valid (j .valid) _)) (c .before .before .held-keys .ensures _ _ (lies w) (told w))) (removed-rest (h .lies) _ n refl e))
 

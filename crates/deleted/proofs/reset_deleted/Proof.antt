@@ -19,7 +19,7 @@ sub-had f = omega (arith, f .before .before .before .before .before .before .bef
 
 fewer-requires : tie.Need-fewer-requires
 fewer-requires f κs =
-    let c = f .before .before in
+    let c = f .before .before .before in
     let h = c .before .before .before .before .before .before .before .pre .0 .0 in (
       _,
       (
@@ -27,9 +27,12 @@ fewer-requires f κs =
         (
           _,
           (
-            reset-draft h _ (cut-left _ _ (c .before .before .before .cut .ensures)) (f .before .draw-reset .ensures _)
-                (c .reset-plan .ensures _ _ (c .before .queue-of .ensures) (h .lies .within .valid .waiting)),
-            reset-most (h .lies) _ refl,
+            _,
+            (
+              reset-draft h _ (cut-left _ _ (c .before .before .before .cut .ensures)) (f .before .before .draw-reset .ensures _)
+                  (c .reset-plan .ensures _ _ (c .before .queue-of .ensures) (h .lies .within .valid .waiting)),
+              reset-most (h .lies) _ refl,
+            ),
           ),
         ),
       ),
@@ -37,10 +40,10 @@ fewer-requires f κs =
 
 returns : tie.Need-returns
 returns f n e =
-    let c = f .before .before .before in
+    let c = f .before .before .before .before in
     let h = c .before .before .before .before .before .before .before .pre .0 .0 in
-    counted-as (reset-laid _ _) (f .fewer .ensures _ _ _ n
-    (reset-draft h _ (cut-left _ _ (c .before .before .before .cut .ensures)) (f .before .before .draw-reset .ensures _)
+    counted-as (reset-laid _ _) (f .fewer .ensures _ _ _ _ n
+    (reset-draft h _ (cut-left _ _ (c .before .before .before .cut .ensures)) (f .before .before .before .draw-reset .ensures _)
     (c .reset-plan .ensures _ _ (c .before .queue-of .ensures) (h .lies .within .valid .waiting))) (reset-rest (h .lies) _ n refl e))
 
 pub reset-deleted-spec : {M : Type 1} → statement M

@@ -3,17 +3,16 @@ use mathlib.Core.Bool.{true, false}
 use Prim.Native.Nat.{_≤_, _-_}
 use lib.ListN.{length-take}
 use Rattle.lists.proofs.Passing.{Passing, passing-start, passing-here, passing-on, passing-end}
-use Rattle.parts.specs.Model.{waitingLimit}
 use borrow.Author.Needs.{needs}
 use native.Mathlib.Omega.{arith}
 use Rattle.leaving.proofs.any_listed.Statement.{statement}
 use Rattle.leaving.proofs.any_listed.Tie as tie
 
 abbrev Inv-loop : tie.InvT-loop
-Inv-loop under i₀ i = (i ≤ waitingLimit) × Passing (λ b. b) (λ b. true) false under waitingLimit i
+Inv-loop n under i₀ i = (i ≤ n) × Passing (λ b. b) (λ b. true) false under n i
 
 abbrev μ-loop : tie.MeasureT-loop
-μ-loop under i₀ i = waitingLimit - i
+μ-loop n under i₀ i = n - i
 
 loop-holds : tie.Need-loop-holds Inv-loop μ-loop
 loop-holds c = (search needs, passing-start)

@@ -37,6 +37,11 @@ Inv-loop v x second gone t ds theirs s cs ours stand whole n out₀ i₀ out i =
 abbrev μ-loop : tie.MeasureT-loop
 μ-loop v x second gone t ds theirs s cs ours stand whole n out₀ i₀ out i = n - i
 
+stay-whole-requires : tie.Need-stay-whole-requires Inv-loop μ-loop
+stay-whole-requires c κs =
+    let p = c .before .before .before .pre .1 .1 .1 in
+    (omega (arith, p .0 .1 .count, p .0 .1 .few), omega (arith, p .1 .1 .count, p .1 .1 .few))
+
 sub-n : tie.Need-sub-n Inv-loop μ-loop
 sub-n c = let o = c .before .before .before .before .before .before .pre .1 .0 .1 .values .order in search needs
 
@@ -151,7 +156,7 @@ draw-values-spec =
     (tie.spec
     Inv-loop
     μ-loop
-    (λ c κs. search needs)
+    stay-whole-requires
     sub-n
     loop-holds
     (λ c. search needs)

@@ -18,7 +18,7 @@ returns c =
     let u = p .1 .0 (c .if1 .taken) in
     λ v w key q r m n.
     picked-all (runDots (z .args .run .now)) dotLimit (omega (arith, length-run (z .args .run .now), p .0))
-    ∙ sym (whole-left u v w key (p .1 .1 .0) (q .few) (r .few) m n)
+    ∙ sym (whole-left u v w key (p .1 .1 .0) q r m n)
 
 returns-2 : tie.Need-returns-2
 returns-2 c =

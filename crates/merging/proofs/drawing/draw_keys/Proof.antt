@@ -1,13 +1,14 @@
 -- `draw_keys` meets its contract: the loop draws the next key of both maps, and the next, until neither has more. Assumes nothing.
 use mathlib.Core.Path.{_≡_, refl, ap, sym, subst, _∙_}
 use mathlib.Core.Bool.{Bool, true, false, _||_}
+use mathlib.Core.List.{List}
 use Prim.Native.Nat.{ℕ, _+_, _-_, _≤_, _<_}
 use lib.ListN.{length, length-set}
 use native.Mathlib.Omega.{arith}
 use borrow.Author.Needs.{needs}
-use borrow.Author.Tests.{ltb-false, not-true, not-false}
+use borrow.Author.Tests.{ltb-false}
 use Rattle.lists.proofs.Orders.{apart}
-use Rattle.lists.proofs.Pads.{unmapped}
+use Rattle.clock.specs.declared.Dot.{Dot}
 use Rattle.clock.specs.Dots.{dotsOf, isEmpty}
 use Rattle.clock.specs.Lawful.{Lawful}
 use Rattle.clock.proofs.Packs.{dots-of}
@@ -17,28 +18,30 @@ use Rattle.map.specs.Model.{seenBy, waitingIn}
 use Rattle.maprecords.specs.Related.{readMap}
 use Rattle.mapimage.specs.MapImage.{keyNumber}
 use Rattle.queued.specs.Queue.{Marked, Keyed}
-use Rattle.sketch.proofs.Adding.{push-one, push-over}
+use Rattle.sketch.specs.Drawn.{clockIn}
+use Rattle.sketch.proofs.Adding.{sketch-none, push-one, push-over}
 use Rattle.merging.specs.Coming.{Comes}
-use Rattle.merging.proofs.Merges.{Drawing, drawing-start, fit-both, cutKey, valuesKey, Drew, drew, grown-goes, grown-stays, drawing-on, drawing-end, comes-seen}
+use Rattle.merging.proofs.Merges.{Drawing, drawing-start, fit-both, cutKey, valuesKey, Drew, drew, some-left, none-left, grown-goes, grown-stays, drawing-on, drawing-end, comes-seen}
 use Rattle.merging.proofs.drawing.draw_keys.Statement.{statement}
 use Rattle.merging.proofs.drawing.draw_keys.Tie as tie
 
 abbrev Inv-loop : tie.InvT-loop
-Inv-loop s t cs ds l m mine yours third last out₀ f₀ g₀ x₀ y₀ out f g x y = Drawing (readMap s .map) (readMap t .map) s t l m out f g x y × (length (out .items) ≡ entryLimit)
+Inv-loop s t cs ds l m mine yours third last items₀ sums₀ f₀ g₀ x₀ y₀ items sums f g x y = Drawing (readMap s .map) (readMap t .map) s t l m (record { items = items; sums = sums }) f g x y
+    × (length items ≡ entryLimit)
 
 abbrev μ-loop : tie.MeasureT-loop
-μ-loop s t cs ds l m mine yours third last out₀ f₀ g₀ x₀ y₀ out f g x y = (third - x .own) + (last - y .own)
+μ-loop s t cs ds l m mine yours third last items₀ sums₀ f₀ g₀ x₀ y₀ items sums f g x y = (third - x .own) + (last - y .own)
 
 loop-holds : tie.Need-loop-holds Inv-loop μ-loop
 loop-holds c =
-    let p = c .before .before .before .before .before .before .before .pre in
-    (drawing-start (p .0 .0 .lies) (p .0 .1 .lies) (c .new .ensures .0) (c .new .ensures .1 _ _), search (needs, unmapped))
+    let p = c .before .before .before .before .before .before .before .before .before .pre in
+    (drawing-start (p .0 .0 .lies) (p .0 .1 .lies) (c .new3 .ensures .0) (sketch-none (c .new3 .ensures .0) (c .new3 .ensures .1)), refl)
 
 next-requires : tie.Need-next-requires Inv-loop μ-loop
 next-requires c κs =
     let w = c .before .before .before in
     let d = w .loop .inv .0 in
-    let p = w .before .before .before .before .before .before .before .before .pre in
+    let p = w .before .before .before .before .before .before .before .before .before .before .pre in
     let a = p .0 .0 in
     let b = p .0 .1 in (
       c .if1 .taken,
@@ -49,12 +52,12 @@ next-requires c κs =
     )
 
 -- what comes next
-came : (c : tie.After-next Inv-loop μ-loop) → let w = c .before .before .before .before in let a = w .before .before .before .before .before .before .before .before .args in
+came : (c : tie.After-next Inv-loop μ-loop) → let w = c .before .before .before .before in let a = w .before .before .before .before .before .before .before .before .before .before .args in
     Comes (a .s .now) (a .t .now) (a .a .layout) (a .b .layout) (seenBy (readMap (a .s .now) .map)) (seenBy (readMap (a .t .now) .map)) (w .loop .x) (w .loop .y) (w .loop .inv .0 .es) (w .loop .inv .0 .fs) (c .next .result)
 came c =
     let w = c .before .before .before .before in
     let d = w .loop .inv .0 in
-    let p = w .before .before .before .before .before .before .before .before .pre in
+    let p = w .before .before .before .before .before .before .before .before .before .before .pre in
     comes-seen (ap dotsOf (p .0 .0 .clock)) (ap dotsOf (p .0 .1 .clock)) (c .next .ensures (d .es) (d .fs) (d .ours) (d .theirs))
 
 listers-requires : tie.Need-listers-requires Inv-loop μ-loop
@@ -67,17 +70,16 @@ draw-key-requires : tie.Need-draw-key-requires Inv-loop μ-loop
 draw-key-requires c κs =
     let k = c .before .before .before .before .before .before .before .before in
     let r = came k in
-    let p = k .before .before .before .before .before .before .before .before .before .before .before .before .pre in
+    let p = k .before .before .before .before .before .before .before .before .before .before .before .before .before .before .pre in
     (((r .ours, r .here), (r .theirs, r .there)), ((rw (dots-of (r .gone) (r .lost)) (r .lawful), p .1 .1 .0), ((_, p .1 .0 .0), (_, p .1 .0 .1))))
 
-add-out : tie.Need-add-out Inv-loop μ-loop
-add-out c = let d = c .before .before .before .before .before .before .before .before .before .before .before .before .before .before .before .before .loop .inv .0 in omega (arith, d .few)
-
-element-set-from-k : tie.Need-element-set-from-k Inv-loop μ-loop
-element-set-from-k c = let k = c .if3 .taken in omega (arith, c .before .before .before .before .before .before .before .before .before .before .before .before .before .before .before .before .before .before .loop .inv .1)
+with-requires : tie.Need-with-requires Inv-loop μ-loop
+with-requires c κs =
+    let d = c .before .before .before .before .before .before .before .before .before .before .before .before .before .before .before .before .loop .inv .0 in
+    (omega (arith, d .few, came (c .before .before .before .before .before .before .before .before .before .before .before .before) .fewer), (_, d .grown .holds .sums))
 
 -- less is left of both
-less : (c : tie.After-next Inv-loop μ-loop) → let w = c .before .before .before .before in let a = w .before .before .before .before .before .before .before .before .args in
+less : (c : tie.After-next Inv-loop μ-loop) → let w = c .before .before .before .before in let a = w .before .before .before .before .before .before .before .before .before .before .args in
     (a .a .layout .third - c .next .result .x .next .own) + (a .b .layout .third - c .next .result .y .next .own) < (a .a .layout .third - w .loop .x .own) + (a .b .layout .third - w .loop .y .own)
 less c = let r = came c in omega (arith, r .onward, r .outward, r .some, r .ahead .own .order, r .beside .own .order)
 
@@ -112,7 +114,7 @@ module _ (c : tie.After-draw-key Inv-loop μ-loop) where
   w = k .before .before .before .before
 
   abbrev z : tie.Start Inv-loop μ-loop
-  z = w .before .before .before .before .before .before .before .before
+  z = w .before .before .before .before .before .before .before .before .before .before
 
   abbrev m : Map
   m = readMap (z .args .s .now) .map
@@ -139,7 +141,10 @@ module _ (c : tie.After-draw-key Inv-loop μ-loop) where
       drew (w .loop .inv .0) r (c .draw-key .ensures (r .keep) (r .ours) (r .theirs) (waitingIn n) (waitingIn m) (r .kept) (r .here) (r .there) (r .level) (p .1 .0 .1) (p .1 .0 .0)
       (subst (λ x. Marked (waitingIn n) x (i .listers2 .result .under)) (r .here .key) (theirs .0)) (subst (λ x. Marked (waitingIn m) x (i .before .listers .result .under)) (r .here .key) (ours .0)))
 
-  left : isEmpty (cutKey (w .loop .inv .0) (came k)) ≡ isEmpty (dotsOf (c .draw-key .result .clock))
+  abbrev drawnDots : List Dot
+  drawnDots = dotsOf (clockIn (c .draw-key .result .own))
+
+  left : isEmpty (cutKey (w .loop .inv .0) (came k)) ≡ isEmpty drawnDots
   left = ap isEmpty (sym (dots-of (cutKey (w .loop .inv .0) (came k)) (drawn .0)))
 
 loop-again : tie.Need-loop-again Inv-loop μ-loop
@@ -148,9 +153,11 @@ loop-again c =
     let d = w v .loop .inv .0 in
     let long = w v .loop .inv .1 in
     let r = came (k v) in
-    let e = left v ∙ sym (c .before .before .before .is-empty .ensures) ∙ not-true _ (c .before .before .if2 .taken) in (
-      drawing-on d r (ours v .1) (theirs v .1) (omega arith) (grown-stays d r e (λ done g. push-one g (drawn v .1 e) long (c .if3 .taken))),
-      length-set (w v .loop .out .items) (w v .loop .out .count) (v .draw-key .result) ∙ long,
+    let e = left v ∙ some-left (drawnDots v) (c .before .before .before .size .ensures .0) (c .before .before .if2 .taken) in
+    let s = c .before .with .ensures in (
+      drawing-on d r (ours v .1) (theirs v .1) (omega (arith, s .0))
+          (grown-stays d r e (λ done g. push-one g (drawn v .1 e) (s .1 _ _ _ _ _ _ (g .sums) (drawn v .1 e)) (s .0) long (c .if3 .taken))),
+      length-set (w v .loop .items) (w v .loop .sums .count) (v .draw-key .result) ∙ long,
     )
 
 loop-again-2 : tie.Need-loop-again-2 Inv-loop μ-loop
@@ -158,15 +165,19 @@ loop-again-2 c =
     let v = c .before .before .before .before .before in
     let d = w v .loop .inv .0 in
     let r = came (k v) in
-    let e = left v ∙ sym (c .before .before .before .is-empty .ensures) ∙ not-true _ (c .before .before .if2 .taken) in
-    (drawing-on d r (ours v .1) (theirs v .1) (omega arith) (grown-stays d r e (λ done g. push-over g (drawn v .1 e) (omega arith))), w v .loop .inv .1)
+    let e = left v ∙ some-left (drawnDots v) (c .before .before .before .size .ensures .0) (c .before .before .if2 .taken) in
+    let s = c .before .with .ensures in (
+      drawing-on d r (ours v .1) (theirs v .1) (omega (arith, s .0))
+          (grown-stays d r e (λ done g. push-over g (drawn v .1 e) (s .1 _ _ _ _ _ _ (g .sums) (drawn v .1 e)) (s .0) (omega arith))),
+      w v .loop .inv .1,
+    )
 
 loop-again-3 : tie.Need-loop-again-3 Inv-loop μ-loop
 loop-again-3 c =
     let v = c .before .before .before in
     let d = w v .loop .inv .0 in
     let r = came (k v) in
-    (drawing-on d r (ours v .1) (theirs v .1) (omega arith) (grown-goes d r (left v ∙ sym (c .before .is-empty .ensures) ∙ not-false _ (c .if2 .left))), w v .loop .inv .1)
+    (drawing-on d r (ours v .1) (theirs v .1) (omega arith) (grown-goes d r (left v ∙ none-left (drawnDots v) (c .before .size .ensures .0) (c .if2 .left))), w v .loop .inv .1)
 
 pub draw-keys-spec : {M : Type 1} → statement M
 draw-keys-spec =
@@ -175,15 +186,17 @@ draw-keys-spec =
     Inv-loop
     μ-loop
     (λ c κs. search needs)
+    (λ c κs. search needs)
+    (λ c κs. search needs)
     loop-holds
     next-requires
     listers-requires
     listers-requires-2
     draw-key-requires
     (λ c κs. search needs)
-    add-out
+    with-requires
     (λ c. search needs)
-    element-set-from-k
+    (λ c. search needs)
     loop-less
     loop-again
     loop-less-2

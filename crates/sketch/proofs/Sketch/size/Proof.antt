@@ -9,10 +9,10 @@ use Rattle.sketch.proofs.Sketch.size.Statement.{statement}
 use Rattle.sketch.proofs.Sketch.size.Tie as tie
 
 returns : tie.Need-returns
-returns c = let h : length (c .before .args .self .items) ≡ entryLimit = search (needs, unmapped) in simp length-take (omega arith)
+returns c = let h : length (c .before .before .args .self .items) ≡ entryLimit = search (needs, unmapped) in simp length-take (omega arith)
 
 returns-2 : tie.Need-returns-2
-returns-2 c = let h : length (c .before .args .self .items) ≡ entryLimit = search (needs, unmapped) in simp length-take (omega arith)
+returns-2 c = let h : length (c .before .before .args .self .items) ≡ entryLimit = search (needs, unmapped) in simp length-take (omega arith)
 
 pub size-spec : {M : Type 1} → statement M
 size-spec =

@@ -1,6 +1,7 @@
 -- `Sketched::new` meets its contract. Assumes nothing.
-use mathlib.Core.Path.{refl}
+use mathlib.Core.Path.{refl, _∙_}
 use mathlib.Core.List.{List·Memᴰ·not-nil}
+use borrow.Author.Needs.{needs}
 use Rattle.sketch.proofs.Sketched.new.Statement.{statement}
 use Rattle.sketch.proofs.Sketched.new.Tie as tie
 
@@ -9,7 +10,7 @@ returns c = (
   refl,
   λ s t d e. record {
     named = refl;
-    clock = e;
+    clock = c .of .ensures ∙ e;
     many = refl;
     values = λ n.
         (refl, record { each = λ x i. absurd (List·Memᴰ·not-nil i) });
@@ -17,4 +18,4 @@ returns c = (
 )
 
 pub new-spec : {M : Type 1} → statement M
-new-spec = tie.close (tie.spec returns)
+new-spec = tie.close (tie.spec (λ c κs. search needs) returns)

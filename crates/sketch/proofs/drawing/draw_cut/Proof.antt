@@ -6,28 +6,28 @@ use Prim.Native.Nat.{_-_, _<_}
 use lib.ListN.{length, length-set}
 use native.Mathlib.Omega.{arith}
 use borrow.Author.Needs.{needs}
-use Rattle.lists.proofs.Pads.{unmapped}
 use Rattle.clock.specs.Dots.{dotsOf, clockOf, cutDots}
 use Rattle.parts.specs.Model.{entryLimit, keysOf, dotsIn}
 use Rattle.parts.specs.Entries.{stays, listed}
 use Rattle.map.specs.Model.{entriesIn}
 use Rattle.maprecords.specs.Related.{readMap}
 use Rattle.sketch.specs.Drawn.{cutWhere}
-use Rattle.sketch.proofs.Adding.{push-one, push-over}
+use Rattle.sketch.proofs.Adding.{sketch-none, push-one, push-over}
 use Rattle.sketch.proofs.Walked.{Walked, walked-start, walked-skip, walked-keep, walked-few, walked-end, here-lawful, left-stays, left-entry}
 use Rattle.sketch.proofs.drawing.draw_cut.Statement.{statement}
 use Rattle.sketch.proofs.drawing.draw_cut.Tie as tie
 
 abbrev Inv-loop : tie.InvT-loop
-Inv-loop s l all keys by end out₀ x₀ out x = Walked s l (cutWhere all (keysOf keys) (dotsOf by)) (entriesIn (readMap s .map)) x out × (length (out .items) ≡ entryLimit)
+Inv-loop s l all keys by end items₀ sums₀ x₀ items sums x = Walked s l (cutWhere all (keysOf keys) (dotsOf by)) (entriesIn (readMap s .map)) x (record { items = items; sums = sums })
+    × (length items ≡ entryLimit)
 
 abbrev μ-loop : tie.MeasureT-loop
-μ-loop s l all keys by end out₀ x₀ out x = end - x .own
+μ-loop s l all keys by end items₀ sums₀ x₀ items sums x = end - x .own
 
 loop-holds : tie.Need-loop-holds Inv-loop μ-loop
 loop-holds c =
-    let z = c .before .before in
-    (walked-start (cutWhere (z .args .all) (keysOf (z .args .keys)) (dotsOf (z .args .by))) (z .pre .0) (c .new .ensures .1 _), search (needs, unmapped))
+    let z = c .before .before .before .before in
+    (walked-start (cutWhere (z .args .all) (keysOf (z .args .keys)) (dotsOf (z .args .by))) (z .pre .0) (λ other. sketch-none (c .new3 .ensures .0) (c .new3 .ensures .1)), refl)
 
 entry-at-requires : tie.Need-entry-at-requires Inv-loop μ-loop
 entry-at-requires c κs = let w = c .before .before .loop .inv .0 in (c .if1 .taken, (w .rest, w .ahead))
@@ -35,7 +35,7 @@ entry-at-requires c κs = let w = c .before .before .loop .inv .0 in (c .if1 .ta
 own-left-requires : tie.Need-own-left-requires Inv-loop μ-loop
 own-left-requires c κs =
     let s = c .before .before .before .before .before in
-    let z = s .before .before .before in
+    let z = s .before .before .before .before .before in
     let w = s .loop .inv .0 in
     let g = c .before .before .entry-at .ensures (w .rest) (w .ahead) in (
       (g .entry, g .lies),
@@ -46,11 +46,11 @@ own-left-requires c κs =
 draw-values-requires : tie.Need-draw-values-requires Inv-loop μ-loop
 draw-values-requires c κs =
     let s = c .before .before .before .before .before .before .before .before .before in
-    let z = s .before .before .before in
+    let z = s .before .before .before .before .before in
     let w = s .loop .inv .0 in
     let o = c .before .before .before .before .before .before .entry-at in
     let g = o .ensures (w .rest) (w .ahead) in
-    let n = c .new2 .ensures .0 in (
+    let n = c .new4 .ensures .0 in (
       omega arith,
       (
         z .pre .1 .0,
@@ -62,19 +62,16 @@ draw-values-requires c κs =
       ),
     )
 
-add-out : tie.Need-add-out Inv-loop μ-loop
-add-out c =
+with-requires : tie.Need-with-requires Inv-loop μ-loop
+with-requires c κs =
     let s = c .before .before .before .before .before .before .before .before .before .before in
-    let z = s .before .before .before in
-    let f = walked-few (cutWhere (z .args .all) (keysOf (z .args .keys)) (dotsOf (z .args .by))) (s .loop .inv .0) in
-    omega arith
-
-element-set-from-d : tie.Need-element-set-from-d Inv-loop μ-loop
-element-set-from-d c = let k = c .if3 .taken in omega (arith, c .before .before .before .before .before .before .before .before .before .before .before .before .loop .inv .1)
+    let z = s .before .before .before .before .before in
+    let w = s .loop .inv .0 in
+    (walked-few (cutWhere (z .args .all) (keysOf (z .args .keys)) (dotsOf (z .args .by))) w, (_, w .holds (z .args .s .now) .sums))
 
 -- less is left behind an entry
 less : (c : tie.After-entry-at Inv-loop μ-loop) → let s = c .before .before .before in
-    s .before .before .before .args .l .third - c .entry-at .result .next .own < s .before .before .before .args .l .third - s .loop .x .own
+    s .before .before .before .before .before .args .l .third - c .entry-at .result .next .own < s .before .before .before .before .before .args .l .third - s .loop .x .own
 less c =
     let s = c .before .before .before in
     let w = s .loop .inv .0 in
@@ -95,7 +92,7 @@ loop-less-3 c = less (c .before .before .before .before .before)
 loop-again : tie.Need-loop-again Inv-loop μ-loop
 loop-again c =
     let s = c .before .before .before .before .before .before .before .before .before .before .before .before in
-    let z = s .before .before .before in
+    let z = s .before .before .before .before .before in
     let a = z .args in
     let w = s .loop .inv .0 in
     let o = c .before .before .before .before .before .before .before .before .before .entry-at in
@@ -110,15 +107,15 @@ loop-again c =
     ∙ c .before .before .before .before .if2 .taken in (
       walked-keep f w g t (left-entry (a .by) b (here .result) q (g .lies .fit) (o .result .key) (g .lies .key)) (λ other.
           let v = c .before .before .draw-values .ensures .1 (a .s .now) other (g .entry) (o .result .key) d [] refl (g .lies)
-          (c .before .before .before .new2 .ensures .1 _ _ d left) in
-          push-one (w .holds other) v (s .loop .inv .1) (c .if3 .taken)),
-      length-set (s .loop .out .items) (s .loop .out .count) (c .before .before .draw-values .result) ∙ s .loop .inv .1,
+          (c .before .before .before .new4 .ensures .1 _ _ d left) in
+          push-one (w .holds other) v (c .before .with .ensures .1 _ _ _ _ _ _ (w .holds other .sums) v) (c .before .with .ensures .0) (s .loop .inv .1) (c .if3 .taken)),
+      length-set (s .loop .items) (s .loop .sums .count) (c .before .before .draw-values .result) ∙ s .loop .inv .1,
     )
 
 loop-again-2 : tie.Need-loop-again-2 Inv-loop μ-loop
 loop-again-2 c =
     let s = c .before .before .before .before .before .before .before .before .before .before .before .before in
-    let z = s .before .before .before in
+    let z = s .before .before .before .before .before in
     let a = z .args in
     let w = s .loop .inv .0 in
     let o = c .before .before .before .before .before .before .before .before .before .entry-at in
@@ -133,15 +130,15 @@ loop-again-2 c =
     ∙ c .before .before .before .before .if2 .taken in (
       walked-keep f w g t (left-entry (a .by) b (here .result) q (g .lies .fit) (o .result .key) (g .lies .key)) (λ other.
           let v = c .before .before .draw-values .ensures .1 (a .s .now) other (g .entry) (o .result .key) d [] refl (g .lies)
-          (c .before .before .before .new2 .ensures .1 _ _ d left) in
-          push-over (w .holds other) v (omega arith)),
+          (c .before .before .before .new4 .ensures .1 _ _ d left) in
+          push-over (w .holds other) v (c .before .with .ensures .1 _ _ _ _ _ _ (w .holds other .sums) v) (c .before .with .ensures .0) (omega arith)),
       s .loop .inv .1,
     )
 
 loop-again-3 : tie.Need-loop-again-3 Inv-loop μ-loop
 loop-again-3 c =
     let s = c .before .before .before .before .before .before .before .before in
-    let a = s .before .before .before .args in
+    let a = s .before .before .before .before .before .args in
     let w = s .loop .inv .0 in
     let g = c .before .before .before .before .before .entry-at .ensures (w .rest) (w .ahead) in
     let f = cutWhere (a .all) (keysOf (a .keys)) (dotsOf (a .by)) in
@@ -155,7 +152,7 @@ loop-again-3 c =
 
 returns : tie.Need-returns Inv-loop μ-loop
 returns c =
-    let a = c .before .before .before .before .before .args in
+    let a = c .before .before .before .before .before .before .before .args in
     walked-end (cutWhere (a .all) (keysOf (a .keys)) (dotsOf (a .by))) (c .before .before .loop .inv .0) (omega arith)
 
 pub draw-cut-spec : {M : Type 1} → statement M
@@ -165,6 +162,8 @@ draw-cut-spec =
     Inv-loop
     μ-loop
     (λ c κs. search needs)
+    (λ c κs. search needs)
+    (λ c κs. search needs)
     loop-holds
     entry-at-requires
     (λ c κs. search needs)
@@ -172,9 +171,9 @@ draw-cut-spec =
     (λ c κs. search needs)
     (λ c κs. search needs)
     draw-values-requires
-    add-out
+    with-requires
     (λ c. search needs)
-    element-set-from-d
+    (λ c. search needs)
     loop-less
     loop-again
     loop-less-2

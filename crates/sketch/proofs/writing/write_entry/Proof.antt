@@ -1,30 +1,32 @@
 -- `write_entry` meets its contract. Assumes nothing.
-use mathlib.Core.Path.{ap}
+use mathlib.Core.Path.{ap, sym, _∙_}
 use lib.ListN.{length, length-map}
 use native.Mathlib.Omega.{arith}
 use borrow.Author.Needs.{needs}
 use Rattle.clock.specs.Dots.{dotsOf}
-use Rattle.clockimage.specs.Image.{dotRecord}
+use Rattle.clockimage.specs.Image.{dotRecord, dotRecords}
+use Rattle.sketch.specs.Drawn.{clockIn}
 use Rattle.sketch.proofs.Sources.{entry-dots, entry-more, wrote-as}
 use Rattle.sketch.proofs.writing.write_entry.Statement.{statement}
 use Rattle.sketch.proofs.writing.write_entry.Tie as tie
 
 write-dots-requires : tie.Need-write-dots-requires
 write-dots-requires c κs =
-    let z = c .before .before .before .before .before .before in
+    let z = c .before .before .before .before .before .before .before in
     let a = z .args in
     let h = z .pre .1 in
     omega (
       arith,
-      ap length (entry-dots (a .s .now) (a .t .now) (a .e) (a .kind) (c .before .before .if1 .taken)),
-      length-map (dotsOf (a .e .clock))
-          (dotRecord 2 0 (a .e .key)),
+      ap length (entry-dots (a .s .now) (a .t .now) (a .e) (a .kind) (c .before .before .before .if1 .taken)),
+      length-map (dotsOf (clockIn (a .e .own))) (dotRecord 2 0 (a .e .key)),
+      ap (λ k. length (dotsOf k)) (c .before .clock .ensures),
     )
 
 returns : tie.Need-returns
 returns c =
-    let a = c .before .before .before .before .before .before .before .before .before .args in
-    wrote-as (entry-dots (a .s .now) (a .t .now) (a .e) (a .kind) (c .before .before .before .before .before .if1 .taken))
+    let a = c .before .before .before .before .before .before .before .before .before .before .args in
+    wrote-as (entry-dots (a .s .now) (a .t .now) (a .e) (a .kind) (c .before .before .before .before .before .before .if1 .taken)
+    ∙ ap (λ k. dotRecords 2 0 (a .e .key) (dotsOf k)) (sym (c .before .before .before .before .clock .ensures)))
     (c .before .before .write-dots .ensures)
 
 write-sources-requires : tie.Need-write-sources-requires
@@ -44,6 +46,7 @@ pub write-entry-spec : {M : Type 1} → statement M
 write-entry-spec =
     tie.close
     (tie.spec
+    (λ c κs. search needs)
     write-dots-requires
     (λ c. search needs)
     returns

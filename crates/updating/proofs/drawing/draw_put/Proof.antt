@@ -41,6 +41,9 @@ returns-2 c =
     (o .0 ∙ sym (put-yields (valuesIn e) (u .put) (put-full h (omega (arith, i .if1 .left))) (sym (o .1) ∙ c .if2 .taken)))
     (c .before .draw-standing2 .ensures .1 (a .op .now) key d e w g l q m)
 
+put-source-requires : tie.Need-put-source-requires
+put-source-requires c κs = let p = c .before .before .before .before .before .before .before .before .before .before .before .pre in (p .1, p .0 .1 .1 .1)
+
 add-requires : tie.Need-add-requires
 add-requires c κs = (omega (arith, c .before .before .draw-standing2 .ensures .0), c .put-source .ensures .0 .1)
 
@@ -75,6 +78,6 @@ draw-put-spec =
     put-stands-requires
     (λ c κs. search needs)
     returns-2
-    (λ c κs. search needs)
+    put-source-requires
     add-requires
     returns-3)
