@@ -1,5 +1,4 @@
 -- Groups of records within a limit: what has room for each record has no more than the limit.
--- Assumes nothing.
 use mathlib.Core.Path.{_≡_, refl, ap, _∙_}
 use mathlib.Core.Bool.{Bool, true}
 use mathlib.Core.List.{List, [], _∷_, _++_}

@@ -1,5 +1,4 @@
 -- What the readers promise of the map and the operation that they give: valid, and within every limit; also of a refused image.
--- Assumes nothing.
 use mathlib.Core.Path.{_≡_, refl}
 use mathlib.Core.Bool.{true}
 use mathlib.Core.List.{List, List·Memᴰ·not-nil}

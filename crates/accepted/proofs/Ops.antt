@@ -1,5 +1,4 @@
 -- What the reader promises of the operation that it gives: valid, and within its limits; also of a refused image.
--- Assumes nothing.
 use mathlib.Core.Path.{_≡_, refl, ap, sym, _∙_}
 use mathlib.Core.Bool.{Bool, true, false, cond}
 use mathlib.Core.Logic.{_⊎_, inl, inr, ⊎-elim}

@@ -1,5 +1,4 @@
 -- The waiting removals of an accepted map's image are valid and within the limits.
--- Assumes nothing.
 use mathlib.Core.Path.{_≡_, refl, ap₂, sym, _∙_}
 use mathlib.Core.Bool.{true, false, cond}
 use mathlib.Core.Logic.{⊎-elim}

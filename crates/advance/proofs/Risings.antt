@@ -1,5 +1,4 @@
 -- Dots that rise, as the loop meets them, and as a clock; and what an added dot does to the number of dots.
--- Assumes nothing.
 use mathlib.Core.Path.{_≡_, refl, ap, sym, _∙_}
 use mathlib.Core.Bool.{Bool, true, false, not, _&&_}
 use mathlib.Core.Logic.{⊎-elim}

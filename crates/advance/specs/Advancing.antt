@@ -1,5 +1,4 @@
 -- 01 "Clocks": the controller's own clock, advanced by one dot.
--- Assumes nothing.
 use Prim.Native.Nat.{ℕ, _+_}
 use mathlib.Core.Bool.{Bool, true, cond, _&&_}
 use mathlib.Core.List.{List, [], _∷_}

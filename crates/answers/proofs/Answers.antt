@@ -1,5 +1,4 @@
 -- How each way out of a call answers, and that an answer leaves nothing open. Every call's proof cites these.
--- Assumes nothing.
 use mathlib.Core.Path.{_≡_, refl, sym, _∙_}
 use mathlib.Core.Bool.{true, false}
 use mathlib.Core.List.{List, [], _∷_}

@@ -1,5 +1,4 @@
 -- How long the image of a map is.
--- Assumes nothing.
 use mathlib.Core.Path.{_≡_, refl, ap, _∙_}
 use mathlib.Core.List.{List, map}
 use Prim.Native.Nat.{_+_, _*_, _≤_}

@@ -1,5 +1,4 @@
 -- What every call of castribba.h answers: the order of refusals, the word, and every byte of the output.
--- Assumes nothing.
 use mathlib.Core.Path.{_≡_}
 use Prim.Native.Nat.{ℕ, _+_, _*_, _^_}
 use mathlib.Core.Bool.{cond, _&&_}

@@ -1,5 +1,4 @@
 -- How many records the image of a map has.
--- Assumes nothing.
 use Prim.Native.Nat.{_*_, ℕ, _+_}
 use mathlib.Core.List.{List, [], _∷_}
 use lib.ListN.{length}

@@ -1,5 +1,4 @@
 -- Laws of what is asked of a map: the entry of a key, the first dot that is spent twice, and what reading a key keeps.
--- Assumes nothing.
 use mathlib.Core.Path.{_≡_, refl, ap, sym, _∙_}
 use mathlib.Core.Bool.{Bool, true, false, cond}
 use mathlib.Core.List.{List, [], _∷_, List·Memᴰ·not-nil}

@@ -1,5 +1,4 @@
 -- 01 "Map": what is asked of a map without changing it: both validations, making an operation, reading a key, the count.
--- Assumes nothing.
 use mathlib.Core.Bool.{Bool, true, false, cond}
 use mathlib.Core.List.{List, [], _∷_}
 use Prim.Native.Nat.{ℕ, _+_}

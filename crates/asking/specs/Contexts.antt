@@ -1,5 +1,4 @@
 -- Contexts (src/ctx.rs): what an update is made with.
--- Assumes nothing.
 use mathlib.Core.Bool.{cond}
 use mathlib.Core.List.{List, []}
 use Prim.Native.Nat.{ℕ, _+_, _-_, _^_}

@@ -1,5 +1,4 @@
 -- What the images that were read allow: the map's calls may be made, and their results answered.
--- Assumes nothing.
 use mathlib.Core.Path.{_≡_, ap, ap₂, sym, _∙_}
 use mathlib.Core.Bool.{Bool, true, false, cond}
 use mathlib.Core.List.{List}

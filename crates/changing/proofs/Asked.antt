@@ -1,5 +1,4 @@
 -- The clocks of a map and of a removal where they lie, which tell whether the removal waits.
--- Assumes nothing.
 use mathlib.Core.Path.{_≡_, refl, ap, sym, _∙_}
 use mathlib.Core.List.{List, map}
 use Prim.Native.Nat.{ℕ, _+_, _*_, _/_, _≤_}

@@ -1,5 +1,4 @@
 -- The number of a draft: which limit is broken first, or that there is too little room.
--- Assumes nothing.
 use mathlib.Core.Path.{_≡_, refl, ap, sym, _∙_}
 use mathlib.Core.Bool.{false}
 use mathlib.Core.List.{List, _++_, append-assoc}

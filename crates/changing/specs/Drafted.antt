@@ -1,5 +1,4 @@
 -- A result before it is written: its clock, a sketch of its entries and a plan of its waiting removals, drawn from two images.
--- Assumes nothing.
 use mathlib.Core.Path.{_≡_}
 use mathlib.Core.Bool.{false, cond}
 use mathlib.Core.List.{List, [], _∷_, _++_}

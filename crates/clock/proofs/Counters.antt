@@ -1,5 +1,4 @@
 -- A clock is its counters: what a list of dots holds at an actor, and that a clock has nothing else.
--- Assumes nothing.
 use mathlib.Core.Path.{_≡_, refl, sym, _∙_}
 use mathlib.Core.Bool.{cond}
 use mathlib.Core.Logic.{_⊎_, inl, inr, ⊎-elim}

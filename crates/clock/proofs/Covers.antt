@@ -1,5 +1,4 @@
 -- One clock covers another when it has every counter at least as large; the comparison of two clocks.
--- Assumes nothing.
 use mathlib.Core.Path.{_≡_, refl}
 use mathlib.Core.Bool.{Bool, true, false}
 use mathlib.Core.Logic.{⊎-elim}

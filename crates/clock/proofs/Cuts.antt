@@ -1,5 +1,4 @@
 -- Cutting a clock, and the dots that it has in common with another: what is left is a clock, and what it says at an actor.
--- Assumes nothing.
 use mathlib.Core.Path.{_≡_, refl, ap, sym, _∙_}
 use mathlib.Core.Bool.{Bool, true, false, cond}
 use mathlib.Core.Logic.{_⊎_, inl, inr}

@@ -1,5 +1,4 @@
 -- Joining clocks, and adding a dot: the result is a clock, with the larger counter of each actor.
--- Assumes nothing.
 use mathlib.Core.Path.{_≡_, refl, ap, sym, _∙_}
 use mathlib.Core.Bool.{Bool, true, false, cond, _&&_}
 use mathlib.Core.Logic.{_⊎_, inl, inr}

@@ -1,5 +1,4 @@
 -- Laws of a clock as a pack of its dots, and of the limit.
--- Assumes nothing.
 use mathlib.Core.Path.{_≡_, refl, ap, _∙_}
 use mathlib.Core.Bool.{true, false}
 use mathlib.Core.List.{List, [], _∷_, _++_, map-id}

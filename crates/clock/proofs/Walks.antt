@@ -1,5 +1,4 @@
 -- Two clocks walked side by side: what the one has for each actor of the other, and whether it covers what was met.
--- Assumes nothing.
 use mathlib.Core.Path.{_≡_, refl, sym}
 use mathlib.Core.Bool.{Bool, true, false, not, _&&_, _||_}
 use mathlib.Core.Logic.{_⊎_, inl, inr}

@@ -1,5 +1,4 @@
 -- Clocks within a larger one: how long they are, and that cutting, joining and adding a dot keep them within.
--- Assumes nothing.
 use mathlib.Core.Path.{_≡_, refl, ap, sym, _∙_}
 use mathlib.Core.Bool.{Bool, true, false}
 use mathlib.Core.List.{List, []}

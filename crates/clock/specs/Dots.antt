@@ -1,5 +1,4 @@
 -- Clocks, in the words and order of 01 "Clocks": a clock is a list of dots, of any length; the limit is judged at the end.
--- Assumes nothing.
 use mathlib.Core.Bool.{Bool, true, false, cond}
 use mathlib.Core.List.{List, [], _∷_}
 use Prim.Native.Nat.{ℕ, _-_}

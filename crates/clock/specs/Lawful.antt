@@ -1,5 +1,4 @@
 -- When a list of dots is a clock: actors strictly ascending, counters from 1.
--- Assumes nothing.
 use mathlib.Core.Bool.{Bool}
 use mathlib.Core.List.{List}
 use Prim.Native.Nat.{_<_}

@@ -1,5 +1,4 @@
 -- A clock's image has records of kind 1 alone.
--- Assumes nothing.
 use mathlib.Core.Path.{_≡_}
 use mathlib.Core.List.{List, [], _∷_, _++_}
 use native.Mathlib.Omega.{arith}

@@ -1,5 +1,4 @@
 -- The longest clock, computed: every place in use.
--- Assumes nothing.
 use mathlib.Core.Path.{_≡_, refl}
 use Prim.Native.Nat.{_*_}
 use lib.ListN.{length, replicate}

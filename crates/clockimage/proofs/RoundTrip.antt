@@ -1,5 +1,4 @@
 -- Clocks and their images: what was written reads as it was, what was read writes as it was, and an image is accepted exactly when it is a clock's.
--- Assumes nothing.
 use mathlib.Core.Path.{_≡_, refl, ap, ap₂, sym, _∙_}
 use mathlib.Core.Bool.{true, false, cond}
 use mathlib.Core.List.{List, [], _∷_, map, List·Memᴰ·head, List·Memᴰ·tail, Memᴰ·map, Memᴰ·of-map}

@@ -1,5 +1,4 @@
 -- The image of a clock: a record of kind 1 for each dot.
--- Assumes nothing.
 use mathlib.Core.Path.{_≡_}
 use Prim.Native.Nat.{ℕ, _*_}
 use mathlib.Core.Bool.{cond}

@@ -1,5 +1,4 @@
 -- What every image has: dots in records, and the order in which an image is judged.
--- Assumes nothing.
 use Prim.Native.Nat.{ℕ, _%_, _<_, _^_}
 use mathlib.Core.Bool.{Bool, cond}
 use mathlib.Core.List.{List, map}

@@ -1,5 +1,4 @@
 -- The dots of a run that is cut out of an image.
--- Assumes nothing.
 use mathlib.Core.Path.{_≡_, ap, _∙_}
 use mathlib.Core.List.{List, map}
 use Prim.Native.Nat.{ℕ, _*_, _-_}

@@ -1,5 +1,4 @@
 -- What is counted by: the section of an image's entry dots, and what a removal or a reset leaves of entries.
--- Assumes nothing.
 use mathlib.Core.Path.{_≡_, refl, ap, sym, _∙_}
 use mathlib.Core.Bool.{false}
 use mathlib.Core.List.{List}

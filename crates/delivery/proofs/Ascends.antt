@@ -1,5 +1,4 @@
 -- A loop that tests waiting clocks, each against the one before it, where they stand in a reader's memory.
--- Assumes nothing.
 use mathlib.Core.Path.{_≡_, ap, sym, _∙_}
 use mathlib.Core.Bool.{true, false}
 use mathlib.Core.List.{List, _∷_}

@@ -1,5 +1,4 @@
 -- A loop that counts numbers, each once: the least that is left, again and again.
--- Assumes nothing.
 use mathlib.Core.Path.{_≡_, ap}
 use mathlib.Core.Bool.{true}
 use mathlib.Core.List.{List}

@@ -1,5 +1,4 @@
 -- How each way out of the end answers, and what it leaves of the reader.
--- Assumes nothing.
 use mathlib.Core.Path.{_≡_, refl, sym, _∙_, ap}
 use mathlib.Core.Bool.{cond}
 use mathlib.Core.List.{List, [], _∷_}

@@ -1,5 +1,4 @@
 -- What the end answers of an image that came whole: the number, and the image of the map, of the image read at once.
--- Assumes nothing.
 use mathlib.Core.Path.{_≡_, refl, ap, sym, _∙_}
 use mathlib.Core.Bool.{cond}
 use mathlib.Core.List.{List, [], _∷_}

@@ -1,5 +1,4 @@
 -- Clocks and values of a reader's memory, looked at one after the other.
--- Assumes nothing.
 use mathlib.Core.Path.{_≡_, ap, sym, _∙_}
 use mathlib.Core.Bool.{true, false, not}
 use mathlib.Core.List.{List, [], _∷_}

@@ -1,5 +1,4 @@
 -- Room for one more dot of a clock, and for one more value of a register, that a loop builds in place.
--- Assumes nothing.
 use mathlib.Core.Path.{_≡_, ap, _∙_}
 use mathlib.Core.List.{List}
 use Prim.Native.Nat.{_<_}

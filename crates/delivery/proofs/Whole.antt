@@ -1,5 +1,4 @@
 -- The end answers what the whole image is answered with, read at once; and it leaves nothing open.
--- Assumes nothing.
 use mathlib.Core.Path.{_≡_, _∙_}
 use mathlib.Core.List.{List}
 use Prim.Native.Nat.{ℕ}

@@ -1,5 +1,4 @@
 -- What a reader of pieces answers at the end, from its memory: for every content of it.
--- Assumes nothing.
 use mathlib.Core.Path.{_≡_}
 use mathlib.Core.Bool.{Bool, cond, _&&_, _||_}
 use mathlib.Core.List.{List, [], _∷_}

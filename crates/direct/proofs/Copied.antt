@@ -1,5 +1,4 @@
 -- The image of a key is the records that lie in the whole, one behind the other.
--- Assumes nothing.
 use mathlib.Core.Path.{_≡_, refl, sym, _∙_}
 use mathlib.Core.List.{List, [], _++_, append-nil}
 use Prim.Native.Nat.{ℕ, _+_, _*_, _-_}

@@ -1,5 +1,4 @@
 -- A walk along the entries of an image for a dot that is spent twice.
--- Assumes nothing.
 use mathlib.Core.Path.{_≡_, refl, ap, sym, _∙_}
 use mathlib.Core.Bool.{true, false}
 use mathlib.Core.List.{List}

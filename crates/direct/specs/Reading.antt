@@ -1,5 +1,4 @@
 -- The records of a key's image, where they lie in the whole.
--- Assumes nothing.
 use mathlib.Core.List.{List, _++_}
 use Prim.Native.Nat.{ℕ, _*_, _≤_}
 use lib.ListN.{length}

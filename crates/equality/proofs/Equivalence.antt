@@ -1,5 +1,4 @@
 -- Two registers are equal exactly where one is the other in another order: equality is an equivalence, and counts.
--- Assumes nothing.
 use mathlib.Core.Path.{_≡_, refl, ap, sym, _∙_}
 use mathlib.Core.Bool.{Bool, true, false, not, _&&_}
 use mathlib.Core.Logic.{_⊎_, ⊎-elim}

@@ -1,5 +1,4 @@
 -- 01 "Register", equality, as CR 5 has it: pairs of a value and its clock, counted.
--- Assumes nothing.
 use mathlib.Core.Bool.{Bool, true, false, not, _&&_}
 use mathlib.Core.List.{List}
 use Prim.Native.Nat.{ℕ}

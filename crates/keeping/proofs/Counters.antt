@@ -1,5 +1,4 @@
 -- What a merge keeps, actor by actor; and a clock told by its counters at the actors of another.
--- Assumes nothing.
 use mathlib.Core.Path.{_≡_, refl, ap, ap₂, sym, _∙_}
 use mathlib.Core.Bool.{Bool, true, false, cond}
 use mathlib.Core.List.{List, [], Memᴰ·cast}

@@ -1,5 +1,4 @@
 -- The next actor of two clocks: it comes next of both joined, and its counters are what a seek finds in each.
--- Assumes nothing.
 use mathlib.Core.Path.{_≡_, refl, ap, sym}
 use mathlib.Core.Bool.{Bool, true, false, cond}
 use mathlib.Core.List.{List, [], _∷_, map-id}

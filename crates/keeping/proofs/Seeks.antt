@@ -1,5 +1,4 @@
 -- What a seek for an actor finds in a clock, told where the walk stands; and that it takes a walk beside another clock one dot on.
--- Assumes nothing.
 use mathlib.Core.Path.{_≡_, refl, ap, sym}
 use mathlib.Core.Bool.{Bool, true, false}
 use mathlib.Core.List.{List}

@@ -1,5 +1,4 @@
 -- A loop that walks the clocks of two entries side by side, with both maps' clocks beside them, and packs what is kept and what is deleted.
--- Assumes nothing.
 use mathlib.Core.Path.{_≡_, refl, ap, sym, _∙_}
 use mathlib.Core.List.{List, []}
 use Prim.Native.Nat.{ℕ, _+_, _≤_, _<_}

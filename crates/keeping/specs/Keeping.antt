@@ -1,5 +1,4 @@
 -- What a merge keeps of an actor's counters, and what a walk along clocks finds for an actor.
--- Assumes nothing.
 use mathlib.Core.Bool.{cond}
 use mathlib.Core.List.{List, [], _∷_}
 use Prim.Native.Nat.{ℕ, _+_, max}

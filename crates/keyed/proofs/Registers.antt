@@ -1,5 +1,4 @@
 -- A clock read from where its records lie.
--- Assumes nothing.
 use mathlib.Core.Path.{_≡_, ap, _∙_}
 use mathlib.Core.List.{List, map}
 use Prim.Native.Nat.{ℕ, _*_, _-_, _≤_}

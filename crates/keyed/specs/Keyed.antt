@@ -1,5 +1,4 @@
 -- The records of one entry where they lie, and of entries one after the other.
--- Assumes nothing.
 use mathlib.Core.Path.{_≡_}
 use mathlib.Core.Bool.{false}
 use mathlib.Core.List.{List, _∷_}

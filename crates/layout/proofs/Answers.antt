@@ -1,5 +1,4 @@
 -- What `lay_out` answers: where the sections are recognised, the map that was read; where not, the number that refuses it.
--- Assumes nothing.
 use mathlib.Core.Path.{_≡_, ap, sym, _∙_}
 use mathlib.Core.Bool.{Bool, true, false, cond, _||_}
 use mathlib.Core.List.{List, [], _++_, map}

@@ -1,5 +1,4 @@
 -- The entries of an image: what the walk over kinds 2, 3 and 4 accepts is the records of valid entries, and it accepts those of all valid entries.
--- Assumes nothing.
 use mathlib.Core.Path.{_≡_, refl, ap, sym, _∙_}
 use mathlib.Core.Bool.{Bool, true, false, cond, _&&_}
 use mathlib.Core.Logic.{⊎-elim}

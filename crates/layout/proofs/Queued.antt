@@ -1,5 +1,4 @@
 -- The waiting removals of an image: clocks of kind 5 and keys of kind 6 that the walks accept are the records of valid removals, and those of valid removals are accepted.
--- Assumes nothing.
 use mathlib.Core.Path.{_≡_, refl, ap, ap₂, sym, _∙_}
 use mathlib.Core.Bool.{true, false}
 use mathlib.Core.List.{List, [], _∷_, _++_, map, List·Memᴰ·head, List·Memᴰ·tail, Memᴰ·map, Memᴰ·of-map, Memᴰ·cast}

@@ -1,5 +1,4 @@
 -- A run of dots: what a walk over it takes is the records of a clock, and it takes all records of a clock.
--- Assumes nothing.
 use mathlib.Core.Path.{_≡_, refl, ap₂, _∙_}
 use mathlib.Core.Bool.{Bool, true, false, _&&_}
 use mathlib.Core.Logic.{⊎-elim}

@@ -1,5 +1,4 @@
 -- The values of a key with their dots: what the walk takes is the records of values, and it takes all of a key's values.
--- Assumes nothing.
 use mathlib.Core.Path.{_≡_, refl, ap, ap₂, sym, _∙_}
 use mathlib.Core.Bool.{true, false, cond}
 use mathlib.Core.Logic.{⊎-elim}

@@ -1,5 +1,4 @@
 -- The clocks of waiting removals: what the walk over kind 5 accepts is the records of clocks in order, and it accepts those of all waiting removals.
--- Assumes nothing.
 use mathlib.Core.Path.{_≡_, refl, ap, sym, _∙_}
 use mathlib.Core.Bool.{Bool, true, false, cond}
 use mathlib.Core.Logic.{⊎-elim}

@@ -1,5 +1,4 @@
 -- What a map's image is laid out as: its six sections, and where they stand.
--- Assumes nothing.
 use mathlib.Core.Path.{_≡_}
 use mathlib.Core.Bool.{Bool, _&&_, cond}
 use mathlib.Core.List.{List, [], map}

@@ -1,5 +1,4 @@
 -- A whole that a loop draws bit by bit: what is done of it, and what is to come.
--- Assumes nothing.
 use mathlib.Core.Path.{_≡_, refl, ap, sym, _∙_}
 use mathlib.Core.Bool.{Bool}
 use mathlib.Core.List.{List, [], _∷_, _++_, append-nil, append-assoc}

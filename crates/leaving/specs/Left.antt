@@ -1,5 +1,4 @@
 -- What is left of a value where a merge, an update, a removal or a reset has cut it.
--- Assumes nothing.
 use mathlib.Core.Path.{_≡_}
 use mathlib.Core.Bool.{Bool, false}
 use mathlib.Core.List.{List, []}

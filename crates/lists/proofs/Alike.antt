@@ -1,5 +1,4 @@
 -- A loop that finds out whether the used places of two arrays have the same ascending numbers, and what it found out.
--- Assumes nothing.
 use mathlib.Core.Path.{_≡_, refl, ap₂, sym, _∙_}
 use mathlib.Core.Bool.{Bool, true, false, not, _&&_}
 use mathlib.Core.Logic.{⊎-elim}

@@ -1,5 +1,4 @@
 -- Two lists that ascend by a number, walked side by side: what a look into the one for an element of the other finds, told where the walk stands.
--- Assumes nothing.
 use mathlib.Core.Path.{_≡_, refl, ap, sym, _∙_, subst}
 use mathlib.Core.Logic.{⊎-elim}
 use mathlib.Core.List.{List, _∷_, List·Memᴰ·head, List·Memᴰ·tail, List·Memᴰ·cases-cons}

@@ -1,5 +1,4 @@
 -- A loop that looks at the used places of an array, and keeps a flag for as long as none passes a test.
--- Assumes nothing.
 use mathlib.Core.Path.{_≡_, refl, ap, sym, _∙_}
 use mathlib.Core.Bool.{Bool, true, false, not, _&&_}
 use mathlib.Core.List.{List}

@@ -1,5 +1,4 @@
 -- A loop that hands the used places of an array to a state, one after the other, and keeps the state packed.
--- Assumes nothing.
 use mathlib.Core.Path.{_≡_, refl, ap, sym, _∙_}
 use mathlib.Core.List.{List}
 use Prim.Native.Nat.{ℕ, _+_, _≤_, _<_}

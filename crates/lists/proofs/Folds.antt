@@ -1,5 +1,4 @@
 -- Laws of folding.
--- Assumes nothing.
 use mathlib.Core.Path.{_≡_, refl}
 use mathlib.Core.List.{List, [], _∷_, _++_}
 use Rattle.lists.specs.Fold.{fold}

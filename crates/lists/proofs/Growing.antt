@@ -1,5 +1,4 @@
 -- A loop that builds the pack of a list, an element at a time: whatever list it is, and however it is packed.
--- Assumes nothing.
 use mathlib.Core.Path.{_≡_, refl, ap, sym, _∙_}
 use mathlib.Core.List.{List, [], _∷_, _++_, append-nil}
 use Prim.Native.Nat.{_+_, _<_}

@@ -1,5 +1,4 @@
 -- Orders in which two elements that stand level stand alike to every other.
--- Assumes nothing.
 use mathlib.Core.Path.{_≡_, refl, sym, _∙_}
 use mathlib.Core.Bool.{Bool, true, false}
 use mathlib.Core.Logic.{⊎-elim}

@@ -1,5 +1,4 @@
 -- Laws of a limit, with a flag that tells whether it is broken.
--- Assumes nothing.
 use mathlib.Core.Path.{_≡_, refl, ap, sym, _∙_}
 use mathlib.Core.Bool.{Bool, true, false}
 use mathlib.Core.List.{List}

@@ -1,5 +1,4 @@
 -- A loop that looks at the used places of an array for the first that passes a test, and returns what that gives.
--- Assumes nothing.
 use mathlib.Core.Path.{_≡_, refl, ap, sym, _∙_}
 use mathlib.Core.Bool.{Bool, true, false}
 use mathlib.Core.List.{List}

@@ -1,5 +1,4 @@
 -- Laws of lists in another order: a fold whose steps trade places comes to the same end, and those that pass a test.
--- Assumes nothing.
 use mathlib.Core.Path.{_≡_, refl, ap, ap₂, sym, _∙_}
 use mathlib.Core.Bool.{Bool, true, false, cond}
 use mathlib.Core.Logic.{⊎-elim}

@@ -1,5 +1,4 @@
 -- What a definition makes of the rest of an array, from place i on: the law of a turn, for every loop over the n places in use.
--- Assumes nothing.
 use mathlib.Core.Path.{_≡_, refl}
 use mathlib.Core.Bool.{Bool, true, false}
 use mathlib.Core.List.{List, [], _∷_, map, List·Memᴰ·head, Memᴰ·append-right}

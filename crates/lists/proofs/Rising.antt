@@ -1,5 +1,4 @@
 -- A loop that finds out whether the used places of an array ascend by a number and each passes a test, and what it found out.
--- Assumes nothing.
 use mathlib.Core.Path.{_≡_, refl, ap, sym, _∙_}
 use mathlib.Core.Bool.{Bool, true, false, not, _&&_}
 use mathlib.Core.Logic.{⊎-elim}

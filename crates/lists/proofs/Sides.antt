@@ -1,5 +1,4 @@
 -- Laws of ascending lists that are sifted or stand behind each other, and of what every step of a fold keeps.
--- Assumes nothing.
 use mathlib.Core.Path.{_≡_, refl}
 use mathlib.Core.Bool.{Bool, true, false, cond}
 use mathlib.Core.Logic.{⊎-elim}

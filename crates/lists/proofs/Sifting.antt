@@ -1,5 +1,4 @@
 -- A loop that looks at the used places of an array xs in turn, changes each element, and adds those that pass a test to a pack.
--- Assumes nothing.
 use mathlib.Core.Path.{_≡_, ap}
 use mathlib.Core.Bool.{Bool, true, false}
 use mathlib.Core.List.{List, [], _∷_, _++_}

@@ -1,5 +1,4 @@
 -- A tally: how many elements there are, and whether one of them is bad, with one element more.
--- Assumes nothing.
 use mathlib.Core.Path.{_≡_, refl, sym}
 use mathlib.Core.Bool.{Bool, true, false, not, _&&_, _||_, cond}
 use mathlib.Core.List.{List, [], _∷_, _++_}

@@ -1,5 +1,4 @@
 -- Laws of those elements that pass a test: which they are, their order, and two tests in turn.
--- Assumes nothing.
 use mathlib.Core.Path.{_≡_, refl, ap, sym, _∙_}
 use mathlib.Core.Bool.{Bool, true, false, cond, _&&_}
 use mathlib.Core.Logic.{⊎-elim}

@@ -1,5 +1,4 @@
 -- A loop that adds each of the used places of an array, from place i on, to a pack.
--- Assumes nothing.
 use mathlib.Core.Path.{_≡_, ap}
 use mathlib.Core.List.{List, [], _∷_, _++_, map}
 use Prim.Native.Nat.{ℕ, _+_, _≤_, _<_}

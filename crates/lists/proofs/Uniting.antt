@@ -1,5 +1,4 @@
 -- Weaving two lists whose lone elements are kept as they are: in one go or one element after the other, and those that pass a test.
--- Assumes nothing.
 use mathlib.Core.Path.{_≡_, refl, ap, ap₂, sym, _∙_}
 use mathlib.Core.Bool.{Bool, true, false, cond}
 use mathlib.Core.List.{List, [], _∷_, map, map-id, List·Memᴰ·head, List·Memᴰ·tail, List·Memᴰ·eq-of-singleton}

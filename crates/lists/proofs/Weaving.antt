@@ -1,5 +1,4 @@
 -- A loop that walks the used places of two arrays side by side, and adds to a pack what weaving makes of them.
--- Assumes nothing.
 use mathlib.Core.Path.{_≡_, _∙_}
 use mathlib.Core.Bool.{Bool, true, false}
 use mathlib.Core.List.{List, [], _∷_, _++_, map, append-nil}

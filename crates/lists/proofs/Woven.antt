@@ -1,5 +1,4 @@
 -- Laws of weaving over an order: what stands in a weave, and that it ascends.
--- Assumes nothing.
 use mathlib.Core.Path.{_≡_, refl, ap₂, sym, _∙_}
 use mathlib.Core.Bool.{Bool, true, false, cond}
 use mathlib.Core.Logic.{_⊎_, inl, inr, ⊎-elim}

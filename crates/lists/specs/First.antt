@@ -1,5 +1,4 @@
 -- What the first element that passes a test gives, and z where none passes.
--- Assumes nothing.
 use mathlib.Core.Bool.{Bool, true, false, cond}
 use mathlib.Core.List.{List, [], _∷_}
 

@@ -1,5 +1,4 @@
 -- A state that takes one element after the other.
--- Assumes nothing.
 use mathlib.Core.List.{List, [], _∷_}
 
 unfoldable pub fold {ℓ ℓ′} : {A : Type ℓ} {S : Type ℓ′} → (S → A → S) → S → List A → S

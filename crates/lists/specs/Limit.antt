@@ -1,5 +1,4 @@
 -- A list laid down where it is within a limit, and something else where it is not.
--- Assumes nothing.
 use mathlib.Core.Bool.{cond}
 use mathlib.Core.List.{List}
 use Prim.Native.Nat.{ℕ}

@@ -1,5 +1,4 @@
 -- A list in an array of n places: its elements first, then the filler z.
--- Assumes nothing.
 use mathlib.Core.List.{List, _++_}
 use Prim.Native.Nat.{ℕ, _-_}
 use lib.ListN.{length, replicate}

@@ -1,5 +1,4 @@
 -- Whether elements ascend by a number, as a loop finds it out.
--- Assumes nothing.
 use mathlib.Core.Bool.{Bool, true, false, _&&_}
 use mathlib.Core.List.{List, [], _∷_}
 use Prim.Native.Nat.{ℕ, _+_}

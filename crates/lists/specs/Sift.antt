@@ -1,5 +1,4 @@
 -- Change each element, and keep those that pass a test, in order.
--- Assumes nothing.
 use mathlib.Core.Bool.{Bool, cond}
 use mathlib.Core.List.{List, [], _∷_}
 

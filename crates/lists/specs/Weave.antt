@@ -1,5 +1,4 @@
 -- Two ascending lists walked side by side: what stands in the first alone, in the second alone, and in both.
--- Assumes nothing.
 use mathlib.Core.Bool.{Bool, cond}
 use mathlib.Core.List.{List, [], _∷_, map}
 

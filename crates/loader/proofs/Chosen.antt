@@ -1,5 +1,4 @@
 -- What is reported of a register: one of its values that remain, of which none is smaller; and none exactly where it has no value.
--- Assumes nothing.
 use mathlib.Core.Path.{_≡_, refl, ap, sym, _∙_}
 use mathlib.Core.Bool.{Bool, false, not}
 use mathlib.Core.List.{List, [], _∷_, List·Memᴰ·head, List·Memᴰ·not-nil}

@@ -1,5 +1,4 @@
 -- Any two results that meet the contract of a call are identical.
--- Assumes nothing.
 use mathlib.Core.List.{List}
 use Prim.Native.Nat.{ℕ}
 use Rattle.answers.proofs.Answers.{Same, same-answer}

@@ -1,5 +1,4 @@
 -- A register whose second value overwrites its first, beside a concurrent third: worked out, with its bytes.
--- Assumes nothing.
 use mathlib.Core.Path.{_≡_, refl}
 use mathlib.Core.Bool.{true}
 use mathlib.Core.List.{List, [], _∷_}

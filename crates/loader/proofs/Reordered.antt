@@ -1,5 +1,4 @@
 -- Registers that hold the same value-and-clock pairs in another order give the same report.
--- Assumes nothing.
 use mathlib.Core.Path.{_≡_, refl, ap, sym, _∙_}
 use mathlib.Core.Bool.{Bool, true, false, not, cond}
 use mathlib.Core.Logic.{⊎-elim}

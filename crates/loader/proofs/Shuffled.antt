@@ -1,5 +1,4 @@
 -- Two images whose registers hold the same value-and-clock pairs, in whatever order, are reported alike by both calls, byte for byte.
--- Assumes nothing.
 use mathlib.Core.Path.{_≡_, refl, sym, ap₂, subst}
 use mathlib.Core.List.{List, List·Permᴰ, _++_}
 use Prim.Native.Nat.{ℕ, zero, suc, _+_}

@@ -1,5 +1,4 @@
 -- Strictly below is a strict order on clocks, whatever dots they have: so of some values one at least remains.
--- Assumes nothing.
 use mathlib.Core.Path.{_≡_, refl, sym, _∙_}
 use mathlib.Core.Bool.{Bool, true, false, not}
 use mathlib.Core.Logic.{⊎-elim}

@@ -1,5 +1,4 @@
 -- The loader's choice reads values only: two images that differ in origins alone are reported alike by both calls, byte for byte.
--- Assumes nothing.
 use mathlib.Core.Path.{_≡_, refl, ap, sym, _∙_, subst}
 use mathlib.Core.List.{List, [], _∷_, map, List·Permᴰ, Permᴰ·refl}
 use Prim.Native.Nat.{ℕ}

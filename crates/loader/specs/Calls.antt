@@ -1,5 +1,4 @@
 -- What the two calls of the loader answer, of the bytes and the number that they are given, and their contracts.
--- Assumes nothing.
 use mathlib.Core.Bool.{Bool, cond, _&&_}
 use mathlib.Core.List.{List}
 use Prim.Native.Nat.{ℕ}

@@ -1,5 +1,4 @@
 -- The loader's choice on one register: what it drops, what it takes, and what it reports; on values of any number.
--- Assumes nothing.
 use mathlib.Core.Bool.{Bool, false, not}
 use mathlib.Core.List.{List, [], _∷_, map}
 use Prim.Native.Nat.{ℕ, min}

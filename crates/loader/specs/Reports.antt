@@ -1,5 +1,4 @@
 -- The report of a bay, and the bytes of reports.
--- Assumes nothing.
 use mathlib.Core.Bool.{Bool, false, cond}
 use mathlib.Core.List.{List, [], _++_}
 use Prim.Native.Nat.{ℕ, zero, suc, _+_}

@@ -1,5 +1,4 @@
 -- Maps that differ in origins alone: they are one where every origin is forgotten.
--- Assumes nothing.
 use mathlib.Core.Path.{_≡_}
 use mathlib.Core.List.{map}
 use Rattle.register.specs.declared.Value.{Value}

@@ -1,5 +1,4 @@
 -- What came to a reader, with a record, a byte, a piece more.
--- Assumes nothing.
 use mathlib.Core.Path.{_≡_, refl, ap, ap₂, sym, _∙_, subst}
 use mathlib.Core.Bool.{true, false, not}
 use mathlib.Core.Logic.{inl, inr}

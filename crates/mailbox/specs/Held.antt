@@ -1,5 +1,4 @@
 -- What a memory holds after the pieces of a map's image that came so far: as much as a reader by value does.
--- Assumes nothing.
 use mathlib.Core.Path.{_≡_}
 use mathlib.Core.Bool.{cond}
 use mathlib.Core.List.{List, [], _∷_, _++_}

@@ -1,5 +1,4 @@
 -- A run of the calls of a reader, by their own contracts: a begin, a list of pieces, an end.
--- Assumes nothing.
 use mathlib.Core.Path.{_≡_}
 use mathlib.Core.List.{List, [], _∷_}
 use Prim.Native.Nat.{ℕ}

@@ -1,5 +1,4 @@
 -- An operation made under a clock is the one that the map's definition names.
--- Assumes nothing.
 use mathlib.Core.Path.{_≡_, ap, _∙_}
 use mathlib.Core.Bool.{false}
 use mathlib.Core.List.{List, [], _∷_}

@@ -1,5 +1,4 @@
 -- A list of removals is within the limits at every stage exactly where its end map is, so in every order or in none.
--- Assumes nothing.
 use mathlib.Core.Path.{_≡_, refl, ap, sym, _∙_}
 use mathlib.Core.Bool.{Bool, true, false, _||_, cond}
 use mathlib.Core.List.{List, [], _++_, append-nil, List·Permᴰ, Memᴰ·append-left, Memᴰ·append-right}

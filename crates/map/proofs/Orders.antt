@@ -1,5 +1,4 @@
 -- A list of removals comes to the same map in any order.
--- Assumes nothing.
 use mathlib.Core.Path.{_≡_, refl, ap, ap₂, sym, _∙_}
 use mathlib.Core.List.{List, _∷_, List·Permᴰ, List·Permᴰ·swap}
 use Rattle.lists.specs.Fold.{fold}

@@ -1,5 +1,4 @@
 -- How the result of each operation on maps within the limits is judged.
--- Assumes nothing.
 use mathlib.Core.Path.{_≡_, ap, _∙_}
 use mathlib.Core.Bool.{Bool, false}
 use mathlib.Core.List.{List, [], _∷_}

@@ -1,5 +1,4 @@
 -- What holds of a map's clock, of each entry and of each waiting removal holds after every call: the one law of preservation.
--- Assumes nothing.
 use mathlib.Core.Path.{_≡_, refl}
 use mathlib.Core.Bool.{Bool, true, false, cond}
 use mathlib.Core.List.{List, [], List·Memᴰ·not-nil}

@@ -1,5 +1,4 @@
 -- Runs of removals on a map, and the closed forms of applying the waiting ones afresh, of an update and of a merge.
--- Assumes nothing.
 use mathlib.Core.Path.{_≡_, refl, ap, ap₂, sym, _∙_}
 use mathlib.Core.Bool.{Bool, true, false, not, _&&_, cond}
 use mathlib.Core.List.{List, [], _∷_}

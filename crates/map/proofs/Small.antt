@@ -1,5 +1,4 @@
 -- The limit on dots: where every value's clock and every waiting clock is within it, the map's clock alone decides; and every operation keeps them within it.
--- Assumes nothing.
 use mathlib.Core.Path.{_≡_, refl}
 use mathlib.Core.Bool.{Bool, true, false, _||_}
 use Prim.Native.Nat.{_≤_}

@@ -1,5 +1,4 @@
 -- After a merge, or an update that was not yet seen, no waiting removal is covered by the map clock; a reset can leave one that is.
--- Assumes nothing.
 use mathlib.Core.Path.{_≡_, refl, ap, _∙_}
 use mathlib.Core.Bool.{Bool, true, false, not, cond}
 use mathlib.Core.Logic.{⊎-elim}

@@ -1,5 +1,4 @@
 -- How a finished map is judged, by its three lists.
--- Assumes nothing.
 use mathlib.Core.Path.{_≡_}
 use mathlib.Core.Bool.{Bool, false, cond}
 use mathlib.Core.List.{List}

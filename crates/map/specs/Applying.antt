@@ -1,5 +1,4 @@
 -- 01 "Map": applying an operation.
--- Assumes nothing.
 use mathlib.Core.Bool.{cond}
 use Rattle.map.specs.declared.Map.{Map}
 use Rattle.map.specs.declared.Op.{Op}

@@ -1,5 +1,4 @@
 -- 01 "Numbers returned", 4 to 8: the limits, judged on the finished result.
--- Assumes nothing.
 use mathlib.Core.Bool.{Bool, _||_, cond}
 use mathlib.Core.List.{List}
 use Prim.Native.Nat.{ℕ}

@@ -1,5 +1,4 @@
 -- 01 "Map": merging two maps.
--- Assumes nothing.
 use Rattle.lists.specs.Fold.{fold}
 use Rattle.clock.specs.Dots.{clockOf, joinDots}
 use Rattle.parts.specs.Model.{entriesAs}

@@ -1,5 +1,4 @@
 -- A map as lists: its clock's dots, its entries by key, its waiting removals by clock.
--- Assumes nothing.
 use mathlib.Core.List.{List, []}
 use Rattle.clock.specs.declared.Dot.{Dot}
 use Rattle.clock.specs.Dots.{dotsOf, clockOf}

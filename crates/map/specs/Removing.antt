@@ -1,5 +1,4 @@
 -- 01 "Map": the removal of keys under a clock, and applying every waiting removal afresh.
--- Assumes nothing.
 use mathlib.Core.Bool.{cond}
 use mathlib.Core.List.{[]}
 use Rattle.lists.specs.Fold.{fold}

@@ -1,5 +1,4 @@
 -- 01 "Map": `reset_remove`.
--- Assumes nothing.
 use mathlib.Core.List.{List}
 use Rattle.lists.specs.Sift.{sift}
 use Rattle.clock.specs.declared.Dot.{Dot}

@@ -1,5 +1,4 @@
 -- 01 "Map": an update.
--- Assumes nothing.
 use mathlib.Core.Bool.{cond}
 use lib.Dec.{leb}
 use Rattle.clock.specs.Dots.{clockOf, counterIn, addDot}

@@ -1,5 +1,4 @@
 -- When a map, and an operation on it, is valid.
--- Assumes nothing.
 use mathlib.Core.Path.{_≡_}
 use mathlib.Core.Bool.{true}
 use Prim.Native.Nat.{_≤_, _<_}

@@ -1,5 +1,4 @@
 -- What is left of a flattened list, from place i on: the law of a turn, for every loop over the n places in use.
--- Assumes nothing.
 use mathlib.Core.Path.{_≡_, refl, ap, sym, _∙_}
 use mathlib.Core.Bool.{Bool, true, _&&_, and-assoc}
 use lib.Dec.{ltb}

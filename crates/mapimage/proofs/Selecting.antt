@@ -1,5 +1,4 @@
 -- A loop that writes waiting keys in order: the least that is left, again and again.
--- Assumes nothing.
 use mathlib.Core.Path.{_≡_, refl, ap}
 use mathlib.Core.Bool.{true}
 use mathlib.Core.List.{List, [], _∷_, _++_, map}

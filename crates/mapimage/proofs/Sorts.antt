@@ -1,5 +1,4 @@
 -- Numbers in order, and the least from a bound on: taking the least again and again goes through them in order.
--- Assumes nothing.
 use mathlib.Core.Path.{_≡_, refl, ap, sym, _∙_}
 use mathlib.Core.Bool.{true, false, _&&_}
 use mathlib.Core.Logic.{_⊎_, inl, inr, ⊎-elim}

@@ -1,5 +1,4 @@
 -- Numbers put in order, each once; and the least of some numbers from a bound on.
--- Assumes nothing.
 use Prim.Native.Nat.{ℕ}
 use mathlib.Core.Bool.{cond, _&&_}
 use mathlib.Core.List.{List, [], _∷_}

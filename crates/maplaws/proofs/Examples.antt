@@ -1,5 +1,4 @@
 -- 01's examples W4, W7 and W10 as widely as they hold: every key and put, every register both ways round, and the whole of `validate_op`.
--- Assumes nothing.
 use mathlib.Core.Path.{_≡_, refl}
 use mathlib.Core.Bool.{true}
 use mathlib.Core.List.{List, [], _∷_, flatten}

@@ -1,5 +1,4 @@
 -- Where the later one's keys replace the earlier one's, a key is lost: on W8's removals the tie-break does not hold.
--- Assumes nothing.
 use mathlib.Core.Path.{_≡_, refl}
 use mathlib.Core.List.{List, [], _∷_, List·Memᴰ·head, List·Memᴰ·eq-of-singleton}
 use Prim.Native.Nat.{ℕ}

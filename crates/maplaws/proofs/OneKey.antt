@@ -1,5 +1,4 @@
 -- After a removal, a key's entry depends only on that key's old entry, the clock, and whether it was listed.
--- Assumes nothing.
 use mathlib.Core.Path.{_≡_, refl, ap, sym, _∙_}
 use mathlib.Core.Bool.{Bool, true, false, cond}
 use mathlib.Core.List.{List, [], _∷_}

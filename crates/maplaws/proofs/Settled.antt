@@ -1,5 +1,4 @@
 -- The twelve settled examples of 01, as a single table under a single theorem.
--- Assumes nothing.
 use mathlib.Core.Path.{_≡_, refl}
 use mathlib.Core.List.{List, [], _∷_, _++_, flatten}
 use Prim.Native.Nat.{ℕ, zero, suc, _+_, _-_, _^_}

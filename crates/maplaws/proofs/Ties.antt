@@ -1,5 +1,4 @@
 -- After a reset a key is listed under a waiting clock exactly when one of the removals whose cut clock is that one listed it.
--- Assumes nothing.
 use mathlib.Core.Path.{_≡_, ap, sym, _∙_}
 use mathlib.Core.Bool.{true, false, not}
 use mathlib.Core.Logic.{inr, ⊎-elim}

@@ -1,5 +1,4 @@
 -- Removals united one after the other into those that wait: what is so of one of them is so of one that went in, and the other way round.
--- Assumes nothing.
 use mathlib.Core.Path.{_≡_, refl, sym, _∙_}
 use mathlib.Core.Bool.{Bool}
 use mathlib.Core.Logic.{_⊎_, inl, inr, ⊎-elim}

@@ -1,5 +1,4 @@
 -- What is said of one of several removals, and that two such sayings come to the same.
--- Assumes nothing.
 use mathlib.Core.Path.{_≡_}
 use mathlib.Core.List.{List}
 use Prim.Native.Nat.{ℕ}

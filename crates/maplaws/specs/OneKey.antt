@@ -1,5 +1,4 @@
 -- 01: "After a removal, a key's entry depends only on that key's old entry, the clock, and whether it was listed."
--- Assumes nothing.
 use mathlib.Core.Path.{_≡_}
 use mathlib.Core.List.{List}
 use Prim.Native.Nat.{ℕ}

@@ -1,5 +1,4 @@
 -- The tie-break of a reset: what becomes of waiting removals whose clocks are cut to the same clock.
--- Assumes nothing.
 use mathlib.Core.Path.{_≡_}
 use mathlib.Core.Bool.{false}
 use mathlib.Core.List.{List, [], _∷_}

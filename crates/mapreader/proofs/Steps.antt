@@ -1,5 +1,4 @@
 -- The entry in hand, brought and changed: what each way to add a record to the entries needs, and gives.
--- Assumes nothing.
 use mathlib.Core.Path.{_≡_, ap, ap₂, sym, _∙_}
 use mathlib.Core.Bool.{true, false}
 use mathlib.Core.List.{List, [], _∷_, _++_, map}

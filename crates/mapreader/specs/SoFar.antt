@@ -1,5 +1,4 @@
 -- What a reader of a map's image holds after some records.
--- Assumes nothing.
 use mathlib.Core.Path.{_≡_}
 use mathlib.Core.Bool.{Bool, true, not, _&&_}
 use mathlib.Core.List.{List}

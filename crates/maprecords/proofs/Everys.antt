@@ -1,5 +1,4 @@
 -- Loops that test every element, or every pair of neighbours, in what is left of an array.
--- Assumes nothing.
 use mathlib.Core.Path.{_≡_, refl, ap, sym, _∙_}
 use mathlib.Core.Bool.{Bool, true, false}
 use mathlib.Core.List.{List, [], _∷_}

@@ -1,5 +1,4 @@
 -- Worked examples, computed: M of document 01 and its image, the empty map, and a map of the longest image.
--- Assumes nothing.
 use mathlib.Core.Path.{_≡_, refl}
 use mathlib.Core.List.{List, [], _∷_, map}
 use Prim.Native.Nat.{ℕ, _+_, _*_}

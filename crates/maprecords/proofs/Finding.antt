@@ -1,5 +1,4 @@
 -- The entry of a record's key among the entries that the records before it stand for.
--- Assumes nothing.
 use mathlib.Core.Path.{_≡_, refl, ap, sym, _∙_}
 use mathlib.Core.Bool.{Bool, true, false, _&&_}
 use mathlib.Core.List.{List, [], _∷_, _++_, map, Memᴰ·of-map}

@@ -1,5 +1,4 @@
 -- Keys that stand once each, and what is made of each: one of them changed, or one more.
--- Assumes nothing.
 use mathlib.Core.Path.{_≡_, refl, ap, sym, _∙_}
 use mathlib.Core.Bool.{Bool, true, false, cond}
 use mathlib.Core.Logic.{_⊎_, ⊎-elim}

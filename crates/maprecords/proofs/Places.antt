@@ -1,5 +1,4 @@
 -- A loop that looks for an element that passes, in what is left of an array.
--- Assumes nothing.
 use mathlib.Core.Path.{_≡_, ap, _∙_}
 use mathlib.Core.Bool.{Bool, false}
 use mathlib.Core.List.{List}

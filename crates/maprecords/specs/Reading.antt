@@ -1,5 +1,4 @@
 -- The map that the records of an image stand for.
--- Assumes nothing.
 use Prim.Native.Nat.{ℕ, zero, suc, _+_, max}
 use mathlib.Core.Bool.{Bool, cond, _&&_}
 use mathlib.Core.List.{List, [], _∷_, _++_, map}

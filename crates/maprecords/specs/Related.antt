@@ -1,5 +1,4 @@
 -- When the records of a map's image are related, and what an image is as a map.
--- Assumes nothing.
 use Prim.Native.Nat.{ℕ}
 use mathlib.Core.Bool.{Bool, true, not, cond, _&&_}
 use mathlib.Core.List.{List, [], _∷_}

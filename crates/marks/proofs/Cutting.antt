@@ -1,5 +1,4 @@
 -- A loop that walks a clock beside a run of dots, and clears the marks of those dots that the clock has seen.
--- Assumes nothing.
 use mathlib.Core.Path.{_≡_, refl}
 use mathlib.Core.Bool.{Bool, true, false}
 use mathlib.Core.List.{List}

@@ -1,5 +1,4 @@
 -- A loop that clears, place by place, the marks of those elements that fail a test.
--- Assumes nothing.
 use mathlib.Core.Path.{_≡_, refl, ap, sym, _∙_}
 use mathlib.Core.Bool.{Bool, true, false, _&&_}
 use mathlib.Core.List.{List}

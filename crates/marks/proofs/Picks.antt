@@ -1,5 +1,4 @@
 -- Laws of the elements whose marks are set: which they are, their order, their number, and a test of them told mark by mark.
--- Assumes nothing.
 use mathlib.Core.Path.{_≡_, refl, ap, sym, _∙_}
 use mathlib.Core.Bool.{Bool, true, false, cond, _&&_}
 use mathlib.Core.Logic.{⊎-elim}

@@ -1,5 +1,4 @@
 -- The memory of a reader of pieces: where its numbers stand, and the clock, the entries and the waiting removals that it holds.
--- Assumes nothing.
 use mathlib.Core.List.{List, map}
 use Prim.Native.Nat.{ℕ, _+_, _*_, min}
 use lib.Dec.{eqb}

@@ -1,5 +1,4 @@
 -- A memory as a reader by value.
--- Assumes nothing.
 use mathlib.Core.Bool.{not}
 use mathlib.Core.List.{List, map}
 use Prim.Native.Nat.{ℕ, _+_}

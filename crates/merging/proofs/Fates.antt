@@ -1,5 +1,4 @@
 -- What the waiting removals leave of a merged entry: its clock and each value cut by those that list its key.
--- Assumes nothing.
 use mathlib.Core.Path.{_≡_, refl, ap, sym, _∙_}
 use mathlib.Core.Bool.{Bool, true, false, not, cond}
 use mathlib.Core.List.{List, [], _∷_}

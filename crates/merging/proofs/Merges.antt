@@ -1,5 +1,4 @@
 -- A merge drawn key by key: what is drawn, and what is left of both maps' entries.
--- Assumes nothing.
 use mathlib.Core.Path.{_≡_, refl, ap, ap₂, sym, subst, _∙_}
 use mathlib.Core.Bool.{true, false, not}
 use mathlib.Core.List.{List, [], _∷_, _++_, map}

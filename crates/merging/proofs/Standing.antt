@@ -1,5 +1,4 @@
 -- The values of both sides that stand, where they lie and what is left of them.
--- Assumes nothing.
 use mathlib.Core.Path.{_≡_, ap, sym, _∙_}
 use mathlib.Core.Bool.{Bool}
 use mathlib.Core.List.{List, _++_}

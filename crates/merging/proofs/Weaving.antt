@@ -1,5 +1,4 @@
 -- The entries of two maps woven: what the first of them is, where one side has it alone and where both have it.
--- Assumes nothing.
 use mathlib.Core.Path.{_≡_, refl, ap, sym, _∙_}
 use mathlib.Core.List.{List, [], _∷_, map, append-nil, List·Memᴰ·head}
 use Prim.Native.Nat.{_<_}

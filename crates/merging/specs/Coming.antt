@@ -1,5 +1,4 @@
 -- The next key of a merge: what two images have of it where they lie, and what the merge keeps of its clocks.
--- Assumes nothing.
 use mathlib.Core.Path.{_≡_}
 use mathlib.Core.List.{List, _∷_}
 use Prim.Native.Nat.{ℕ, _+_, _≤_, _<_}

@@ -1,5 +1,4 @@
 -- The image of a map within the limits reads as the map.
--- Assumes nothing.
 use mathlib.Core.Path.{_≡_}
 use Rattle.map.specs.declared.Map.{Map}
 use Rattle.map.specs.Valid.{Within}

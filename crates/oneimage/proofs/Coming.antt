@@ -1,5 +1,4 @@
 -- Every record of a part of a map that was read stands in the image that it was read from.
--- Assumes nothing.
 use mathlib.Core.Path.{_≡_, ap, sym, _∙_}
 use mathlib.Core.Bool.{Bool, true}
 use mathlib.Core.List.{List, Memᴰ·cast, Memᴰ·of-map}

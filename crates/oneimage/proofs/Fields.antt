@@ -1,5 +1,4 @@
 -- What is read from bytes has numbers that fit their fields.
--- Assumes nothing.
 use mathlib.Core.Path.{_≡_, refl}
 use mathlib.Core.Bool.{Bool, true, false, cond}
 use mathlib.Core.Logic.{⊎-elim}

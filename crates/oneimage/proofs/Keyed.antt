@@ -1,5 +1,4 @@
 -- What is counted of records: the keys of entries ascend and are those of entry dots, and the waiting removals are one more than the highest index.
--- Assumes nothing.
 use mathlib.Core.Path.{_≡_, refl, ap, sym, _∙_}
 use mathlib.Core.Bool.{true, false, cond}
 use mathlib.Core.Logic.{⊎-elim}

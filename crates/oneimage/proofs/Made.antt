@@ -1,5 +1,4 @@
 -- What stands at each place of a list that is made of another, element by element.
--- Assumes nothing.
 use mathlib.Core.Path.{_≡_, ap, ap₂, sym, _∙_}
 use mathlib.Core.List.{List, map}
 use Prim.Native.Nat.{ℕ, _+_, _<_}

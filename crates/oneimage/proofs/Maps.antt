@@ -1,5 +1,4 @@
 -- A map has one image.
--- Assumes nothing.
 use mathlib.Core.Path.{ap}
 use Rattle.mapimage.specs.MapImage.{mapImage}
 use Rattle.maprecords.specs.Related.{readMap}

@@ -1,5 +1,4 @@
 -- Lists of parts that fit their fields make an entry, and a map, that fits them.
--- Assumes nothing.
 use mathlib.Core.List.{List}
 use Prim.Native.Nat.{ℕ, _<_, _^_}
 use Rattle.lists.specs.Order.{_∈_}

@@ -1,5 +1,4 @@
 -- What one image to a thing gives: accepted exactly when it is the image of a good thing, and no two good things share one.
--- Assumes nothing.
 use mathlib.Core.Path.{_≡_, ap, sym, _∙_}
 use mathlib.Core.List.{List}
 use Prim.Native.Nat.{ℕ}

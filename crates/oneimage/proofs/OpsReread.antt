@@ -1,5 +1,4 @@
 -- What was written as an operation reads as it was.
--- Assumes nothing.
 use mathlib.Core.Path.{_≡_, refl, ap, ap₂, sym, _∙_}
 use mathlib.Core.Bool.{true, false, cond}
 use mathlib.Core.Logic.{_⊎_, ⊎-elim}

@@ -1,5 +1,4 @@
 -- Lists by place: what is made of each element and its place, and of each place.
--- Assumes nothing.
 use mathlib.Core.Path.{_≡_, refl, ap, ap₂, sym, _∙_}
 use mathlib.Core.Bool.{Bool, true}
 use mathlib.Core.Logic.{⊎-elim}

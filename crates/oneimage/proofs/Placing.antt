@@ -1,5 +1,4 @@
 -- What each record of an image needs stands in the image: its entry, its value, its waiting clock; and values are numbered from 0.
--- Assumes nothing.
 use mathlib.Core.Path.{_≡_, refl, ap, ap₂, sym, _∙_}
 use mathlib.Core.Bool.{Bool, true, cond, _&&_}
 use mathlib.Core.Logic.{⊎-elim}

@@ -1,5 +1,4 @@
 -- A good record of a map's image is the one that is written again of what it holds.
--- Assumes nothing.
 use mathlib.Core.Path.{_≡_, refl, ap, sym, _∙_}
 use mathlib.Core.Bool.{true}
 use Prim.Native.Nat.{ℕ, _<_}

@@ -1,5 +1,4 @@
 -- The records of a map's image stand for the map.
--- Assumes nothing.
 use mathlib.Core.Path.{_≡_, refl, ap, ap₂, sym, _∙_}
 use mathlib.Core.Bool.{false}
 use mathlib.Core.List.{List, [], _∷_, map, List·Memᴰ·head, Memᴰ·cast, Memᴰ·map, Memᴰ·of-map}

@@ -1,5 +1,4 @@
 -- An accepted image is written back as it was, record for record and byte for byte.
--- Assumes nothing.
 use mathlib.Core.Path.{_≡_, refl, ap, sym, _∙_}
 use mathlib.Core.Bool.{true}
 use mathlib.Core.List.{List}

@@ -1,5 +1,4 @@
 -- The image of a map within the limits is not longer than the longest.
--- Assumes nothing.
 use mathlib.Core.List.{List, [], _∷_, List·Memᴰ·head, List·Memᴰ·tail}
 use mathlib.Core.Path.{refl}
 use Prim.Native.Nat.{ℕ, _*_, _≤_}

@@ -1,5 +1,4 @@
 -- Every record of an accepted map's image is that of a part of the map that was read.
--- Assumes nothing.
 use mathlib.Core.Path.{_≡_, refl, sym}
 use mathlib.Core.Bool.{Bool, true}
 use mathlib.Core.List.{List, Memᴰ·map}

@@ -1,5 +1,4 @@
 -- Which records stand in a map's image: exactly those of its parts, each part at its place.
--- Assumes nothing.
 use mathlib.Core.Path.{_≡_, refl, ap, sym, _∙_}
 use mathlib.Core.Bool.{cond}
 use mathlib.Core.Logic.{⊎-elim}

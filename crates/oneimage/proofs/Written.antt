@@ -1,5 +1,4 @@
 -- The records of a map's image read back as they were written; what is left for the map to read back is a matter of records.
--- Assumes nothing.
 use mathlib.Core.Path.{_≡_, refl, ap, _∙_}
 use mathlib.Core.Bool.{true}
 use mathlib.Core.List.{map}

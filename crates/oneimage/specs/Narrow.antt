@@ -1,5 +1,4 @@
 -- Maps and operations whose numbers fit their fields in a record.
--- Assumes nothing.
 use mathlib.Core.List.{List}
 use Prim.Native.Nat.{ℕ, _<_, _^_}
 use Rattle.lists.specs.Order.{_∈_}

@@ -1,5 +1,4 @@
 -- "Every map has one image": what is promised of maps, of operations and of clocks, said once.
--- Assumes nothing.
 use mathlib.Core.Path.{_≡_}
 use mathlib.Core.Bool.{cond}
 use mathlib.Core.List.{List}

@@ -1,5 +1,4 @@
 -- The longest operation, computed: a removal with every place in use.
--- Assumes nothing.
 use mathlib.Core.Path.{_≡_, refl}
 use Prim.Native.Nat.{_*_}
 use lib.ListN.{length, replicate}

@@ -1,5 +1,4 @@
 -- Counts of none, one or many.
--- Assumes nothing.
 use mathlib.Core.Path.{_≡_, refl, sym, _∙_}
 use mathlib.Core.Bool.{_||_}
 use mathlib.Core.List.{List, []}

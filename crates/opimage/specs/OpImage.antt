@@ -1,5 +1,4 @@
 -- The image of an operation: a removal's head, clock and keys, or an update's head, put value and put clock.
--- Assumes nothing.
 use mathlib.Core.Path.{_≡_}
 use Prim.Native.Nat.{ℕ, _+_, _*_, _<_, min}
 use mathlib.Core.Bool.{Bool, cond, _&&_, _||_}

@@ -1,5 +1,4 @@
 -- Demand 3 of castribba_apply, from an accepted image and in the middle of any accepted run; and a removal that comes again.
--- Assumes nothing.
 use mathlib.Core.Path.{_≡_}
 use mathlib.Core.Bool.{false}
 use mathlib.Core.Logic.{⊎-elim}

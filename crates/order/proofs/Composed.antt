@@ -1,5 +1,4 @@
 -- Runs behind each other are one run, so that what holds of a run holds in the middle of a longer one, whatever operations stand around it.
--- Assumes nothing.
 use mathlib.Core.Path.{_≡_, refl, ap, sym, _∙_}
 use mathlib.Core.List.{List, [], _∷_, _++_, List·Memᴰ·head, List·Memᴰ·tail}
 use Prim.Native.Nat.{ℕ}

@@ -1,6 +1,5 @@
 -- 01 "Errors that look right": an update that crosses a removal of its own key leaves two values one way and one the other, on a valid map
 -- where neither order refuses.
--- Assumes nothing.
 use mathlib.Core.Path.{_≡_, refl, ap, sym, _∙_}
 use mathlib.Core.Bool.{true}
 use mathlib.Core.List.{List, [], _∷_, List·Memᴰ·eq-of-singleton}

@@ -1,5 +1,4 @@
 -- A run of removals deletes the same total in any order; and 01's examples: W2 counts 1, W6 waits only, W3 is an update.
--- Assumes nothing.
 use mathlib.Core.Path.{_≡_, refl, ap, _∙_}
 use mathlib.Core.Bool.{true, false}
 use mathlib.Core.List.{List, [], _∷_, List·Memᴰ·head, List·Memᴰ·tail}

@@ -1,5 +1,4 @@
 -- A map's own image, merged into it, comes back byte for byte.
--- Assumes nothing.
 use mathlib.Core.Path.{_≡_, _∙_}
 use mathlib.Core.List.{List}
 use Prim.Native.Nat.{ℕ}

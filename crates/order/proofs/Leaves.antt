@@ -1,6 +1,5 @@
 -- What a call leaves where it answers 0: its image in front, the length as the word, later bytes unchanged; and that one accepted call of
 -- castribba_apply is what a run asks for.
--- Assumes nothing.
 use mathlib.Core.Path.{_≡_, refl, ap, ap₂, _∙_}
 use mathlib.Core.List.{List, [], _++_}
 use Prim.Native.Nat.{ℕ, _+_, _*_, _^_, _≤_, _<_}

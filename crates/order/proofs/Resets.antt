@@ -1,5 +1,4 @@
 -- The tie-break over castribba_reset_remove: of the map that it is given and the one that it leaves.
--- Assumes nothing.
 use mathlib.Core.Path.{_≡_, ap, sym, _∙_}
 use mathlib.Core.List.{List}
 use Prim.Native.Nat.{ℕ, _^_, _<_}

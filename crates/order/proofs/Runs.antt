@@ -1,5 +1,4 @@
 -- A run of removals, on maps: accepted in every order or in none, one end map, and what that map is.
--- Assumes nothing.
 use mathlib.Core.Path.{_≡_, ap, sym, _∙_}
 use mathlib.Core.Bool.{true, false, not}
 use mathlib.Core.Logic.{_⊎_, inl, inr, ⊎-elim}

@@ -1,5 +1,4 @@
 -- One end map only: what EndMap says of a map is true of no other, and two lists with the same removals end in the same map.
--- Assumes nothing.
 use mathlib.Core.Path.{_≡_, refl, ap, ap₂, sym, _∙_}
 use mathlib.Core.Logic.{inl, inr, ⊎-elim}
 use mathlib.Core.List.{List, Memᴰ·cast}

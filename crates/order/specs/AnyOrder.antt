@@ -1,5 +1,4 @@
 -- Demand 3, field by field in its own words, of runs of castribba_apply; EndMap has the words on the map that they end in.
--- Assumes nothing.
 use mathlib.Core.Path.{_≡_}
 use mathlib.Core.Bool.{false}
 use mathlib.Core.List.{List, map, List·Permᴰ}

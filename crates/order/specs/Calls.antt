@@ -1,5 +1,4 @@
 -- A run of castribba_apply: each call's output is the next one's map, and every output has the longest size at least.
--- Assumes nothing.
 use mathlib.Core.Path.{_≡_}
 use mathlib.Core.Bool.{true, false}
 use mathlib.Core.List.{List, [], _∷_}

@@ -1,5 +1,4 @@
 -- What a run of removals deletes: the counts of castribba_apply_deleted beside the run's calls, in any order.
--- Assumes nothing.
 use mathlib.Core.Path.{_≡_}
 use mathlib.Core.List.{List, [], _∷_, List·Permᴰ}
 use Prim.Native.Nat.{ℕ, _+_, _≤_}

@@ -1,5 +1,4 @@
 -- What a run of removals makes of a map, key by key.
--- Assumes nothing.
 use mathlib.Core.Path.{_≡_}
 use mathlib.Core.Bool.{Bool, true, false}
 use mathlib.Core.Logic.{_⊎_}

@@ -1,5 +1,4 @@
 -- An image of before there were origins, and one that has them, before a reader of then and a reader of now.
--- Assumes nothing.
 use mathlib.Core.Path.{_≡_, refl, ap, sym, _∙_}
 use mathlib.Core.Bool.{Bool, true, false, cond}
 use mathlib.Core.List.{List, Memᴰ·of-map}

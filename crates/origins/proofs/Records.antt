@@ -1,5 +1,4 @@
 -- A record by itself and in its order, as it was judged before and as it is: the same, where a value's field is zero.
--- Assumes nothing.
 use mathlib.Core.Path.{_≡_, refl, ap, sym, _∙_, fun-ext}
 use mathlib.Core.Bool.{Bool, true, false, _&&_, _||_}
 use mathlib.Core.List.{List}

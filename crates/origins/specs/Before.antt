@@ -1,5 +1,4 @@
 -- What a reader made of an image before values had origins: the table of kinds and the order of 01 as they stood then, by the field of the actor itself.
--- Assumes nothing.
 use Prim.Native.Nat.{ℕ}
 use mathlib.Core.Bool.{Bool, cond, _&&_, _||_}
 use mathlib.Core.List.{List, [], _∷_, _++_}

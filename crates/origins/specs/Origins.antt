@@ -1,5 +1,4 @@
 -- What holds between a reader of before there were origins and this one: the sentences of change request 9.
--- Assumes nothing.
 use mathlib.Core.Path.{_≡_}
 use mathlib.Core.List.{List}
 use Prim.Native.Nat.{ℕ}

@@ -1,5 +1,4 @@
 -- Removals keep entries within the limits; uniting shortens no waiting removal.
--- Assumes nothing.
 use mathlib.Core.Path.{refl, ap}
 use mathlib.Core.Logic.{⊎-elim}
 use mathlib.Core.List.{List, [], _∷_, List·Memᴰ·head, List·Memᴰ·tail}

@@ -1,5 +1,4 @@
 -- The order of clocks, dot by dot, is an order on all lists of dots; the order of removals is that of their clocks.
--- Assumes nothing.
 use mathlib.Core.Path.{_≡_, refl, ap₂, sym, _∙_}
 use mathlib.Core.Bool.{Bool, true, false}
 use mathlib.Core.Logic.{_⊎_, inl, inr}

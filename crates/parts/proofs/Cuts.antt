@@ -1,5 +1,4 @@
 -- Cutting an entry twice, again, and by nothing; a cut leaves it laid down and keeps its key.
--- Assumes nothing.
 use mathlib.Core.Path.{_≡_, refl, ap, ap₂, sym, _∙_}
 use mathlib.Core.Bool.{true, false}
 use mathlib.Core.List.{List, []}

@@ -1,5 +1,4 @@
 -- Laws of finished entries: one more, within the limits and over them; a loop that finishes a list.
--- Assumes nothing.
 use mathlib.Core.Path.{_≡_, refl, ap, sym, _∙_}
 use mathlib.Core.Bool.{true, false, _||_}
 use mathlib.Core.List.{List, [], _∷_, _++_, append-nil}

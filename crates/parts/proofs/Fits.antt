@@ -1,5 +1,4 @@
 -- What a merge or an update of an entry lays down is a clock that the map's new clock covers, so within the limit on dots where that one is.
--- Assumes nothing.
 use mathlib.Core.Path.{_≡_}
 use mathlib.Core.Bool.{true}
 use mathlib.Core.List.{List}

@@ -1,5 +1,4 @@
 -- What goes in a merge: an entry on one side only goes exactly when the cut would empty its clock, so that nothing else need be asked.
--- Assumes nothing.
 use mathlib.Core.Path.{_≡_, refl, ap, sym, _∙_}
 use mathlib.Core.Bool.{Bool, true, false, not, cond}
 use mathlib.Core.List.{List, [], _∷_, flatten}

@@ -1,5 +1,4 @@
 -- Removals that wait stay valid: united, and after a reset; and what uniting keeps holds of them.
--- Assumes nothing.
 use mathlib.Core.Path.{_≡_, sym, _∙_}
 use mathlib.Core.Bool.{true, false}
 use mathlib.Core.List.{List, [], _∷_, List·Memᴰ·not-nil, List·Memᴰ·eq-of-singleton}

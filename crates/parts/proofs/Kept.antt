@@ -1,5 +1,4 @@
 -- An entry stays valid: cut, with a dot and a put, merged, and under a larger clock.
--- Assumes nothing.
 use mathlib.Core.Path.{_≡_, ap, _∙_}
 use mathlib.Core.Bool.{Bool, true, false, cond}
 use mathlib.Core.List.{List, [], List·Memᴰ·not-nil}

@@ -1,5 +1,4 @@
 -- After a change of all entries that keeps their keys, a key's entry depends only on that key's old entry.
--- Assumes nothing.
 use mathlib.Core.Path.{_≡_, refl, ap, sym, _∙_}
 use mathlib.Core.Bool.{Bool, true, false, not, cond}
 use mathlib.Core.Logic.{⊎-elim}

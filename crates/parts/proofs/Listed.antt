@@ -1,5 +1,4 @@
 -- A list of entries stays valid: after a removal, an update, a merge, a reset, and with fewer entries.
--- Assumes nothing.
 use mathlib.Core.Path.{_≡_, refl, ap, sym, _∙_}
 use mathlib.Core.Bool.{Bool, true, false, not}
 use mathlib.Core.Logic.{⊎-elim}

@@ -1,5 +1,4 @@
 -- A merge's next entry: what it takes of each side's rest, and what is left to weave.
--- Assumes nothing.
 use mathlib.Core.Path.{_≡_, refl, sym}
 use mathlib.Core.Bool.{Bool, true, false, not, _&&_, _||_, cond}
 use mathlib.Core.Logic.{_⊎_, inl, inr}

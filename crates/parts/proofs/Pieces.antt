@@ -1,5 +1,4 @@
 -- Laws of the parts of a map as packs of lists.
--- Assumes nothing.
 use mathlib.Core.Path.{_≡_, refl}
 use mathlib.Core.List.{List}
 use Prim.Native.Nat.{ℕ}

@@ -1,5 +1,4 @@
 -- What holds of an entry's key, clock and values holds of what every rule makes of it: the one law of preservation, at an entry.
--- Assumes nothing.
 use mathlib.Core.Path.{_≡_}
 use mathlib.Core.Bool.{false}
 use mathlib.Core.List.{List}

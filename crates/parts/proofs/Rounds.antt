@@ -1,5 +1,4 @@
 -- A run of united removals is a run of both lists; a run again, or any of it again, changes nothing.
--- Assumes nothing.
 use mathlib.Core.Path.{_≡_, sym, _∙_}
 use mathlib.Core.Bool.{Bool, true}
 use mathlib.Core.Logic.{_⊎_, inl, inr, ⊎-elim}

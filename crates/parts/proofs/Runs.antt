@@ -1,5 +1,4 @@
 -- A run of removals on one entry: it loses exactly the dots at or below the largest counters among the clocks that list its key.
--- Assumes nothing.
 use mathlib.Core.Path.{_≡_, refl, ap, sym, _∙_}
 use mathlib.Core.Bool.{Bool, true, false, not, cond}
 use mathlib.Core.Logic.{_⊎_, inl, inr, ⊎-elim}

@@ -1,5 +1,4 @@
 -- Laws of a set of keys as a pack of its list, and of the limit.
--- Assumes nothing.
 use mathlib.Core.Path.{_≡_, refl, ap, _∙_}
 use mathlib.Core.Bool.{true, false}
 use mathlib.Core.List.{List, [], _∷_, _++_}

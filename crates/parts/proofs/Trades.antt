@@ -1,5 +1,4 @@
 -- Removals trade places: in a run over entries, and where they are united into those that wait.
--- Assumes nothing.
 use mathlib.Core.Path.{_≡_, refl, ap, sym, _∙_}
 use mathlib.Core.Bool.{false}
 use mathlib.Core.Logic.{⊎-elim}

@@ -1,5 +1,4 @@
 -- Laws of the removals that wait: uniting two lists of them in one go or one by one, those that pass a test, and that they stay valid.
--- Assumes nothing.
 use mathlib.Core.Path.{_≡_, refl, ap, sym, _∙_}
 use mathlib.Core.Bool.{Bool, true, false, not}
 use mathlib.Core.Logic.{_⊎_, inl, inr, ⊎-elim}

@@ -1,5 +1,4 @@
 -- The entry of a key among entries, and what an update puts: it is not empty.
--- Assumes nothing.
 use mathlib.Core.Path.{_≡_, refl, ap}
 use mathlib.Core.Bool.{true, false, not}
 use mathlib.Core.Logic.{⊎-elim}

@@ -1,5 +1,4 @@
 -- 01 "Map", what becomes of an entry: in a removal, an update, a merge; and of all entries, in the order of their keys.
--- Assumes nothing.
 use mathlib.Core.Bool.{Bool, true, false, not, _&&_, _||_, cond}
 use mathlib.Core.List.{List, [], _∷_, _++_, flatten}
 use Prim.Native.Nat.{ℕ}

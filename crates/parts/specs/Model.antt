@@ -1,5 +1,4 @@
 -- The parts of a map as lists: entries by key, removals that wait by clock, sets of keys; and the limits on each.
--- Assumes nothing.
 use mathlib.Core.Path.{_≡_}
 use mathlib.Core.Bool.{Bool, true, false, not, _&&_, cond}
 use mathlib.Core.List.{List, [], _∷_}

@@ -1,5 +1,4 @@
 -- When the parts of a map are valid: lists ascend, clocks are clocks and not empty, and zeros stand behind what is in use.
--- Assumes nothing.
 use mathlib.Core.Path.{_≡_}
 use mathlib.Core.Bool.{true, false}
 use mathlib.Core.List.{List}

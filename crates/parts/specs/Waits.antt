@@ -1,5 +1,4 @@
 -- 01 "Map", the removals that wait: their order, uniting them, and what a reset leaves of them.
--- Assumes nothing.
 use mathlib.Core.Bool.{Bool, true, false, not, _&&_, _||_}
 use mathlib.Core.List.{List, [], _∷_}
 use Prim.Native.Nat.{ℕ}

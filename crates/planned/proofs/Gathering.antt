@@ -1,5 +1,4 @@
 -- A loop that puts removals in order, one after the other, where something is left of them.
--- Assumes nothing.
 use mathlib.Core.Path.{_≡_, refl, ap, sym, _∙_}
 use mathlib.Core.Bool.{true, false}
 use mathlib.Core.List.{List, [], _∷_}

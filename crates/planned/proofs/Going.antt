@@ -1,5 +1,4 @@
 -- The plan of a result's waiting removals: where each removal goes, told by its clock's seat.
--- Assumes nothing.
 use mathlib.Core.Path.{_≡_, refl, ap, sym, _∙_, subst}
 use mathlib.Core.Bool.{true, false}
 use mathlib.Core.List.{List, [], map, List·Memᴰ·not-nil, Memᴰ·of-map}

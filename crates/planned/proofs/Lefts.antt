@@ -1,5 +1,4 @@
 -- What a removal holds of a run: how long the run is, a whole run of a queue, and what is left as a clock.
--- Assumes nothing.
 use mathlib.Core.Path.{_≡_, ap, ap₂, sym, _∙_, subst}
 use mathlib.Core.Bool.{Bool, true, false, not, cond}
 use mathlib.Core.List.{List, [], map}

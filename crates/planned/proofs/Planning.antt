@@ -1,5 +1,4 @@
 -- What a plan says of a result, removal by removal.
--- Assumes nothing.
 use mathlib.Core.Path.{_≡_, ap, sym, _∙_}
 use mathlib.Core.Bool.{false}
 use mathlib.Core.List.{List, [], _++_}

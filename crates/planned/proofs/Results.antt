@@ -1,5 +1,4 @@
 -- The plans of results: of two queues that were walked, and of one that was reset.
--- Assumes nothing.
 use mathlib.Core.Path.{_≡_, refl, ap, sym, _∙_, subst}
 use mathlib.Core.Bool.{false}
 use mathlib.Core.List.{List, [], map, List·Memᴰ·not-nil}

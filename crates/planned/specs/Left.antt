@@ -1,5 +1,4 @@
 -- What a waiting removal holds of a run of dots where it lies, and some of them in order.
--- Assumes nothing.
 use mathlib.Core.Path.{_≡_}
 use mathlib.Core.Bool.{Bool, true, false, cond}
 use mathlib.Core.List.{List, []}

@@ -1,5 +1,4 @@
 -- The plan of a result's waiting removals: where each one's dots stand in two images and which of them are left, and where the removals of two lists go.
--- Assumes nothing.
 use mathlib.Core.Path.{_≡_}
 use mathlib.Core.Bool.{false, cond}
 use mathlib.Core.List.{List, []}

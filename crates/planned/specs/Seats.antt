@@ -1,5 +1,4 @@
 -- Clocks in order: where one stands among them, one more, and what becomes of two lists of removals.
--- Assumes nothing.
 use mathlib.Core.Bool.{Bool, not, cond}
 use mathlib.Core.List.{List, [], _∷_}
 use Prim.Native.Nat.{ℕ, zero, suc}

@@ -1,5 +1,4 @@
 -- Laws of the dots in all entry clocks: what a removal and a reset leave of them, entry by entry, by the cut's own count.
--- Assumes nothing.
 use mathlib.Core.Path.{_≡_, refl, ap, _∙_}
 use mathlib.Core.Bool.{true, false, cond}
 use mathlib.Core.List.{List, [], _∷_}

@@ -1,5 +1,4 @@
 -- Any two results that meet the contract of a public call are identical: one law, at every call.
--- Assumes nothing.
 use mathlib.Core.Path.{_≡_}
 use mathlib.Core.List.{List}
 use Prim.Native.Nat.{ℕ}

@@ -1,5 +1,4 @@
 -- The ways out of the calls: an image is refused, a map or an operation is answered, or dots are counted.
--- Assumes nothing.
 use mathlib.Core.Path.{_≡_, refl, sym, _∙_}
 use mathlib.Core.List.{List}
 use Prim.Native.Nat.{ℕ, _*_, _^_, _≤_, _<_}

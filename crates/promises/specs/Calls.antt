@@ -1,5 +1,4 @@
 -- What each call of castribba.h answers, of the bytes and numbers that it is given.
--- Assumes nothing.
 use Prim.Native.Nat.{ℕ}
 use mathlib.Core.List.{List, []}
 use Rattle.clock.specs.Dots.{dotsOf}

@@ -1,5 +1,4 @@
 -- How many dots a call deletes from entry clocks: CR 2, in its words.
--- Assumes nothing.
 use mathlib.Core.Bool.{cond}
 use mathlib.Core.List.{List}
 use Prim.Native.Nat.{ℕ, _-_}

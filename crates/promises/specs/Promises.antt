@@ -1,5 +1,4 @@
 -- The contract of each call of castribba.h: the code cites it, and `Determined` takes it.
--- Assumes nothing.
 use mathlib.Core.Path.{_≡_}
 use mathlib.Core.List.{List, []}
 use Prim.Native.Nat.{ℕ}

@@ -1,5 +1,4 @@
 -- A clock cut by the removals that list a key, one after the other.
--- Assumes nothing.
 use mathlib.Core.Path.{_≡_, ap, ap₂, _∙_}
 use mathlib.Core.Bool.{true, false, cond}
 use mathlib.Core.List.{List}

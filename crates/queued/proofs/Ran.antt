@@ -1,5 +1,4 @@
 -- A run of waiting removals on an entry: its clock and each value's clock cut by those that list its key.
--- Assumes nothing.
 use mathlib.Core.Path.{_≡_, refl, ap, ap₂, sym, _∙_}
 use mathlib.Core.Bool.{Bool, true, false, not, cond}
 use mathlib.Core.List.{List, [], _∷_}

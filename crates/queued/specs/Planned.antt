@@ -1,5 +1,4 @@
 -- Where the removals of two lists go in a result, told by the keys that they bring.
--- Assumes nothing.
 use mathlib.Core.Path.{_≡_}
 use mathlib.Core.Bool.{true}
 use mathlib.Core.List.{List}

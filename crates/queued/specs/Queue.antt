@@ -1,5 +1,4 @@
 -- The waiting removals of an image where they lie: their runs of dots, which of them list a key, and a clock cut by those that do.
--- Assumes nothing.
 use mathlib.Core.Path.{_≡_}
 use mathlib.Core.Bool.{Bool, false, cond}
 use mathlib.Core.List.{List, map}

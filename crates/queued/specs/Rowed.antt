@@ -1,5 +1,4 @@
 -- A key of a result's waiting removals, and which of them list it.
--- Assumes nothing.
 use mathlib.Core.Path.{_≡_}
 use mathlib.Core.Bool.{Bool, true, false, cond}
 use mathlib.Core.List.{List, [], _∷_}

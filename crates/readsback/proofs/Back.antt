@@ -1,5 +1,4 @@
 -- Every answer reads back: one law, at each of the seven calls that write.
--- Assumes nothing.
 use mathlib.Core.Path.{_≡_, refl, ap, sym, _∙_}
 use mathlib.Core.Bool.{true}
 use mathlib.Core.List.{List, _∷_, []}

@@ -1,5 +1,4 @@
 -- What the two calls that count deleted dots answer, over the images: the dots in all entry clocks before, less those after.
--- Assumes nothing.
 use mathlib.Core.Path.{_≡_, ap₂, sym, _∙_}
 use mathlib.Core.Bool.{false}
 use mathlib.Core.List.{List}

@@ -1,5 +1,4 @@
 -- Numbers that fit their fields in a record: every call keeps them so.
--- Assumes nothing.
 use mathlib.Core.Path.{_≡_}
 use mathlib.Core.Bool.{Bool, true, false, cond}
 use mathlib.Core.Logic.{⊎-elim}

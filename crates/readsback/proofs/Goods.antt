@@ -1,5 +1,4 @@
 -- What each call that writes answers with, where it answers 0, is good: valid, within the limits, and its numbers fit.
--- Assumes nothing.
 use mathlib.Core.Path.{_≡_, refl, ap, sym}
 use mathlib.Core.Bool.{Bool}
 use mathlib.Core.List.{List, [], _∷_, List·Memᴰ·not-nil, List·Memᴰ·eq-of-singleton}

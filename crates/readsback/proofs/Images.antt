@@ -1,5 +1,4 @@
 -- The image of a good map, and of a good operation, is made of bytes.
--- Assumes nothing.
 use mathlib.Core.Path.{_≡_}
 use mathlib.Core.Bool.{Bool, true, false, cond}
 use mathlib.Core.Logic.{⊎-elim}

@@ -1,5 +1,4 @@
 -- "Every answer reads back": where a call answers 0, the bytes that it wrote are an accepted image, of the very result.
--- Assumes nothing.
 use mathlib.Core.Path.{_≡_}
 use mathlib.Core.List.{List}
 use Prim.Native.Nat.{ℕ, _/_, _%_, _^_, _<_}

@@ -1,5 +1,4 @@
 -- The laws of a number in 2 ^ k bytes, once over k: written and read, read and written; and that these are bytes.
--- Assumes nothing.
 use mathlib.Core.Path.{_≡_, refl, ap, _∙_}
 use mathlib.Core.List.{List, [], _∷_, _++_, append-assoc}
 use Prim.Native.Nat.{ℕ, zero, suc, _+_, _*_, _/_, _%_, _^_, _≤_, _<_}

@@ -1,5 +1,4 @@
 -- Which fields a kind uses, by what 01 says that it is: the table of masks says so on all four bits of every row, by one test that antt computes.
--- Assumes nothing.
 use mathlib.Core.Path.{_≡_, refl}
 use mathlib.Core.Bool.{Bool, true, false, not, _&&_, _||_, Bool·beq}
 use Prim.Native.Nat.{ℕ, _≤_, _<_}

@@ -1,5 +1,4 @@
 -- Two worked examples, computed: a number's bytes, and the record `2 0 1 5 1` of document 01.
--- Assumes nothing.
 use mathlib.Core.Path.{_≡_, refl}
 use mathlib.Core.List.{[], _∷_}
 use Rattle.records.specs.Bytes.{numAt, numBytes}

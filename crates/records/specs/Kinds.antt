@@ -1,5 +1,4 @@
 -- The twelve kinds of a record: which fields each may use, when a record is good by itself, and the order of records.
--- Assumes nothing.
 use Prim.Native.Nat.{ℕ}
 use mathlib.Core.Bool.{Bool, cond, _&&_, _||_, not}
 use mathlib.Core.List.{List, [], _∷_}

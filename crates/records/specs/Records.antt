@@ -1,5 +1,4 @@
 -- Records of 16 bytes: byte 0 kind, 1 index, 2-3 actor, 4-7 key, 8-15 number.
--- Assumes nothing.
 use mathlib.Core.Path.{_≡_}
 use Prim.Native.Nat.{ℕ, zero, suc, _+_, _/_}
 use mathlib.Core.List.{List, [], _∷_, _++_}

@@ -1,5 +1,4 @@
 -- What stands in a register after a cut, a put or a merge, for anything that can be said of a value.
--- Assumes nothing.
 use mathlib.Core.Path.{_≡_, refl, ap, sym, _∙_}
 use mathlib.Core.Bool.{Bool, true, false, not, cond}
 use mathlib.Core.Logic.{⊎-elim}

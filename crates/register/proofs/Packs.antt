@@ -1,5 +1,4 @@
 -- Laws of a register as a pack of its values, and of the limit.
--- Assumes nothing.
 use mathlib.Core.Path.{_≡_, refl}
 use mathlib.Core.Bool.{true, false}
 use mathlib.Core.List.{List, [], _∷_, _++_}

@@ -1,5 +1,4 @@
 -- Registers, in the words and order of 01 "Register": an ordered list of values, of any length, each under a clock.
--- Assumes nothing.
 use mathlib.Core.Bool.{Bool, true, false, not, cond}
 use mathlib.Core.List.{List, [], _∷_, _++_, map}
 use Prim.Native.Nat.{_*_, ℕ}

@@ -1,5 +1,4 @@
 -- What a run of records says.
--- Assumes nothing.
 use mathlib.Core.List.{List, map}
 use Prim.Native.Nat.{ℕ}
 use Rattle.clock.specs.declared.Dot.{Dot}

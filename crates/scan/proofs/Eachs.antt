@@ -1,5 +1,4 @@
 -- Laws of what holds of each element: one element more, and membership.
--- Assumes nothing.
 use mathlib.Core.Path.{_≡_, refl, ap, sym, _∙_}
 use mathlib.Core.Bool.{Bool, true, false, cond, _&&_, _||_, and-assoc, and-true}
 use mathlib.Core.Logic.{⊎-elim}

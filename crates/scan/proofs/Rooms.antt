@@ -1,5 +1,4 @@
 -- What well-formed records within the limits leave room for: one more of each thing that an image's reader stores.
--- Assumes nothing.
 use mathlib.Core.Path.{_≡_, refl, ap, sym, _∙_}
 use mathlib.Core.Bool.{Bool, true, false, not, _&&_, _||_}
 use mathlib.Core.Logic.{⊎-elim}

@@ -1,5 +1,4 @@
 -- A scan with one record more: the machine's tests against the last record decide what the definitions say of all records before.
--- Assumes nothing.
 use mathlib.Core.Path.{_≡_, refl, ap, sym, _∙_}
 use mathlib.Core.Bool.{Bool, true, false, not, _&&_, _||_, and-false, and-true}
 use mathlib.Core.Logic.{_⊎_, inl, inr, ⊎-elim}

@@ -1,5 +1,4 @@
 -- When the records of an image are well formed: each good by itself, strictly ascending.
--- Assumes nothing.
 use Prim.Native.Nat.{ℕ}
 use mathlib.Core.Bool.{Bool, _&&_}
 use mathlib.Core.List.{List}

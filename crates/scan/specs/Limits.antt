@@ -1,5 +1,4 @@
 -- When the records of an image are within the limits: "distinct keys, indexes, actors present are counted, one kind at a time".
--- Assumes nothing.
 use Prim.Native.Nat.{ℕ, _+_}
 use mathlib.Core.Bool.{Bool, true, false, not, cond, _&&_}
 use mathlib.Core.List.{List, [], _∷_, _++_}

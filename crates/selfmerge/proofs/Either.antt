@@ -1,5 +1,4 @@
 -- Two unseen updates by different actors on different keys end in the same map in either order, where nothing is waiting.
--- Assumes nothing.
 use mathlib.Core.Path.{_≡_, refl, ap, ap₂, sym, _∙_}
 use mathlib.Core.Bool.{Bool, true, false, cond}
 use mathlib.Core.List.{List, []}

@@ -1,5 +1,4 @@
 -- Each premise of a merge with oneself is needed: small maps that break only that one and come out of the merge changed.
--- Assumes nothing.
 use mathlib.Core.Path.{_≡_, refl, ap, sym, _∙_}
 use mathlib.Core.Bool.{true, false}
 use mathlib.Core.Logic.{⊎-elim}

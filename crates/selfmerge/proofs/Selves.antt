@@ -1,5 +1,4 @@
 -- What stands on both sides: a list woven with itself, and a clock, a register, an entry, a removal met with itself.
--- Assumes nothing.
 use mathlib.Core.Path.{_≡_, refl, ap, ap₂, sym, _∙_}
 use mathlib.Core.Bool.{Bool, true, false, not}
 use mathlib.Core.List.{List, [], _∷_, _++_, map, map-id, append-nil, List·Memᴰ·head, List·Memᴰ·tail}

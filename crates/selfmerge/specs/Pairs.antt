@@ -1,5 +1,4 @@
 -- Two updates that may come in either order, in the words of change request 13.
--- Assumes nothing.
 use mathlib.Core.Path.{_≡_}
 use mathlib.Core.List.{[]}
 use Prim.Native.Nat.{_<_}

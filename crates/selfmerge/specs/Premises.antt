@@ -1,5 +1,4 @@
 -- What a map must keep for a merge with itself to give that map, in the words and order of change request 13.
--- Assumes nothing.
 use mathlib.Core.Path.{_≡_}
 use mathlib.Core.Bool.{true, false}
 use mathlib.Core.Logic.{_⊎_}

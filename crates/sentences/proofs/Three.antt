@@ -1,5 +1,4 @@
 -- Number 3 in 01's own sentences: an image that is well formed and within the limits answers 3 exactly when one of them fails.
--- Assumes nothing.
 use mathlib.Core.Path.{_≡_, refl, sym}
 use mathlib.Core.Bool.{Bool, true, false, cond}
 use mathlib.Core.List.{List}

@@ -1,5 +1,4 @@
 -- 01 "Related records", sentence by sentence, of the records of an image; and an image that gets as far as number 3.
--- Assumes nothing.
 use mathlib.Core.Path.{_≡_}
 use mathlib.Core.Bool.{true}
 use mathlib.Core.List.{List}

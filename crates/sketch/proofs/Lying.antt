@@ -1,5 +1,4 @@
 -- An entry where it lies: what the runs of its dots and of its values' dots say, and its values.
--- Assumes nothing.
 use mathlib.Core.Path.{_≡_, refl, ap, sym, _∙_}
 use mathlib.Core.Bool.{Bool, true}
 use mathlib.Core.List.{List, [], _∷_, map}

@@ -1,5 +1,4 @@
 -- Where the dots of each value begin: a turn of the walk finds the run of one value.
--- Assumes nothing.
 use mathlib.Core.Path.{_≡_, ap, _∙_}
 use mathlib.Core.List.{List, _∷_, map, Memᴰ·of-map}
 use Prim.Native.Nat.{ℕ, suc, _+_, _*_, _≤_, _<_}

@@ -1,5 +1,4 @@
 -- A sketch: entries whose values stand in two images, with marks that say which of their dots are left.
--- Assumes nothing.
 use mathlib.Core.Path.{_≡_}
 use mathlib.Core.Bool.{Bool, false, cond, _||_}
 use mathlib.Core.List.{List, [], _∷_, _++_, map}

@@ -1,5 +1,4 @@
 -- Entries of an image one after the other: what is left of them from a cursor on, and where the next one's records stand.
--- Assumes nothing.
 use mathlib.Core.Path.{_≡_}
 use mathlib.Core.List.{List, _∷_}
 use Prim.Native.Nat.{ℕ, _+_, _≤_, _<_}

@@ -1,5 +1,4 @@
 -- The values of a register taken one after the other: which stand in a merge, and which remain beside a put.
--- Assumes nothing.
 use mathlib.Core.Path.{_≡_, refl, ap, ap₂, sym, _∙_}
 use mathlib.Core.Bool.{Bool, true, false, not, cond, _||_}
 use mathlib.Core.List.{List, [], _∷_, _++_}

@@ -1,5 +1,4 @@
 -- What comes next of an update: an entry behind the put, an entry before it, the put on an entry or on none.
--- Assumes nothing.
 use mathlib.Core.Path.{_≡_, refl, ap, sym, subst, _∙_}
 use mathlib.Core.Bool.{Bool, true, false}
 use mathlib.Core.List.{List, []}

@@ -1,5 +1,4 @@
 -- The put among entries in the order of their keys: behind a lower one, on that of its key, before all higher ones.
--- Assumes nothing.
 use mathlib.Core.Path.{_≡_, ap, ap₂, _∙_}
 use mathlib.Core.Bool.{true, false}
 use mathlib.Core.List.{List, [], _∷_, _++_}

@@ -1,5 +1,4 @@
 -- An update drawn key by key: what is drawn, and what is left of the map's entries and of the put.
--- Assumes nothing.
 use mathlib.Core.Path.{_≡_, refl, ap, ap₂, sym, subst, _∙_}
 use mathlib.Core.Bool.{Bool, true, false, not, _||_}
 use mathlib.Core.List.{List, [], _∷_, _++_}

@@ -1,5 +1,4 @@
 -- An update drawn key by key: the entries that are to come, what comes next of them, and where the put lies.
--- Assumes nothing.
 use mathlib.Core.Path.{_≡_}
 use mathlib.Core.Bool.{Bool, false, cond, _||_}
 use mathlib.Core.List.{List, [], _∷_}

@@ -1,5 +1,4 @@
 -- What a validation says of two images: its number, and what it found where both passed.
--- Assumes nothing.
 use Prim.Native.Nat.{ℕ}
 use mathlib.Core.Bool.{cond}
 use mathlib.Core.List.{List, [], _∷_}

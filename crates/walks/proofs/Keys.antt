@@ -1,5 +1,4 @@
 -- The keys of waiting removals: what the walk over kind 6 accepts ascends, each under its removal, few under each; and it accepts all that does.
--- Assumes nothing.
 use mathlib.Core.Path.{_≡_, refl, sym, _∙_}
 use mathlib.Core.Bool.{Bool, true, _&&_}
 use mathlib.Core.Logic.{⊎-elim}

@@ -1,5 +1,4 @@
 -- What a reader accepts under its limits, and that the reader of this sled is the one under the limits of today.
--- Assumes nothing.
 use mathlib.Core.Path.{_≡_, refl, ap, sym, _∙_, fun-ext}
 use mathlib.Core.Bool.{Bool, true, false, cond}
 use mathlib.Core.Logic.{inl, inr}

@@ -1,5 +1,4 @@
 -- Under limits that this sled has room for, every map that they hold has one image, and it is the same under each such limits.
--- Assumes nothing.
 use mathlib.Core.Path.{_≡_, ap, sym, _∙_}
 use mathlib.Core.List.{List}
 use mathlib.Core.Logic.{_⊎_, inl, inr}

@@ -1,5 +1,4 @@
 -- The image of a map reads as the map under all limits that hold it.
--- Assumes nothing.
 use mathlib.Core.Path.{_≡_, ap, _∙_}
 use native.Mathlib.Omega.{arith}
 use Rattle.map.specs.declared.Map.{Map}

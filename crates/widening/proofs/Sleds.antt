@@ -1,5 +1,4 @@
 -- The sentences of change request 6, over any two limits of which one is below the other, and with the numbers of the old sleds and the new ones.
--- Assumes nothing.
 use mathlib.Core.Path.{_≡_, refl, sym, _∙_}
 use native.Mathlib.Omega.{arith}
 use Rattle.map.specs.declared.Map.{Map}

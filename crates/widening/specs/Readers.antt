@@ -1,5 +1,4 @@
 -- What a reader answers of a map's image under limits of its own, in 01's order: longer than its longest image 2, malformed 1, over its limits 2, related records wrong 3.
--- Assumes nothing.
 use Prim.Native.Nat.{ℕ}
 use mathlib.Core.Bool.{cond}
 use mathlib.Core.List.{List}

@@ -1,5 +1,4 @@
 -- The limits of the sleds before change request 6, and those of the new ones.
--- Assumes nothing.
 use Rattle.scan.specs.Limits.{Limits}
 
 abbrev pub oldSleds : Limits

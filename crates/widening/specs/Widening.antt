@@ -1,5 +1,4 @@
 -- What holds between an old reader and a new one whose limits are not smaller: the sentences of change request 6, over the limits.
--- Assumes nothing.
 use mathlib.Core.Path.{_≡_}
 use mathlib.Core.Logic.{_⊎_}
 use mathlib.Core.List.{List}

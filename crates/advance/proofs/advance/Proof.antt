@@ -1,4 +1,4 @@
--- `advance` meets its contract: each way out is a law of `Advances`. Assumes nothing.
+-- `advance` meets its contract: each way out is a law of `Advances`.
 use mathlib.Core.Path.{ap, sym, _∙_}
 use native.Mathlib.Omega.{arith}
 use Rattle.clock.specs.declared.Joined.{Joined}
@@ -34,13 +34,5 @@ returns-4 c =
 pub advance-spec : {M : Type 1} → statement M
 advance-spec =
     tie.close
-    (tie.spec
-    (λ c κs. search needs)
-    (λ c κs. search needs)
-    returns
-    (λ c κs. search needs)
-    (λ c κs. search needs)
-    (λ c κs. search needs)
-    returns-2
-    returns-3
-    returns-4)
+    (tie.spec (λ c κs. search needs) (λ c κs. search needs) returns (λ c κs. search needs) (λ c κs. search needs) (λ c κs. search needs)
+    returns-2 returns-3 returns-4)

@@ -1,4 +1,4 @@
--- `lent_number` meets its contract. Assumes nothing.
+-- `lent_number` meets its contract.
 use native.Mathlib.Omega.{arith}
 use borrow.Author.Tests.{lt-ltb, le-ltb}
 use Rattle.advance.specs.Advancing.{lentNumber}

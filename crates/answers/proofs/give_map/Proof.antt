@@ -1,4 +1,4 @@
--- `give_map` meets its contract: each way out is a law of `Answers`. Assumes nothing.
+-- `give_map` meets its contract: each way out is a law of `Answers`.
 use mathlib.Core.Path.{refl}
 use Rattle.answers.proofs.Lengths.{length-image}
 use Rattle.answers.proofs.Answers.{number-own, number-short, number-done, refuses, writes}
@@ -30,12 +30,5 @@ returns-3 c =
 pub give-map-spec : {M : Type 1} → statement M
 give-map-spec =
     tie.close
-    (tie.spec
-    (λ c. search needs)
-    returns
-    (λ c κs. search needs)
-    (λ c. search needs)
-    returns-2
-    write-map-requires
-    (λ c. search needs)
+    (tie.spec (λ c. search needs) returns (λ c κs. search needs) (λ c. search needs) returns-2 write-map-requires (λ c. search needs)
     returns-3)

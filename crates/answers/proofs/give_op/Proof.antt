@@ -1,4 +1,4 @@
--- `give_op` meets its contract: each way out is a law of `Answers`. Assumes nothing.
+-- `give_op` meets its contract: each way out is a law of `Answers`.
 use mathlib.Core.Path.{refl}
 use Rattle.answers.proofs.Answers.{number-own, number-short, number-done, refuses, writes}
 use borrow.Author.Needs.{needs}
@@ -26,12 +26,5 @@ returns-3 c =
 pub give-op-spec : {M : Type 1} → statement M
 give-op-spec =
     tie.close
-    (tie.spec
-    (λ c. search needs)
-    returns
-    (λ c κs. search needs)
-    (λ c. search needs)
-    returns-2
-    write-op-requires
-    (λ c. search needs)
+    (tie.spec (λ c. search needs) returns (λ c κs. search needs) (λ c. search needs) returns-2 write-op-requires (λ c. search needs)
     returns-3)

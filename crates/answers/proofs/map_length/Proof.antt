@@ -1,4 +1,4 @@
--- `map_length` meets its contract. Assumes nothing.
+-- `map_length` meets its contract.
 use native.Mathlib.Omega.{arith}
 use Rattle.answers.specs.Sizes.{mapSize}
 use borrow.Author.Needs.{needs}
@@ -35,11 +35,4 @@ returns c = (omega arith, (omega arith, c .count-waiting .ensures .1 .1))
 pub map-length-spec : {M : Type 1} → statement M
 map-length-spec =
     tie.close
-    (tie.spec
-    size-requires
-    count-entries-requires
-    count-waiting-requires
-    add-result
-    add-result-2
-    mul-result
-    returns)
+    (tie.spec size-requires count-entries-requires count-waiting-requires add-result add-result-2 mul-result returns)

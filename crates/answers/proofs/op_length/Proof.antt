@@ -1,4 +1,4 @@
--- `op_length` meets its contract: the head, the put value or the keys, and the dots of the clock. Assumes nothing.
+-- `op_length` meets its contract: the head, the put value or the keys, and the dots of the clock.
 use native.Mathlib.Omega.{arith}
 use lib.ListN.{length-append, length-map}
 use Rattle.records.proofs.RoundTrips.{length-bytes}
@@ -20,14 +20,5 @@ returns-2 c =
 pub op-length-spec : {M : Type 1} → statement M
 op-length-spec =
     tie.close
-    (tie.spec
-    (λ c κs. search needs)
-    (λ c. search needs)
-    (λ c. search needs)
-    returns
-    (λ c κs. search needs)
-    (λ c κs. search needs)
-    (λ c. search needs)
-    (λ c. search needs)
-    (λ c. search needs)
-    returns-2)
+    (tie.spec (λ c κs. search needs) (λ c. search needs) (λ c. search needs) returns (λ c κs. search needs) (λ c κs. search needs)
+    (λ c. search needs) (λ c. search needs) (λ c. search needs) returns-2)

@@ -1,4 +1,4 @@
--- `follow` meets its contract: the map clock first, then the entry's. Assumes nothing.
+-- `follow` meets its contract: the map clock first, then the entry's.
 use mathlib.Core.Path.{sym, _∙_}
 use Prim.Native.Nat.{_+_}
 use borrow.Author.Tests.{ltb-true}
@@ -48,13 +48,5 @@ returns-3 c =
 pub follow-spec : {M : Type 1} → statement M
 follow-spec =
     tie.close
-    (tie.spec
-    (λ c κs. search needs)
-    (λ c κs. search needs)
-    missing-requires
-    returns
-    (λ c κs. search needs)
-    (λ c κs. search needs)
-    missing-requires-2
-    returns-2
-    returns-3)
+    (tie.spec (λ c κs. search needs) (λ c κs. search needs) missing-requires returns (λ c κs. search needs) (λ c κs. search needs)
+    missing-requires-2 returns-2 returns-3)

@@ -1,4 +1,4 @@
--- `get` meets its contract. Assumes nothing.
+-- `get` meets its contract.
 use Rattle.asking.specs.Asking.{readKey}
 use borrow.Author.Needs.{needs}
 use Rattle.asking.proofs.get.Statement.{statement}
@@ -11,7 +11,4 @@ returns c = rw (c .before .only .ensures, c .new .ensures)
 pub get-spec : {M : Type 1} → statement M
 get-spec =
     tie.close
-    (tie.spec
-    (λ c κs. search needs)
-    (λ c κs. search needs)
-    returns)
+    (tie.spec (λ c κs. search needs) (λ c κs. search needs) returns)

@@ -1,4 +1,4 @@
--- `is_empty` meets its contract, by that of `len`. Assumes nothing.
+-- `is_empty` meets its contract, by that of `len`.
 use mathlib.Core.Path.{ap}
 use lib.Dec.{eqb}
 use borrow.Author.Needs.{needs}
@@ -11,6 +11,4 @@ returns c = ap (λ n. eqb n 0) (c .len .ensures .0)
 pub is-empty-spec : {M : Type 1} → statement M
 is-empty-spec =
     tie.close
-    (tie.spec
-    (λ c κs. search needs)
-    returns)
+    (tie.spec (λ c κs. search needs) returns)

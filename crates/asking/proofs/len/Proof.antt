@@ -1,4 +1,4 @@
--- `len` meets its contract, by that of `Entries::size`. Assumes nothing.
+-- `len` meets its contract, by that of `Entries::size`.
 use Rattle.asking.specs.Asking.{count}
 use borrow.Author.Needs.{needs}
 use Rattle.asking.proofs.len.Statement.{statement}
@@ -11,6 +11,4 @@ returns c = c .size .ensures
 pub len-spec : {M : Type 1} → statement M
 len-spec =
     tie.close
-    (tie.spec
-    (λ c κs. search needs)
-    returns)
+    (tie.spec (λ c κs. search needs) returns)

@@ -1,4 +1,4 @@
--- `rm` meets its contract. Assumes nothing.
+-- `rm` meets its contract.
 use mathlib.Core.Path.{ap}
 use mathlib.Core.List.{[]}
 use borrow.Author.Needs.{needs}
@@ -18,8 +18,4 @@ returns c =
 pub rm-spec : {M : Type 1} → statement M
 rm-spec =
     tie.close
-    (tie.spec
-    (λ c κs. search needs)
-    push-requires
-    (λ c κs. search needs)
-    returns)
+    (tie.spec (λ c κs. search needs) push-requires (λ c κs. search needs) returns)

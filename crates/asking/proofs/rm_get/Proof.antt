@@ -1,4 +1,4 @@
--- `rm_get` meets its contract: the entry's clock is laid down, and empty where there is none. Assumes nothing.
+-- `rm_get` meets its contract: the entry's clock is laid down, and empty where there is none.
 use mathlib.Core.Path.{_≡_, ap, _∙_}
 use mathlib.Core.Bool.{false}
 use mathlib.Core.List.{[], _∷_}
@@ -23,7 +23,4 @@ returns c =
 pub rm-get-spec : {M : Type 1} → statement M
 rm-get-spec =
     tie.close
-    (tie.spec
-    (λ c κs. search needs)
-    (λ c κs. search needs)
-    returns)
+    (tie.spec (λ c κs. search needs) (λ c κs. search needs) returns)

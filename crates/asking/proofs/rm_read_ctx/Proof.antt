@@ -1,4 +1,4 @@
--- `rm_read_ctx` meets its contract: the map clock is laid down. Assumes nothing.
+-- `rm_read_ctx` meets its contract: the map clock is laid down.
 use mathlib.Core.Path.{ap, _∙_}
 use mathlib.Core.Bool.{false}
 use mathlib.Core.List.{[], _∷_}
@@ -15,6 +15,4 @@ returns c =
 pub rm-read-ctx-spec : {M : Type 1} → statement M
 rm-read-ctx-spec =
     tie.close
-    (tie.spec
-    (λ c κs. search needs)
-    returns)
+    (tie.spec (λ c κs. search needs) returns)

@@ -1,4 +1,4 @@
--- `spent_among` meets its contract: the loop looks for an entry that shares a dot. Assumes nothing.
+-- `spent_among` meets its contract: the loop looks for an entry that shares a dot.
 use mathlib.Core.Path.{sym, _∙_}
 use Prim.Native.Nat.{_≤_, _-_}
 use Rattle.parts.proofs.Packs.{noneRead}
@@ -38,17 +38,5 @@ returns-2 c = searching-end (c .before .loop .inv .1) (omega arith)
 pub spent-among-spec : {M : Type 1} → statement M
 spent-among-spec =
     tie.close
-    (tie.spec
-    Inv-loop
-    μ-loop
-    (λ c κs. search needs)
-    loop-holds
-    (λ c. search needs)
-    (λ c. search needs)
-    (λ c. search needs)
-    (λ c κs. search needs)
-    (λ c κs. search needs)
-    returns
-    (λ c. search needs)
-    loop-again
-    returns-2)
+    (tie.spec Inv-loop μ-loop (λ c κs. search needs) loop-holds (λ c. search needs) (λ c. search needs) (λ c. search needs)
+    (λ c κs. search needs) (λ c κs. search needs) returns (λ c. search needs) loop-again returns-2)

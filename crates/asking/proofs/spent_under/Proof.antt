@@ -1,4 +1,4 @@
--- `spent_under` meets its contract: the loop looks for a dot that both hold. Assumes nothing.
+-- `spent_under` meets its contract: the loop looks for a dot that both hold.
 use Prim.Native.Nat.{_≤_, _-_}
 use borrow.Author.Tests.{eq-eqb, ne-eqb}
 use Rattle.lists.proofs.Passing.{Passing, passing-start, passing-here, passing-on, passing-end}
@@ -43,17 +43,5 @@ returns-3 c =
 pub spent-under-spec : {M : Type 1} → statement M
 spent-under-spec =
     tie.close
-    (tie.spec
-    Inv-loop
-    μ-loop
-    returns
-    (λ c κs. search needs)
-    loop-holds
-    (λ c. search needs)
-    (λ c. search needs)
-    (λ c κs. search needs)
-    returns-2
-    (λ c. search needs)
-    (λ c. search needs)
-    loop-again
-    returns-3)
+    (tie.spec Inv-loop μ-loop returns (λ c κs. search needs) loop-holds (λ c. search needs) (λ c. search needs) (λ c κs. search needs)
+    returns-2 (λ c. search needs) (λ c. search needs) loop-again returns-3)

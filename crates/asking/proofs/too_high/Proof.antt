@@ -1,4 +1,4 @@
--- `too_high` meets its contract. Assumes nothing.
+-- `too_high` meets its contract.
 use mathlib.Core.Bool.{Bool, true, false}
 use mathlib.Core.Path.{_≡_, refl, sym}
 use Prim.Native.Nat.{ℕ, _+_, _-_, _<_}
@@ -25,7 +25,4 @@ returns-2 c = let a = c .before .args in sym (le-ltb (a .above + 1) (a .counter)
 pub too-high-spec : {M : Type 1} → statement M
 too-high-spec =
     tie.close
-    (tie.spec
-    (λ c. search needs)
-    returns
-    returns-2)
+    (tie.spec (λ c. search needs) returns returns-2)

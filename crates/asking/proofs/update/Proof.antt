@@ -1,4 +1,4 @@
--- `update` meets its contract. Assumes nothing.
+-- `update` meets its contract.
 use mathlib.Core.Path.{_∙_}
 use Rattle.asking.specs.Asking.{makeUpdate}
 use borrow.Author.Needs.{needs}
@@ -12,8 +12,4 @@ returns c = c .update .ensures ∙ rw (c .before .derive-add-ctx .ensures, c .be
 pub update-spec : {M : Type 1} → statement M
 update-spec =
     tie.close
-    (tie.spec
-    (λ c κs. search needs)
-    (λ c κs. search needs)
-    (λ c κs. search needs)
-    returns)
+    (tie.spec (λ c κs. search needs) (λ c κs. search needs) (λ c κs. search needs) returns)

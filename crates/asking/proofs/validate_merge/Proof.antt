@@ -1,4 +1,4 @@
--- `validate_merge` meets its contract: the loop looks for an entry of ours that shares a dot. Assumes nothing.
+-- `validate_merge` meets its contract: the loop looks for an entry of ours that shares a dot.
 use mathlib.Core.Path.{sym, _∙_}
 use Prim.Native.Nat.{_≤_, _-_}
 use Rattle.parts.specs.Model.{entriesOf}
@@ -41,17 +41,5 @@ returns-2 c = searching-end (c .before .loop .inv .1) (omega arith)
 pub validate-merge-spec : {M : Type 1} → statement M
 validate-merge-spec =
     tie.close
-    (tie.spec
-    Inv-loop
-    μ-loop
-    (λ c κs. search needs)
-    loop-holds
-    (λ c. search needs)
-    (λ c. search needs)
-    (λ c. search needs)
-    (λ c κs. search needs)
-    (λ c κs. search needs)
-    returns
-    (λ c. search needs)
-    loop-again
-    returns-2)
+    (tie.spec Inv-loop μ-loop (λ c κs. search needs) loop-holds (λ c. search needs) (λ c. search needs) (λ c. search needs)
+    (λ c κs. search needs) (λ c κs. search needs) returns (λ c. search needs) loop-again returns-2)

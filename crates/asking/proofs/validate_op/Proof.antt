@@ -1,4 +1,4 @@
--- `validate_op` meets its contract, by that of the update. Assumes nothing.
+-- `validate_op` meets its contract, by that of the update.
 use mathlib.Core.Path.{_∙_}
 use Rattle.asking.specs.Asking.{validateOp}
 use borrow.Author.Needs.{needs}
@@ -16,7 +16,4 @@ returns-2 c = rw (c .if1 .left)
 pub validate-op-spec : {M : Type 1} → statement M
 validate-op-spec =
     tie.close
-    (tie.spec
-    (λ c κs. search needs)
-    returns
-    returns-2)
+    (tie.spec (λ c κs. search needs) returns returns-2)

@@ -1,4 +1,4 @@
--- `validate_update` meets its contract. Assumes nothing.
+-- `validate_update` meets its contract.
 use mathlib.Core.Path.{_∙_}
 use Rattle.asking.specs.Asking.{validateUpdate}
 use Rattle.asking.proofs.Askings.{clock-at}
@@ -15,7 +15,4 @@ returns c =
 pub validate-update-spec : {M : Type 1} → statement M
 validate-update-spec =
     tie.close
-    (tie.spec
-    (λ c κs. search needs)
-    (λ c κs. search needs)
-    returns)
+    (tie.spec (λ c κs. search needs) (λ c κs. search needs) returns)

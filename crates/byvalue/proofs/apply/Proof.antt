@@ -1,4 +1,4 @@
--- `apply` meets its contract: each way out is a law of `Ways`. Assumes nothing.
+-- `apply` meets its contract: each way out is a law of `Ways`.
 use mathlib.Core.Path.{ap, ap₂, sym, _∙_}
 use Rattle.maprecords.specs.declared.ReadMap.{ReadMap}
 use Rattle.opimage.specs.declared.ReadOp.{ReadOp}
@@ -40,14 +40,5 @@ returns-3 c =
 pub apply-spec : {M : Type 1} → statement M
 apply-spec =
     tie.close
-    (tie.spec
-    (λ c κs. search needs)
-    (λ c κs. search needs)
-    returns
-    (λ c κs. search needs)
-    (λ c κs. search needs)
-    returns-2
-    apply-requires
-    give-map-requires
-    (λ c. search needs)
-    returns-3)
+    (tie.spec (λ c κs. search needs) (λ c κs. search needs) returns (λ c κs. search needs) (λ c κs. search needs) returns-2 apply-requires
+    give-map-requires (λ c. search needs) returns-3)

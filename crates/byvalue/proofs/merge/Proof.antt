@@ -1,4 +1,4 @@
--- `merge` meets its contract: each way out is a law of `Ways`. Assumes nothing.
+-- `merge` meets its contract: each way out is a law of `Ways`.
 use mathlib.Core.Path.{ap, ap₂, sym, _∙_}
 use Rattle.maprecords.specs.declared.ReadMap.{ReadMap}
 use Rattle.map.specs.Judging.{judged}
@@ -39,14 +39,5 @@ returns-3 c =
 pub merge-spec : {M : Type 1} → statement M
 merge-spec =
     tie.close
-    (tie.spec
-    (λ c κs. search needs)
-    (λ c κs. search needs)
-    returns
-    (λ c κs. search needs)
-    (λ c κs. search needs)
-    returns-2
-    merge-requires
-    give-map-requires
-    (λ c. search needs)
-    returns-3)
+    (tie.spec (λ c κs. search needs) (λ c κs. search needs) returns (λ c κs. search needs) (λ c κs. search needs) returns-2 merge-requires
+    give-map-requires (λ c. search needs) returns-3)

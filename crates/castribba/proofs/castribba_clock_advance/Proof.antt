@@ -1,6 +1,5 @@
 -- `castribba_clock_advance` meets its contract: a walk of its MIR, by hand. The borrow is opened, the clock is copied out and passed to `advance`; where the
 -- dot took effect the clock of its answer is stored, and the borrow is closed at the clock that lies there. All that it knows of `advance` is that it meets its contract.
--- Assumes nothing.
 use mathlib.Core.Path.{_≡_, refl, ap}
 use Prim.Native.Nat.{ℕ, _<_, _^_}
 use mathlib.Core.List.{[], _∷_, List}

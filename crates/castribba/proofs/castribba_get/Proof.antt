@@ -1,4 +1,4 @@
--- `castribba_get` meets its contract: each way out is a law of `Ways`. Assumes nothing.
+-- `castribba_get` meets its contract: each way out is a law of `Ways`.
 use mathlib.Core.Path.{refl, sym, _∙_}
 use Rattle.answers.proofs.Answers.{passes}
 use Rattle.promises.proofs.Ways.{first-out}
@@ -20,10 +20,4 @@ returns-2 c =
 pub castribba-get-spec : {M : Type 1} → statement M
 castribba-get-spec =
     tie.close
-    (tie.spec
-    (λ c κs. search needs)
-    (λ c κs. search needs)
-    returns
-    give-key-requires
-    (λ c. search needs)
-    returns-2)
+    (tie.spec (λ c κs. search needs) (λ c κs. search needs) returns give-key-requires (λ c. search needs) returns-2)

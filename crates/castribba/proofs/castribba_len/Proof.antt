@@ -1,4 +1,4 @@
--- `castribba_len` meets its contract. Assumes nothing.
+-- `castribba_len` meets its contract.
 use mathlib.Core.Path.{refl, ap, _∙_}
 use Prim.Native.Nat.{_*_, _^_}
 use Rattle.answers.proofs.Answers.{bare}
@@ -13,7 +13,4 @@ returns c = c .word .ensures ∙ ap (λ n. n * 2 ^ 32) (c .before .lay-out .ensu
 pub castribba-len-spec : {M : Type 1} → statement M
 castribba-len-spec =
     tie.close
-    (tie.spec
-    (λ c κs. search needs)
-    (λ c κs. search needs)
-    returns)
+    (tie.spec (λ c κs. search needs) (λ c κs. search needs) returns)

@@ -1,4 +1,4 @@
--- `castribba_validate_merge` meets its contract. Assumes nothing.
+-- `castribba_validate_merge` meets its contract.
 use mathlib.Core.Path.{refl, ap, _∙_}
 use Prim.Native.Nat.{_*_, _^_}
 use Rattle.verdicts.specs.declared.MergeVerdict.{MergeVerdict}
@@ -13,7 +13,4 @@ returns c = c .word .ensures ∙ ap (λ (v : MergeVerdict). v .number * 2 ^ 32) 
 pub castribba-validate-merge-spec : {M : Type 1} → statement M
 castribba-validate-merge-spec =
     tie.close
-    (tie.spec
-    (λ c κs. search needs)
-    (λ c κs. search needs)
-    returns)
+    (tie.spec (λ c κs. search needs) (λ c κs. search needs) returns)

@@ -1,4 +1,4 @@
--- `castribba_validate_merge_their_key` meets its contract. Assumes nothing.
+-- `castribba_validate_merge_their_key` meets its contract.
 use mathlib.Core.Path.{refl, ap, _∙_}
 use Rattle.verdicts.specs.declared.MergeVerdict.{MergeVerdict}
 use Rattle.promises.specs.Calls.{spentTheirs}
@@ -13,7 +13,4 @@ returns c = c .spent-theirs .ensures ∙ ap (λ (v : MergeVerdict). spentTheirs 
 pub castribba-validate-merge-their-key-spec : {M : Type 1} → statement M
 castribba-validate-merge-their-key-spec =
     tie.close
-    (tie.spec
-    (λ c κs. search needs)
-    (λ c κs. search needs)
-    returns)
+    (tie.spec (λ c κs. search needs) (λ c κs. search needs) returns)

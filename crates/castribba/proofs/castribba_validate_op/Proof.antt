@@ -1,4 +1,4 @@
--- `castribba_validate_op` meets its contract. Assumes nothing.
+-- `castribba_validate_op` meets its contract.
 use mathlib.Core.Path.{refl, ap, _∙_}
 use Prim.Native.Nat.{_*_, _^_}
 use Rattle.verdicts.specs.declared.OpVerdict.{OpVerdict}
@@ -13,7 +13,4 @@ returns c = c .word .ensures ∙ ap (λ (v : OpVerdict). v .number * 2 ^ 32) (c 
 pub castribba-validate-op-spec : {M : Type 1} → statement M
 castribba-validate-op-spec =
     tie.close
-    (tie.spec
-    (λ c κs. search needs)
-    (λ c κs. search needs)
-    returns)
+    (tie.spec (λ c κs. search needs) (λ c κs. search needs) returns)

@@ -1,4 +1,4 @@
--- `castribba_validate_op_end` meets its contract. Assumes nothing.
+-- `castribba_validate_op_end` meets its contract.
 use mathlib.Core.Path.{ap, _∙_}
 use Rattle.verdicts.specs.declared.OpVerdict.{OpVerdict}
 use Rattle.asking.specs.Asking.{orderEnd}
@@ -13,7 +13,4 @@ returns c = c .order-end .ensures ∙ ap (λ (v : OpVerdict). orderEnd (v .order
 pub castribba-validate-op-end-spec : {M : Type 1} → statement M
 castribba-validate-op-end-spec =
     tie.close
-    (tie.spec
-    (λ c κs. search needs)
-    (λ c κs. search needs)
-    returns)
+    (tie.spec (λ c κs. search needs) (λ c κs. search needs) returns)

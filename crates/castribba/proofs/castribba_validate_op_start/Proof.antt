@@ -1,4 +1,4 @@
--- `castribba_validate_op_start` meets its contract. Assumes nothing.
+-- `castribba_validate_op_start` meets its contract.
 use mathlib.Core.Path.{ap, _∙_}
 use Rattle.verdicts.specs.declared.OpVerdict.{OpVerdict}
 use Rattle.asking.specs.Asking.{orderStart}
@@ -13,7 +13,4 @@ returns c = c .order-start .ensures ∙ ap (λ (v : OpVerdict). orderStart (v .o
 pub castribba-validate-op-start-spec : {M : Type 1} → statement M
 castribba-validate-op-start-spec =
     tie.close
-    (tie.spec
-    (λ c κs. search needs)
-    (λ c κs. search needs)
-    returns)
+    (tie.spec (λ c κs. search needs) (λ c κs. search needs) returns)

@@ -1,4 +1,4 @@
--- `apply` meets its contract: each way out is a law of `Ways`. Assumes nothing.
+-- `apply` meets its contract: each way out is a law of `Ways`.
 use mathlib.Core.Path.{ap, sym, _∙_}
 use Rattle.map.specs.Judging.{judged}
 use Rattle.map.specs.Applying.{apply}
@@ -48,16 +48,5 @@ returns-4 f =
 pub apply-spec : {M : Type 1} → statement M
 apply-spec =
     tie.close
-    (tie.spec
-    (λ c κs. search needs)
-    (λ c κs. search needs)
-    returns
-    (λ c κs. search needs)
-    (λ c κs. search needs)
-    returns-2
-    update-by-requires
-    (λ c. search needs)
-    returns-3
-    remove-by-requires
-    (λ c. search needs)
-    returns-4)
+    (tie.spec (λ c κs. search needs) (λ c κs. search needs) returns (λ c κs. search needs) (λ c κs. search needs) returns-2
+    update-by-requires (λ c. search needs) returns-3 remove-by-requires (λ c. search needs) returns-4)

@@ -1,4 +1,4 @@
--- `held_keys` meets its contract: the records behind the clock's, or none. Assumes nothing.
+-- `held_keys` meets its contract: the records behind the clock's, or none.
 use mathlib.Core.Path.{refl, sym, _∙_}
 use native.Mathlib.Omega.{arith}
 use Rattle.queued.proofs.Starts.{keyed-none, keyed-removal}
@@ -19,7 +19,4 @@ returns-2 f = λ r seen h e. rw (sym e ∙ f .if1 .left) (keyed-none _ 0 (omega 
 pub held-keys-spec : {M : Type 1} → statement M
 held-keys-spec =
     tie.close
-    (tie.spec
-    (λ c. let h = c .before .pre .1 in omega (arith, h .count, h .within .dots))
-    returns
-    returns-2)
+    (tie.spec (λ c. let h = c .before .pre .1 in omega (arith, h .count, h .within .dots)) returns returns-2)

@@ -1,4 +1,4 @@
--- `held_queue` meets its contract: the records behind the head, or none. Assumes nothing.
+-- `held_queue` meets its contract: the records behind the head, or none.
 use mathlib.Core.Path.{refl, sym, _∙_}
 use native.Mathlib.Omega.{arith}
 use Rattle.changing.proofs.Results.{one-queued}
@@ -17,9 +17,5 @@ returns-2 f = λ r seen h e. rw (sym e ∙ f .before .if1 .left) (f .none .ensur
 pub held-queue-spec : {M : Type 1} → statement M
 held-queue-spec =
     tie.close
-    (tie.spec
-    (λ c. let h = c .before .before .pre .1 in omega (arith, h .count, h .within .dots))
-    (λ c. search needs)
-    returns
-    (λ c κs. search needs)
-    returns-2)
+    (tie.spec (λ c. let h = c .before .before .pre .1 in omega (arith, h .count, h .within .dots)) (λ c. search needs) returns
+    (λ c κs. search needs) returns-2)

@@ -1,4 +1,4 @@
--- `merge` meets its contract: each way out is a law of `Ways`. Assumes nothing.
+-- `merge` meets its contract: each way out is a law of `Ways`.
 use mathlib.Core.Path.{refl, sym, _∙_}
 use Rattle.map.specs.Judging.{judged}
 use Rattle.map.specs.Merging.{merge}
@@ -30,13 +30,5 @@ returns-3 f =
 pub merge-spec : {M : Type 1} → statement M
 merge-spec =
     tie.close
-    (tie.spec
-    (λ c κs. search needs)
-    (λ c κs. search needs)
-    returns
-    (λ c κs. search needs)
-    (λ c κs. search needs)
-    returns-2
-    merge-with-requires
-    (λ c. search needs)
-    returns-3)
+    (tie.spec (λ c κs. search needs) (λ c κs. search needs) returns (λ c κs. search needs) (λ c κs. search needs) returns-2
+    merge-with-requires (λ c. search needs) returns-3)

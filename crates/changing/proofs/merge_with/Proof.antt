@@ -1,4 +1,4 @@
--- `merge_with` meets its contract: number 4, or the draft of a merge, finished. Assumes nothing.
+-- `merge_with` meets its contract: number 4, or the draft of a merge, finished.
 use mathlib.Core.Path.{ap₂, _∙_}
 use Rattle.clock.specs.Dots.{dotsOf, fitted, joinDots}
 use Rattle.clock.proofs.Packs.{dots-of, over-means, within-means, within-clock}
@@ -58,14 +58,5 @@ returns-2 f =
 pub merge-with-spec : {M : Type 1} → statement M
 merge-with-spec =
     tie.close
-    (tie.spec
-    (λ c κs. search needs)
-    (λ c κs. search needs)
-    returns
-    (λ c κs. search needs)
-    (λ c κs. search needs)
-    join-plan-requires
-    draw-merged-requires
-    finish-requires
-    (λ c. search needs)
-    returns-2)
+    (tie.spec (λ c κs. search needs) (λ c κs. search needs) returns (λ c κs. search needs) (λ c κs. search needs) join-plan-requires
+    draw-merged-requires finish-requires (λ c. search needs) returns-2)

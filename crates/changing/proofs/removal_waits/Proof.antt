@@ -1,4 +1,4 @@
--- `removal_waits` meets its contract, by that of the comparison. Assumes nothing.
+-- `removal_waits` meets its contract, by that of the comparison.
 use mathlib.Core.Path.{_≡_, ap₂, sym, _∙_}
 use native.Mathlib.Omega.{arith}
 use Rattle.clock.specs.Dots.{orderOf}
@@ -42,22 +42,7 @@ returns-4 c = λ r h. rw (← stands (c .before .before) r h, c .enum-told4 .giv
 pub removal-waits-spec : {M : Type 1} → statement M
 removal-waits-spec =
     tie.close
-    (tie.spec
-    (λ c. search needs)
-    (λ c. search needs)
-    (λ c. search needs)
-    (λ c. search needs)
-    (λ c. search needs)
-    (λ c. search needs)
-    (λ c. search needs)
-    (λ c. search needs)
-    (λ c. omega (arith, under-room (c .before .before .before .before .pre .1 .1)))
-    compare-runs-requires
-    (λ c. search needs)
-    (λ c. search needs)
-    (λ c. search needs)
-    (λ c. search needs)
-    returns
-    returns-2
-    returns-3
+    (tie.spec (λ c. search needs) (λ c. search needs) (λ c. search needs) (λ c. search needs) (λ c. search needs) (λ c. search needs)
+    (λ c. search needs) (λ c. search needs) (λ c. omega (arith, under-room (c .before .before .before .before .pre .1 .1)))
+    compare-runs-requires (λ c. search needs) (λ c. search needs) (λ c. search needs) (λ c. search needs) returns returns-2 returns-3
     returns-4)

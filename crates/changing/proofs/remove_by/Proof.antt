@@ -1,4 +1,4 @@
--- `remove_by` meets its contract: the draft of a removal, finished. Assumes nothing.
+-- `remove_by` meets its contract: the draft of a removal, finished.
 use mathlib.Core.Path.{_≡_, ap, sym, _∙_}
 use mathlib.Core.List.{[]}
 use Rattle.clock.specs.declared.Clock.{Clock}
@@ -64,15 +64,5 @@ returns f =
 pub remove-by-spec : {M : Type 1} → statement M
 remove-by-spec =
     tie.close
-    (tie.spec
-    (λ c κs. search needs)
-    removal-waits-requires
-    (λ c κs. search needs)
-    held-queue-requires
-    held-keys-requires
-    (λ c κs. search needs)
-    join-plan-requires
-    draw-removed-requires
-    finish-requires
-    (λ c. search needs)
-    returns)
+    (tie.spec (λ c κs. search needs) removal-waits-requires (λ c κs. search needs) held-queue-requires held-keys-requires
+    (λ c κs. search needs) join-plan-requires draw-removed-requires finish-requires (λ c. search needs) returns)

@@ -1,4 +1,4 @@
--- `reset_by` meets its contract: the draft of a reset, finished. Assumes nothing.
+-- `reset_by` meets its contract: the draft of a reset, finished.
 use Rattle.clock.proofs.Packs.{cut-left}
 use Rattle.changing.proofs.Results.{answered, reset-laid, reset-draft, map-short}
 use borrow.Author.Needs.{needs}
@@ -26,11 +26,5 @@ returns f =
 pub reset-by-spec : {M : Type 1} → statement M
 reset-by-spec =
     tie.close
-    (tie.spec
-    (λ c κs. search needs)
-    (λ c κs. search needs)
-    reset-plan-requires
-    draw-reset-requires
-    finish-requires
-    (λ c. search needs)
+    (tie.spec (λ c κs. search needs) (λ c κs. search needs) reset-plan-requires draw-reset-requires finish-requires (λ c. search needs)
     returns)

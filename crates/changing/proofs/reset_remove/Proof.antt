@@ -1,4 +1,4 @@
--- `reset_remove` meets its contract: each way out is a law of `Ways`. Assumes nothing.
+-- `reset_remove` meets its contract: each way out is a law of `Ways`.
 use mathlib.Core.Path.{ap, sym, _∙_}
 use Rattle.clock.specs.Dots.{dotsOf}
 use Rattle.clockimage.specs.declared.ReadClock.{ReadClock}
@@ -36,13 +36,5 @@ returns-3 f =
 pub reset-remove-spec : {M : Type 1} → statement M
 reset-remove-spec =
     tie.close
-    (tie.spec
-    (λ c κs. search needs)
-    (λ c κs. search needs)
-    returns
-    (λ c κs. search needs)
-    (λ c κs. search needs)
-    returns-2
-    reset-by-requires
-    (λ c. search needs)
-    returns-3)
+    (tie.spec (λ c κs. search needs) (λ c κs. search needs) returns (λ c κs. search needs) (λ c κs. search needs) returns-2
+    reset-by-requires (λ c. search needs) returns-3)

@@ -1,4 +1,4 @@
--- `same` meets its contract: the image of a map that was read is its own. Assumes nothing.
+-- `same` meets its contract: the image of a map that was read is its own.
 use mathlib.Core.Path.{refl, ap}
 use lib.ListN.{length}
 use native.Mathlib.Omega.{arith}
@@ -27,9 +27,4 @@ returns-2 f =
 pub same-spec : {M : Type 1} → statement M
 same-spec =
     tie.close
-    (tie.spec
-    (λ c κs. search needs)
-    returns
-    (λ c κs. search needs)
-    (λ c. search needs)
-    returns-2)
+    (tie.spec (λ c κs. search needs) returns (λ c κs. search needs) (λ c. search needs) returns-2)

@@ -1,4 +1,4 @@
--- `update_by` meets its contract: the map as it was, number 4, or the draft of an update, finished. Assumes nothing.
+-- `update_by` meets its contract: the map as it was, number 4, or the draft of an update, finished.
 use mathlib.Core.Path.{ap, _∙_}
 use native.Mathlib.Omega.{arith}
 use Rattle.clock.specs.Dots.{dotsOf, fitted, counterIn, addDot}
@@ -73,18 +73,6 @@ returns-3 f =
 pub update-by-spec : {M : Type 1} → statement M
 update-by-spec =
     tie.close
-    (tie.spec
-    (λ c κs. search needs)
-    (λ c κs. search needs)
-    (λ c. search needs)
-    returns
-    (λ c κs. search needs)
-    (λ c κs. search needs)
-    returns-2
-    (λ c κs. search needs)
-    (λ c κs. search needs)
-    join-plan-requires
-    draw-updated-requires
-    finish-requires
-    (λ c. search needs)
+    (tie.spec (λ c κs. search needs) (λ c κs. search needs) (λ c. search needs) returns (λ c κs. search needs) (λ c κs. search needs)
+    returns-2 (λ c κs. search needs) (λ c κs. search needs) join-plan-requires draw-updated-requires finish-requires (λ c. search needs)
     returns-3)

@@ -1,4 +1,4 @@
--- `clock_with` meets its contract: a clock with room takes the dot. Assumes nothing.
+-- `clock_with` meets its contract: a clock with room takes the dot.
 use mathlib.Core.Path.{ap, sym, _∙_}
 use Prim.Native.Nat.{_<_}
 use borrow.Author.Tests.{ltb-true, lt-ltb}
@@ -26,7 +26,4 @@ returns-2 c l e room =
 pub clock-with-spec : {M : Type 1} → statement M
 clock-with-spec =
     tie.close
-    (tie.spec
-    push-requires
-    returns
-    returns-2)
+    (tie.spec push-requires returns returns-2)

@@ -1,4 +1,4 @@
--- `write_clock` meets its contract. Assumes nothing.
+-- `write_clock` meets its contract.
 use lib.ListN.{length-map}
 use Rattle.clock.specs.Dots.{dotsOf}
 use Rattle.clockimage.specs.Image.{dotRecord, dotRecords}
@@ -16,7 +16,4 @@ write-dots-requires c κs =
 pub write-clock-spec : {M : Type 1} → statement M
 write-clock-spec =
     tie.close
-    (tie.spec
-    write-dots-requires
-    (λ c. search needs)
-    (λ c. search needs))
+    (tie.spec write-dots-requires (λ c. search needs) (λ c. search needs))

@@ -1,4 +1,4 @@
--- `compare_runs` meets its contract: the loop walks both runs side by side, and keeps what each covers of the other. Assumes nothing.
+-- `compare_runs` meets its contract: the loop walks both runs side by side, and keeps what each covers of the other.
 use mathlib.Core.Path.{_≡_, refl, ap, ap₂, sym, _∙_, subst}
 use mathlib.Core.Bool.{Bool, true, false, _&&_}
 use mathlib.Core.List.{List}
@@ -236,29 +236,7 @@ returns-5 c =
 pub compare-runs-spec : {M : Type 1} → statement M
 compare-runs-spec =
     tie.close
-    (tie.spec
-    Inv-loop
-    μ-loop
-    loop-holds
-    (λ c κs. search needs)
-    (λ c κs. omega (arith, ltb-true))
-    returns
-    (λ c. search needs)
-    (λ c. omega (arith, ltb-true))
-    loop-again
-    returns-2
-    (λ c. search needs)
-    (λ c. omega (arith, ltb-true))
-    loop-again-2
-    (λ c. search needs)
-    (λ c. search needs)
-    returns-3
-    (λ c. omega (arith, ltb-true))
-    loop-again-3
-    returns-4
-    (λ c. omega (arith, ltb-true))
-    loop-again-4
-    (λ c. omega (arith, ltb-true))
-    loop-again-5
-    (λ c κs. search needs)
-    returns-5)
+    (tie.spec Inv-loop μ-loop loop-holds (λ c κs. search needs) (λ c κs. omega (arith, ltb-true)) returns (λ c. search needs)
+    (λ c. omega (arith, ltb-true)) loop-again returns-2 (λ c. search needs) (λ c. omega (arith, ltb-true)) loop-again-2 (λ c. search needs)
+    (λ c. search needs) returns-3 (λ c. omega (arith, ltb-true)) loop-again-3 returns-4 (λ c. omega (arith, ltb-true)) loop-again-4
+    (λ c. omega (arith, ltb-true)) loop-again-5 (λ c κs. search needs) returns-5)

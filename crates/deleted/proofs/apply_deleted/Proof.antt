@@ -1,4 +1,4 @@
--- `apply_deleted` meets its contract: each way out is a law of `Ways`. Assumes nothing.
+-- `apply_deleted` meets its contract: each way out is a law of `Ways`.
 use mathlib.Core.Path.{ap, sym, _∙_}
 use Rattle.map.specs.Judging.{judged}
 use Rattle.map.specs.Applying.{apply}
@@ -47,11 +47,4 @@ returns-4 c =
 pub apply-deleted-spec : {M : Type 1} → statement M
 apply-deleted-spec =
     tie.close
-    (tie.spec
-    (λ c κs. search needs)
-    returns
-    (λ c κs. search needs)
-    returns-2
-    returns-3
-    removal-deleted-requires
-    returns-4)
+    (tie.spec (λ c κs. search needs) returns (λ c κs. search needs) returns-2 returns-3 removal-deleted-requires returns-4)

@@ -1,4 +1,4 @@
--- `fewer` meets its contract: by the number of the call beside it, and by the sums over what is drawn. Assumes nothing.
+-- `fewer` meets its contract: by the number of the call beside it, and by the sums over what is drawn.
 use mathlib.Core.Path.{sym, _∙_}
 use native.Mathlib.Omega.{arith}
 use borrow.Author.Needs.{needs}
@@ -57,13 +57,4 @@ returns-3 f items c l w n d e =
 pub fewer-spec : {M : Type 1} → statement M
 fewer-spec =
     tie.close
-    (tie.spec
-    weigh-requires
-    returns
-    (λ c κs. search needs)
-    add-records
-    add-records-2
-    add-records-3
-    returns-2
-    sub-result
-    returns-3)
+    (tie.spec weigh-requires returns (λ c κs. search needs) add-records add-records-2 add-records-3 returns-2 sub-result returns-3)

@@ -1,4 +1,4 @@
--- `removal_deleted` meets its contract: the draft of a removal, counted. Assumes nothing.
+-- `removal_deleted` meets its contract: the draft of a removal, counted.
 use mathlib.Core.Path.{_≡_, refl, ap, sym, _∙_}
 use mathlib.Core.List.{[]}
 use native.Mathlib.Omega.{arith}
@@ -87,15 +87,5 @@ returns f n e =
 pub removal-deleted-spec : {M : Type 1} → statement M
 removal-deleted-spec =
     tie.close
-    (tie.spec
-    (λ c κs. search needs)
-    removal-waits-requires
-    (λ c κs. search needs)
-    held-queue-requires
-    held-keys-requires
-    (λ c κs. search needs)
-    join-plan-requires
-    draw-removed-requires
-    sub-had
-    fewer-requires
-    returns)
+    (tie.spec (λ c κs. search needs) removal-waits-requires (λ c κs. search needs) held-queue-requires held-keys-requires
+    (λ c κs. search needs) join-plan-requires draw-removed-requires sub-had fewer-requires returns)

@@ -1,4 +1,4 @@
--- `reset_deleted` meets its contract: the draft of a reset, counted. Assumes nothing.
+-- `reset_deleted` meets its contract: the draft of a reset, counted.
 use mathlib.Core.Path.{refl}
 use native.Mathlib.Omega.{arith}
 use Rattle.clock.proofs.Packs.{cut-left}
@@ -49,11 +49,4 @@ returns f n e =
 pub reset-deleted-spec : {M : Type 1} → statement M
 reset-deleted-spec =
     tie.close
-    (tie.spec
-    (λ c κs. search needs)
-    (λ c κs. search needs)
-    reset-plan-requires
-    draw-reset-requires
-    sub-had
-    fewer-requires
-    returns)
+    (tie.spec (λ c κs. search needs) (λ c κs. search needs) reset-plan-requires draw-reset-requires sub-had fewer-requires returns)

@@ -1,4 +1,4 @@
--- `reset_remove_deleted` meets its contract: each way out is a law of `Ways`. Assumes nothing.
+-- `reset_remove_deleted` meets its contract: each way out is a law of `Ways`.
 use mathlib.Core.Path.{ap, sym, _∙_}
 use Rattle.clock.specs.Dots.{dotsOf}
 use Rattle.clockimage.specs.declared.ReadClock.{ReadClock}
@@ -47,10 +47,4 @@ returns-3 c =
 pub reset-remove-deleted-spec : {M : Type 1} → statement M
 reset-remove-deleted-spec =
     tie.close
-    (tie.spec
-    (λ c κs. search needs)
-    returns
-    (λ c κs. search needs)
-    returns-2
-    reset-deleted-requires
-    returns-3)
+    (tie.spec (λ c κs. search needs) returns (λ c κs. search needs) returns-2 reset-deleted-requires returns-3)

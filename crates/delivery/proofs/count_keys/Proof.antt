@@ -1,4 +1,4 @@
--- `count_keys` meets its contract: the least number that is left, again and again. Assumes nothing.
+-- `count_keys` meets its contract: the least number that is left, again and again.
 use mathlib.Core.Path.{_≡_, sym, _∙_}
 use mathlib.Core.Bool.{true}
 use Prim.Native.Nat.{_-_, _^_}
@@ -48,14 +48,5 @@ returns c =
 pub count-keys-spec : {M : Type 1} → statement M
 count-keys-spec =
     tie.close
-    (tie.spec
-    Inv-loop
-    μ-loop
-    (λ c κs. search needs)
-    loop-holds
-    add-total
-    (λ c. search needs)
-    (λ c κs. search needs)
-    loop-less
-    loop-again
+    (tie.spec Inv-loop μ-loop (λ c κs. search needs) loop-holds add-total (λ c. search needs) (λ c κs. search needs) loop-less loop-again
     returns)

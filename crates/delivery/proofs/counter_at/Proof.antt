@@ -1,4 +1,4 @@
--- `counter_at` meets its contract: the loop looks for the actor's dot. Assumes nothing.
+-- `counter_at` meets its contract: the loop looks for the actor's dot.
 use mathlib.Core.Path.{_≡_, refl, ap, sym, _∙_}
 use mathlib.Core.List.{_∷_}
 use Prim.Native.Nat.{_+_, _≤_, _-_}
@@ -42,17 +42,5 @@ returns-2 c =
 pub counter-at-spec : {M : Type 1} → statement M
 counter-at-spec =
     tie.close
-    (tie.spec
-    Inv-loop
-    μ-loop
-    (λ c κs. search needs)
-    (λ c. (omega arith, refl))
-    (λ c. search needs)
-    (λ c. search needs)
-    (λ c. search needs)
-    (λ c κs. search needs)
-    (λ c. search needs)
-    returns
-    (λ c. search needs)
-    loop-again
-    returns-2)
+    (tie.spec Inv-loop μ-loop (λ c κs. search needs) (λ c. (omega arith, refl)) (λ c. search needs) (λ c. search needs) (λ c. search needs)
+    (λ c κs. search needs) (λ c. search needs) returns (λ c. search needs) loop-again returns-2)

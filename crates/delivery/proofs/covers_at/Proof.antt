@@ -1,4 +1,4 @@
--- `covers_at` meets its contract: the loop looks for a dot beyond the clock. Assumes nothing.
+-- `covers_at` meets its contract: the loop looks for a dot beyond the clock.
 use mathlib.Core.Path.{_≡_, refl, ap, sym, _∙_}
 use mathlib.Core.List.{_∷_}
 use Prim.Native.Nat.{_+_, _≤_, _-_}
@@ -46,18 +46,5 @@ returns-2 c =
 pub covers-at-spec : {M : Type 1} → statement M
 covers-at-spec =
     tie.close
-    (tie.spec
-    Inv-loop
-    μ-loop
-    (λ c κs. search needs)
-    (λ c. (omega arith, refl))
-    (λ c. search needs)
-    (λ c. search needs)
-    (λ c. search needs)
-    (λ c κs. search needs)
-    (λ c. search needs)
-    (λ c κs. search needs)
-    returns
-    (λ c. search needs)
-    loop-again
-    returns-2)
+    (tie.spec Inv-loop μ-loop (λ c κs. search needs) (λ c. (omega arith, refl)) (λ c. search needs) (λ c. search needs) (λ c. search needs)
+    (λ c κs. search needs) (λ c. search needs) (λ c κs. search needs) returns (λ c. search needs) loop-again returns-2)

@@ -1,4 +1,4 @@
--- `end` meets its contract: each way out is a law of `Ends`. Assumes nothing.
+-- `end` meets its contract: each way out is a law of `Ends`.
 use mathlib.Core.Path.{_≡_, sym, _∙_}
 use Rattle.delivery.specs.Delivery.{endNumber}
 use Rattle.delivery.proofs.Ends.{end-closed, end-refused, end-short, end-writes}
@@ -33,18 +33,6 @@ returns-4 c =
 pub end-spec : {M : Type 1} → statement M
 end-spec =
     tie.close
-    (tie.spec
-    (λ c. search needs)
-    (λ c κs. search needs)
-    returns
-    (λ c κs. search needs)
-    (λ c κs. search needs)
-    (λ c κs. search needs)
-    returns-2
-    (λ c κs. search needs)
-    (λ c κs. search needs)
-    returns-3
-    (λ c κs. search needs)
-    (λ c κs. search needs)
-    (λ c. search needs)
+    (tie.spec (λ c. search needs) (λ c κs. search needs) returns (λ c κs. search needs) (λ c κs. search needs) (λ c κs. search needs)
+    returns-2 (λ c κs. search needs) (λ c κs. search needs) returns-3 (λ c κs. search needs) (λ c κs. search needs) (λ c. search needs)
     returns-4)

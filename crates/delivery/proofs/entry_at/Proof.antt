@@ -1,4 +1,4 @@
--- `entry_at` meets its contract. Assumes nothing.
+-- `entry_at` meets its contract.
 use borrow.Author.Needs.{needs}
 use Rattle.delivery.proofs.entry_at.Statement.{statement}
 use Rattle.delivery.proofs.entry_at.Tie as tie
@@ -9,11 +9,5 @@ returns c = λ i. record { key = c .before .before .read32 .ensures i; clock = c
 pub entry-at-spec : {M : Type 1} → statement M
 entry-at-spec =
     tie.close
-    (tie.spec
-    (λ c. search needs)
-    (λ c. search needs)
-    (λ c κs. search needs)
-    (λ c. search needs)
-    (λ c κs. search needs)
-    (λ c κs. search needs)
-    returns)
+    (tie.spec (λ c. search needs) (λ c. search needs) (λ c κs. search needs) (λ c. search needs) (λ c κs. search needs)
+    (λ c κs. search needs) returns)

@@ -1,4 +1,4 @@
--- `image_length` meets its contract. Assumes nothing.
+-- `image_length` meets its contract.
 use Rattle.delivery.proofs.Lengths.{length-image}
 use borrow.Author.Needs.{needs}
 use native.Mathlib.Omega.{arith}
@@ -11,13 +11,5 @@ returns c = omega (arith, length-image (c .before .before .before .before .args 
 pub image-length-spec : {M : Type 1} → statement M
 image-length-spec =
     tie.close
-    (tie.spec
-    (λ c κs. search needs)
-    (λ c κs. search needs)
-    (λ c κs. search needs)
-    (λ c κs. search needs)
-    (λ c. search needs)
-    (λ c. search needs)
-    (λ c. search needs)
-    (λ c. search needs)
-    returns)
+    (tie.spec (λ c κs. search needs) (λ c κs. search needs) (λ c κs. search needs) (λ c κs. search needs) (λ c. search needs)
+    (λ c. search needs) (λ c. search needs) (λ c. search needs) returns)

@@ -1,4 +1,4 @@
--- `least` meets its contract: the loop holds each removal against the least so far. Assumes nothing.
+-- `least` meets its contract: the loop holds each removal against the least so far.
 use mathlib.Core.Path.{ap}
 use Prim.Native.Nat.{_≤_, _-_, _^_}
 use lib.ListN.{drop}
@@ -38,13 +38,5 @@ returns c =
 pub least-spec : {M : Type 1} → statement M
 least-spec =
     tie.close
-    (tie.spec
-    Inv-loop
-    μ-loop
-    (λ c κs. search needs)
-    loop-holds
-    (λ c κs. search needs)
-    (λ c. search needs)
-    (λ c. search needs)
-    loop-again
+    (tie.spec Inv-loop μ-loop (λ c κs. search needs) loop-holds (λ c κs. search needs) (λ c. search needs) (λ c. search needs) loop-again
     returns)

@@ -1,4 +1,4 @@
--- `number_of` meets its contract: the first number that is not 0. Assumes nothing.
+-- `number_of` meets its contract: the first number that is not 0.
 use mathlib.Core.Path.{_≡_, ap, sym, _∙_}
 use mathlib.Core.Bool.{cond}
 use Rattle.records.specs.Bytes.{numAt}
@@ -36,14 +36,5 @@ returns-4 c = let f = fine (c .before) in number-of-all _ (f .0) (f .1) (ap (λ 
 pub number-of-spec : {M : Type 1} → statement M
 number-of-spec =
     tie.close
-    (tie.spec
-    (λ c κs. search needs)
-    (λ c. search needs)
-    (λ c κs. search needs)
-    returns
-    (λ c. search needs)
-    (λ c κs. search needs)
-    returns-2
-    (λ c κs. search needs)
-    returns-3
-    returns-4)
+    (tie.spec (λ c κs. search needs) (λ c. search needs) (λ c κs. search needs) returns (λ c. search needs) (λ c κs. search needs) returns-2
+    (λ c κs. search needs) returns-3 returns-4)

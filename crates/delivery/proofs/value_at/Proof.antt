@@ -1,4 +1,4 @@
--- `value_at` meets its contract. Assumes nothing.
+-- `value_at` meets its contract.
 use borrow.Author.Needs.{needs}
 use Rattle.delivery.proofs.value_at.Statement.{statement}
 use Rattle.delivery.proofs.value_at.Tie as tie
@@ -9,11 +9,5 @@ returns c = rw (c .read16 .ensures, c .before .before .clock-at .ensures, c .bef
 pub value-at-spec : {M : Type 1} → statement M
 value-at-spec =
     tie.close
-    (tie.spec
-    (λ c κs. search needs)
-    (λ c. search needs)
-    (λ c κs. search needs)
-    (λ c. search needs)
-    (λ c. search needs)
-    (λ c κs. search needs)
-    returns)
+    (tie.spec (λ c κs. search needs) (λ c. search needs) (λ c κs. search needs) (λ c. search needs) (λ c. search needs)
+    (λ c κs. search needs) returns)

@@ -1,4 +1,4 @@
--- `whole_at` meets its contract. Assumes nothing.
+-- `whole_at` meets its contract.
 use mathlib.Core.Path.{ap, ap₂, sym, _∙_}
 use mathlib.Core.Bool.{_&&_}
 use Rattle.clock.specs.Dots.{covers}
@@ -18,10 +18,4 @@ returns c =
 pub whole-at-spec : {M : Type 1} → statement M
 whole-at-spec =
     tie.close
-    (tie.spec
-    (λ c. search needs)
-    (λ c. search needs)
-    (λ c. search needs)
-    (λ c κs. search needs)
-    (λ c κs. search needs)
-    returns)
+    (tie.spec (λ c. search needs) (λ c. search needs) (λ c. search needs) (λ c κs. search needs) (λ c κs. search needs) returns)

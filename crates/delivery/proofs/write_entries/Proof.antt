@@ -1,4 +1,4 @@
--- `write_entries` meets its contract: one entry after the other. Assumes nothing.
+-- `write_entries` meets its contract: one entry after the other.
 use mathlib.Core.Path.{refl, ap}
 use mathlib.Core.List.{[]}
 use Prim.Native.Nat.{_≤_, _-_}
@@ -54,15 +54,5 @@ returns c =
 pub write-entries-spec : {M : Type 1} → statement M
 write-entries-spec =
     tie.close
-    (tie.spec
-    Inv-loop
-    μ-loop
-    (λ c κs. search needs)
-    loop-holds
-    (λ c κs. search needs)
-    (λ c. search needs)
-    write-entry-requires
-    (λ c. search needs)
-    loop-again
-    same-length
-    returns)
+    (tie.spec Inv-loop μ-loop (λ c κs. search needs) loop-holds (λ c κs. search needs) (λ c. search needs) write-entry-requires
+    (λ c. search needs) loop-again same-length returns)

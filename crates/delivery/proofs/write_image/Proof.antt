@@ -1,4 +1,4 @@
--- `write_image` meets its contract: one kind after the other. Assumes nothing.
+-- `write_image` meets its contract: one kind after the other.
 use mathlib.Core.Path.{_≡_, refl, ap, _∙_}
 use mathlib.Core.List.{List, [], _++_}
 use Prim.Native.Nat.{ℕ, _+_}
@@ -110,13 +110,5 @@ returns c =
 pub write-image-spec : {M : Type 1} → statement M
 write-image-spec =
     tie.close
-    (tie.spec
-    (λ c κs. search needs)
-    write-dots-requires
-    write-entries-requires
-    write-entries-requires-2
-    write-entries-requires-3
-    write-waiting-requires
-    write-waiting-keys-requires
-    same-length
-    returns)
+    (tie.spec (λ c κs. search needs) write-dots-requires write-entries-requires write-entries-requires-2 write-entries-requires-3
+    write-waiting-requires write-waiting-keys-requires same-length returns)

@@ -1,4 +1,4 @@
--- `print_all` keeps within the image: it has a whole record at each place. Assumes nothing.
+-- `print_all` keeps within the image: it has a whole record at each place.
 use mathlib.Core.Path.{_≡_}
 use Prim.Native.Nat.{_≤_, _-_, _/_}
 use lib.ListN.{length}
@@ -15,14 +15,5 @@ abbrev μ-loop : tie.MeasureT-loop
 pub print-all-spec : {M : Type 1} → statement M
 print-all-spec =
     tie.close
-    (tie.spec
-    Inv-loop
-    μ-loop
-    (λ c. search needs)
-    (λ c. search needs)
-    (λ c κs. search needs)
-    (λ c κs. search needs)
-    (λ c. search needs)
-    (λ c. search needs)
-    (λ c. search needs)
-    (λ c. tt))
+    (tie.spec Inv-loop μ-loop (λ c. search needs) (λ c. search needs) (λ c κs. search needs) (λ c κs. search needs) (λ c. search needs)
+    (λ c. search needs) (λ c. search needs) (λ c. tt))

@@ -1,4 +1,4 @@
--- `as_often` meets its contract: the loop looks for a value that stands in one more often. Assumes nothing.
+-- `as_often` meets its contract: the loop looks for a value that stands in one more often.
 use mathlib.Core.Path.{_≡_, ap, sym, _∙_}
 use mathlib.Core.Bool.{true, false, not}
 use Prim.Native.Nat.{_≤_, _-_}
@@ -41,17 +41,5 @@ returns-2 c = passing-end (c .before .loop .inv .1) (omega arith)
 pub as-often-spec : {M : Type 1} → statement M
 as-often-spec =
     tie.close
-    (tie.spec
-    Inv-loop
-    μ-loop
-    (λ c κs. search needs)
-    loop-holds
-    (λ c. search needs)
-    (λ c. search needs)
-    (λ c κs. search needs)
-    (λ c κs. search needs)
-    returns
-    (λ c. search needs)
-    (λ c. search needs)
-    loop-again
-    returns-2)
+    (tie.spec Inv-loop μ-loop (λ c κs. search needs) loop-holds (λ c. search needs) (λ c. search needs) (λ c κs. search needs)
+    (λ c κs. search needs) returns (λ c. search needs) (λ c. search needs) loop-again returns-2)

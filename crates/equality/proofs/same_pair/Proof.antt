@@ -1,4 +1,4 @@
--- `same_pair` meets its contract, by that of `compare`. Assumes nothing.
+-- `same_pair` meets its contract, by that of `compare`.
 use Rattle.equality.specs.Equality.{samePair}
 use borrow.Author.Needs.{needs}
 use Rattle.equality.proofs.same_pair.Statement.{statement}
@@ -23,13 +23,5 @@ returns-4 c = rw (← c .before .before .compare .ensures, c .enum-told4 .given 
 pub same-pair-spec : {M : Type 1} → statement M
 same-pair-spec =
     tie.close
-    (tie.spec
-    (λ c κs. search needs)
-    (λ c. search needs)
-    (λ c. search needs)
-    (λ c. search needs)
-    (λ c. search needs)
-    returns
-    returns-2
-    returns-3
-    returns-4)
+    (tie.spec (λ c κs. search needs) (λ c. search needs) (λ c. search needs) (λ c. search needs) (λ c. search needs) returns returns-2
+    returns-3 returns-4)

@@ -1,4 +1,4 @@
--- `times` meets its contract: the loop sifts the values, and only their number is kept. Assumes nothing.
+-- `times` meets its contract: the loop sifts the values, and only their number is kept.
 use mathlib.Core.Path.{refl, ap, sym, _∙_}
 use mathlib.Core.List.{[]}
 use Prim.Native.Nat.{_≤_, _-_, _+_}
@@ -40,18 +40,5 @@ returns c = (sifting-end (c .before .loop .inv .1 .1) (omega arith), omega (arit
 pub times-spec : {M : Type 1} → statement M
 times-spec =
     tie.close
-    (tie.spec
-    Inv-loop
-    μ-loop
-    (λ c κs. search needs)
-    loop-holds
-    (λ c. search needs)
-    (λ c. search needs)
-    (λ c. search needs)
-    (λ c κs. search needs)
-    (λ c. search needs)
-    (λ c. search needs)
-    loop-again
-    (λ c. search needs)
-    loop-again-2
-    returns)
+    (tie.spec Inv-loop μ-loop (λ c κs. search needs) loop-holds (λ c. search needs) (λ c. search needs) (λ c. search needs)
+    (λ c κs. search needs) (λ c. search needs) (λ c. search needs) loop-again (λ c. search needs) loop-again-2 returns)

@@ -1,4 +1,4 @@
--- `keeps` meets its contract: the loop walks both entries' clocks side by side, with both maps' clocks beside them. Assumes nothing.
+-- `keeps` meets its contract: the loop walks both entries' clocks side by side, with both maps' clocks beside them.
 use mathlib.Core.Path.{_≡_, refl}
 use mathlib.Core.Bool.{Bool, true, false, _||_}
 use mathlib.Core.Logic.{_⊎_, ⊎-elim, inl, inr}
@@ -179,29 +179,8 @@ returns c =
 pub keeps-spec : {M : Type 1} → statement M
 keeps-spec =
     tie.close
-    (tie.spec
-    Inv-loop
-    μ-loop
-    (λ c κs. search needs)
-    (λ c κs. search needs)
-    (λ c κs. search needs)
-    (λ c κs. search needs)
-    (λ c κs. search needs)
-    (λ c κs. search needs)
-    loop-holds
-    (λ c κs. search needs)
-    (λ c κs. search needs)
-    (λ c κs. search needs)
-    (λ c κs. search needs)
-    (λ c κs. search needs)
-    (λ c. omega (arith, room-keep c))
-    (λ c. omega (arith, room-keep c))
-    (λ c. omega (arith, room-keep c))
-    (λ c. omega (arith, room-gone c))
-    (λ c. omega (arith, room-gone c))
-    (λ c. omega (arith, room-gone c))
-    (λ c. less (c .before .before))
-    loop-again
-    (λ c. less (c .before .before))
-    loop-again-2
-    returns)
+    (tie.spec Inv-loop μ-loop (λ c κs. search needs) (λ c κs. search needs) (λ c κs. search needs) (λ c κs. search needs)
+    (λ c κs. search needs) (λ c κs. search needs) loop-holds (λ c κs. search needs) (λ c κs. search needs) (λ c κs. search needs)
+    (λ c κs. search needs) (λ c κs. search needs) (λ c. omega (arith, room-keep c)) (λ c. omega (arith, room-keep c))
+    (λ c. omega (arith, room-keep c)) (λ c. omega (arith, room-gone c)) (λ c. omega (arith, room-gone c)) (λ c. omega (arith, room-gone c))
+    (λ c. less (c .before .before)) loop-again (λ c. less (c .before .before)) loop-again-2 returns)

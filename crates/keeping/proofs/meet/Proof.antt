@@ -1,4 +1,4 @@
--- `meet` meets its contract: what the two clocks have at their places decides. Assumes nothing.
+-- `meet` meets its contract: what the two clocks have at their places decides.
 use mathlib.Core.Path.{sym, _∙_}
 use borrow.Author.Tests.{lt-ltb, le-ltb}
 use Rattle.clock.specs.Dots.{noDot, dotsOf}
@@ -79,22 +79,6 @@ returns-6 c =
 pub meet-spec : {M : Type 1} → statement M
 meet-spec =
     tie.close
-    (tie.spec
-    (λ c. search needs)
-    (λ c. search needs)
-    (λ c. search needs)
-    (λ c. search needs)
-    (λ c κs. omega arith)
-    returns
-    (λ c κs. omega arith)
-    returns-2
-    (λ c. search needs)
-    (λ c. search needs)
-    returns-3
-    (λ c κs. omega arith)
-    returns-4
-    (λ c. search needs)
-    (λ c. search needs)
-    (λ c κs. omega arith)
-    returns-5
-    returns-6)
+    (tie.spec (λ c. search needs) (λ c. search needs) (λ c. search needs) (λ c. search needs) (λ c κs. omega arith) returns
+    (λ c κs. omega arith) returns-2 (λ c. search needs) (λ c. search needs) returns-3 (λ c κs. omega arith) returns-4 (λ c. search needs)
+    (λ c. search needs) (λ c κs. omega arith) returns-5 returns-6)

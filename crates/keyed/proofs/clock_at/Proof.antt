@@ -1,4 +1,4 @@
--- `clock_at` meets its contract: the run of the entry's dots is its clock. Assumes nothing.
+-- `clock_at` meets its contract: the run of the entry's dots is its clock.
 use mathlib.Core.Path.{ap, _∙_}
 use borrow.Author.Needs.{needs}
 use Rattle.clock.specs.Dots.{clockOf}
@@ -16,12 +16,5 @@ returns c = c .clock-of .ensures ∙ entry-clock (c .before .before .before .bef
 pub clock-at-spec : {M : Type 1} → statement M
 clock-at-spec =
     tie.close
-    (tie.spec
-    (λ c κs. search needs)
-    (λ c. search needs)
-    (λ c. search needs)
-    (λ c. search needs)
-    (λ c. search needs)
-    (λ c. search needs)
-    clock-of-requires
-    returns)
+    (tie.spec (λ c κs. search needs) (λ c. search needs) (λ c. search needs) (λ c. search needs) (λ c. search needs) (λ c. search needs)
+    clock-of-requires returns)

@@ -1,4 +1,4 @@
--- `key_span` meets its contract: the two searches find the records of the key's entry. Assumes nothing.
+-- `key_span` meets its contract: the two searches find the records of the key's entry.
 use native.Mathlib.Omega.{arith}
 use borrow.Author.Needs.{needs}
 use Rattle.keyed.proofs.Entry.{key-part}
@@ -15,8 +15,4 @@ returns c =
 pub key-span-spec : {M : Type 1} → statement M
 key-span-spec =
     tie.close
-    (tie.spec
-    (λ c κs. search needs)
-    (λ c. search needs)
-    (λ c κs. search needs)
-    returns)
+    (tie.spec (λ c κs. search needs) (λ c. search needs) (λ c κs. search needs) returns)

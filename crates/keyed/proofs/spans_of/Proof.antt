@@ -1,4 +1,4 @@
--- `spans_of` meets its contract: each section is that of the map's entries. Assumes nothing.
+-- `spans_of` meets its contract: each section is that of the map's entries.
 use borrow.Author.Needs.{needs}
 use Rattle.keyed.proofs.Entry.{entry-lies}
 use Rattle.keyed.proofs.spans_of.Statement.{statement}
@@ -10,8 +10,4 @@ returns c = entry-lies (c .before .before .before .before .pre) _ (c .before .be
 pub spans-of-spec : {M : Type 1} → statement M
 spans-of-spec =
     tie.close
-    (tie.spec
-    (λ c κs. search needs)
-    (λ c κs. search needs)
-    (λ c κs. search needs)
-    returns)
+    (tie.spec (λ c κs. search needs) (λ c κs. search needs) (λ c κs. search needs) returns)

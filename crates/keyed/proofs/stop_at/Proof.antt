@@ -1,4 +1,4 @@
--- `stop_at` meets its contract: the search behind the first key ends where the next entry begins. Assumes nothing.
+-- `stop_at` meets its contract: the search behind the first key ends where the next entry begins.
 use borrow.Author.Needs.{needs}
 use Rattle.keyed.proofs.Walks.{stops}
 use Rattle.keyed.proofs.stop_at.Statement.{statement}
@@ -19,16 +19,5 @@ returns c =
 pub stop-at-spec : {M : Type 1} → statement M
 stop-at-spec =
     tie.close
-    (tie.spec
-    (λ c. search needs)
-    (λ c κs. search needs)
-    (λ c. search needs)
-    (λ c. search needs)
-    (λ c κs. search needs)
-    (λ c. search needs)
-    (λ c. search needs)
-    (λ c. search needs)
-    (λ c. search needs)
-    (λ c. search needs)
-    clock-of-requires
-    returns)
+    (tie.spec (λ c. search needs) (λ c κs. search needs) (λ c. search needs) (λ c. search needs) (λ c κs. search needs) (λ c. search needs)
+    (λ c. search needs) (λ c. search needs) (λ c. search needs) (λ c. search needs) clock-of-requires returns)

@@ -1,4 +1,4 @@
--- `draw_values` meets its contract: a value a turn. Assumes nothing.
+-- `draw_values` meets its contract: a value a turn.
 use mathlib.Core.Path.{_≡_, refl, ap, _∙_}
 use mathlib.Core.Bool.{cond}
 use mathlib.Core.List.{List, [], _∷_, _++_}
@@ -153,27 +153,6 @@ returns c =
 pub draw-values-spec : {M : Type 1} → statement M
 draw-values-spec =
     tie.close
-    (tie.spec
-    Inv-loop
-    μ-loop
-    stay-whole-requires
-    sub-n
-    loop-holds
-    (λ c. search needs)
-    (λ c. search needs)
-    source-of-requires
-    sub-many
-    (λ c. search needs)
-    some-marks-requires
-    (λ c. search needs)
-    (λ c. search needs)
-    element-set-from-one
-    (λ c. search needs)
-    loop-again
-    (λ c. search needs)
-    loop-again-2
-    (λ c. search needs)
-    loop-again-3
-    (λ c. search needs)
-    loop-again-4
-    returns)
+    (tie.spec Inv-loop μ-loop stay-whole-requires sub-n loop-holds (λ c. search needs) (λ c. search needs) source-of-requires sub-many
+    (λ c. search needs) some-marks-requires (λ c. search needs) (λ c. search needs) element-set-from-one (λ c. search needs) loop-again
+    (λ c. search needs) loop-again-2 (λ c. search needs) loop-again-3 (λ c. search needs) loop-again-4 returns)

@@ -1,4 +1,4 @@
--- `marks_left` meets its contract: nothing is cut, or three cuts, one after the other. Assumes nothing.
+-- `marks_left` meets its contract: nothing is cut, or three cuts, one after the other.
 use mathlib.Core.Path.{ap, sym, _∙_}
 use native.Mathlib.Omega.{arith}
 use borrow.Author.Needs.{needs}

@@ -1,4 +1,4 @@
--- `own_clock` meets its contract: every dot of the run is picked. Assumes nothing.
+-- `own_clock` meets its contract: every dot of the run is picked.
 use mathlib.Core.Path.{ap, _∙_}
 use borrow.Author.Needs.{needs}
 use Rattle.clock.specs.Dots.{clockOf}
@@ -18,11 +18,5 @@ returns c = λ e h. c .pick-clock .ensures ∙ ap clockOf (ap (picked _) (own-ru
 pub own-clock-spec : {M : Type 1} → statement M
 own-clock-spec =
     tie.close
-    (tie.spec
-    (λ c. search needs)
-    (λ c. search needs)
-    (λ c. search needs)
-    (λ c. search needs)
-    (λ c. search needs)
-    pick-clock-requires
+    (tie.spec (λ c. search needs) (λ c. search needs) (λ c. search needs) (λ c. search needs) (λ c. search needs) pick-clock-requires
     returns)

@@ -1,4 +1,4 @@
--- `own_left` meets its contract: the dots that are left are picked. Assumes nothing.
+-- `own_left` meets its contract: the dots that are left are picked.
 use mathlib.Core.Path.{ap, _∙_}
 use borrow.Author.Needs.{needs}
 use Rattle.clock.specs.Dots.{clockOf, cutDots}
@@ -24,15 +24,5 @@ returns c = λ e h. c .pick-clock .ensures ∙ ap clockOf (c .before .before .cu
 pub own-left-spec : {M : Type 1} → statement M
 own-left-spec =
     tie.close
-    (tie.spec
-    (λ c. search needs)
-    (λ c. search needs)
-    (λ c. search needs)
-    (λ c. search needs)
-    (λ c. search needs)
-    cut-marks-requires
-    (λ c. search needs)
-    (λ c. search needs)
-    (λ c. search needs)
-    pick-clock-requires
-    returns)
+    (tie.spec (λ c. search needs) (λ c. search needs) (λ c. search needs) (λ c. search needs) (λ c. search needs) cut-marks-requires
+    (λ c. search needs) (λ c. search needs) (λ c. search needs) pick-clock-requires returns)

@@ -1,4 +1,4 @@
--- `source_of` meets its contract: the run of the value's dots, cut. Assumes nothing.
+-- `source_of` meets its contract: the run of the value's dots, cut.
 use mathlib.Core.Path.{refl, ap, _∙_}
 use native.Mathlib.Omega.{arith}
 use borrow.Author.Needs.{needs}
@@ -105,20 +105,5 @@ returns c =
 pub source-of-spec : {M : Type 1} → statement M
 source-of-spec =
     tie.close
-    (tie.spec
-    (λ c. search needs)
-    (λ c. search needs)
-    (λ c. search needs)
-    (λ c. search needs)
-    (λ c. search needs)
-    mul-i
-    mul-j
-    sub-marks-left
-    part-marks-left-start
-    part-marks-left-end
-    marks-left-requires
-    add-place
-    cast-t31
-    cast-t32
-    cast-t33
-    returns)
+    (tie.spec (λ c. search needs) (λ c. search needs) (λ c. search needs) (λ c. search needs) (λ c. search needs) mul-i mul-j sub-marks-left
+    part-marks-left-start part-marks-left-end marks-left-requires add-place cast-t31 cast-t32 cast-t33 returns)

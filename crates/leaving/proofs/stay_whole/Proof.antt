@@ -1,4 +1,4 @@
--- `stay_whole` meets its contract. Assumes nothing.
+-- `stay_whole` meets its contract.
 use mathlib.Core.Path.{sym, _∙_}
 use borrow.Author.Needs.{needs}
 use borrow.Author.Tests.{not-true}

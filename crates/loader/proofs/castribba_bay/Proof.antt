@@ -1,4 +1,4 @@
--- `castribba_bay` meets its contract: each way out is a law of `Answers`. Assumes nothing.
+-- `castribba_bay` meets its contract: each way out is a law of `Answers`.
 use mathlib.Core.Path.{refl, ap, sym, _∙_}
 use mathlib.Core.Bool.{cond}
 use Prim.Native.Nat.{ℕ}
@@ -46,16 +46,5 @@ returns-4 c =
 pub castribba-bay-spec : {M : Type 1} → statement M
 castribba-bay-spec =
     tie.close
-    (tie.spec
-    (λ c κs. search needs)
-    (λ c κs. search needs)
-    returns
-    (λ c κs. search needs)
-    (λ c κs. search needs)
-    returns-2
-    (λ c κs. search needs)
-    returns-3
-    report-at-requires
-    (λ c κs. search needs)
-    (λ c. search needs)
-    returns-4)
+    (tie.spec (λ c κs. search needs) (λ c κs. search needs) returns (λ c κs. search needs) (λ c κs. search needs) returns-2
+    (λ c κs. search needs) returns-3 report-at-requires (λ c κs. search needs) (λ c. search needs) returns-4)

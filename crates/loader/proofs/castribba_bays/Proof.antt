@@ -1,4 +1,4 @@
--- `castribba_bays` meets its contract: each way out is a law of `Answers`. Assumes nothing.
+-- `castribba_bays` meets its contract: each way out is a law of `Answers`.
 use mathlib.Core.Path.{refl, sym, _∙_}
 use denote.Ref.{now}
 use Rattle.maprecords.specs.Related.{readMap}
@@ -37,12 +37,5 @@ returns-3 c =
 pub castribba-bays-spec : {M : Type 1} → statement M
 castribba-bays-spec =
     tie.close
-    (tie.spec
-    (λ c κs. search needs)
-    (λ c κs. search needs)
-    returns
-    (λ c κs. search needs)
-    returns-2
-    write-reports-requires
-    (λ c. search needs)
-    returns-3)
+    (tie.spec (λ c κs. search needs) (λ c κs. search needs) returns (λ c κs. search needs) returns-2 write-reports-requires
+    (λ c. search needs) returns-3)

@@ -1,4 +1,4 @@
--- `choose` meets its contract: a value that is below no other is reported, one a turn. Assumes nothing.
+-- `choose` meets its contract: a value that is below no other is reported, one a turn.
 use mathlib.Core.Path.{_≡_, refl, ap, sym, _∙_}
 use mathlib.Core.Bool.{true, false, not}
 use mathlib.Core.List.{List, _∷_, [], _++_}
@@ -106,18 +106,5 @@ returns c = λ l h.
 pub choose-spec : {M : Type 1} → statement M
 choose-spec =
     tie.close
-    (tie.spec
-    Inv-loop
-    μ-loop
-    (λ c. search needs)
-    starts-of-requires
-    loop-holds
-    (λ c. search needs)
-    is-below-requires
-    number-at-requires
-    with-value-requires
-    (λ c. search needs)
-    loop-again
-    (λ c. search needs)
-    loop-again-2
-    returns)
+    (tie.spec Inv-loop μ-loop (λ c. search needs) starts-of-requires loop-holds (λ c. search needs) is-below-requires number-at-requires
+    with-value-requires (λ c. search needs) loop-again (λ c. search needs) loop-again-2 returns)

@@ -1,4 +1,4 @@
--- `is_below` meets its contract: the loop looks for a value whose clock is above. Assumes nothing.
+-- `is_below` meets its contract: the loop looks for a value whose clock is above.
 use mathlib.Core.Path.{_≡_, ap, ap₂, sym, _∙_}
 use mathlib.Core.Bool.{Bool, true, false}
 use mathlib.Core.List.{List}
@@ -92,34 +92,15 @@ returns-2 c = λ l r. rw (take-length l) at (passing-end (c .before .loop .inv .
 pub is-below-spec : {M : Type 1} → statement M
 is-below-spec =
     tie.close
-    (tie.spec
-    Inv-loop
-    μ-loop
+    (tie.spec Inv-loop μ-loop (λ c. omega (arith, placed (c .before .pre .1 .1) (c .before .args .k) (c .before .pre .0)))
     (λ c. omega (arith, placed (c .before .pre .1 .1) (c .before .args .k) (c .before .pre .0)))
     (λ c. omega (arith, placed (c .before .pre .1 .1) (c .before .args .k) (c .before .pre .0)))
     (λ c. omega (arith, placed (c .before .pre .1 .1) (c .before .args .k) (c .before .pre .0)))
     (λ c. omega (arith, placed (c .before .pre .1 .1) (c .before .args .k) (c .before .pre .0)))
     (λ c. omega (arith, placed (c .before .pre .1 .1) (c .before .args .k) (c .before .pre .0)))
-    (λ c. omega (arith, placed (c .before .pre .1 .1) (c .before .args .k) (c .before .pre .0)))
-    (λ c. omega (arith, placed (c .before .pre .1 .1) (c .before .args .k) (c .before .pre .0)))
-    loop-holds
-    (λ c. omega (arith, theirs c))
-    (λ c. omega (arith, theirs c))
-    (λ c. omega (arith, theirs c))
-    (λ c. omega (arith, theirs c))
-    (λ c. omega (arith, theirs c))
-    (λ c. omega (arith, theirs c))
-    (λ c. omega (arith, theirs c))
-    (λ c. omega (arith, ours c))
-    (λ c. omega (arith, ours c))
-    (λ c. omega (arith, ours c))
-    (λ c. omega (arith, theirs (c .before)))
-    (λ c. omega (arith, theirs (c .before)))
-    (λ c. omega (arith, theirs (c .before)))
-    compare-runs-requires
-    (λ c. search needs)
-    (λ c κs. search needs)
-    returns
-    (λ c. search needs)
-    loop-again
-    returns-2)
+    (λ c. omega (arith, placed (c .before .pre .1 .1) (c .before .args .k) (c .before .pre .0))) loop-holds (λ c. omega (arith, theirs c))
+    (λ c. omega (arith, theirs c)) (λ c. omega (arith, theirs c)) (λ c. omega (arith, theirs c)) (λ c. omega (arith, theirs c))
+    (λ c. omega (arith, theirs c)) (λ c. omega (arith, theirs c)) (λ c. omega (arith, ours c)) (λ c. omega (arith, ours c))
+    (λ c. omega (arith, ours c)) (λ c. omega (arith, theirs (c .before))) (λ c. omega (arith, theirs (c .before)))
+    (λ c. omega (arith, theirs (c .before))) compare-runs-requires (λ c. search needs) (λ c κs. search needs) returns (λ c. search needs)
+    loop-again returns-2)

@@ -1,4 +1,4 @@
--- `number_at` meets its contract: a value's record says its number. Assumes nothing.
+-- `number_at` meets its contract: a value's record says its number.
 use mathlib.Core.Path.{ap, _∙_}
 use native.Mathlib.Omega.{arith}
 use borrow.Author.Needs.{needs}
@@ -14,9 +14,7 @@ returns c = λ key l h k. c .read64 .ensures ∙ ap (λ x. x .number) (content-t
 pub number-at-spec : {M : Type 1} → statement M
 number-at-spec =
     tie.close
-    (tie.spec
+    (tie.spec (λ c. let p = c .before .before .pre in omega (arith, inside-there (p .0) (p .1) (p .2) _ (p .3)))
     (λ c. let p = c .before .before .pre in omega (arith, inside-there (p .0) (p .1) (p .2) _ (p .3)))
     (λ c. let p = c .before .before .pre in omega (arith, inside-there (p .0) (p .1) (p .2) _ (p .3)))
-    (λ c. let p = c .before .before .pre in omega (arith, inside-there (p .0) (p .1) (p .2) _ (p .3)))
-    (λ c κs. let p = c .before .before .pre in omega (arith, inside-there (p .0) (p .1) (p .2) _ (p .3)))
-    returns)
+    (λ c κs. let p = c .before .before .pre in omega (arith, inside-there (p .0) (p .1) (p .2) _ (p .3))) returns)

@@ -1,4 +1,4 @@
--- `report_at` meets its contract. Assumes nothing.
+-- `report_at` meets its contract.
 use Rattle.loader.specs.Reports.{reportAt}
 use borrow.Author.Needs.{needs}
 use Rattle.loader.proofs.report_at.Statement.{statement}
@@ -14,7 +14,4 @@ returns c = c .choose .ensures _ (c .before .spans-of .ensures .register)
 pub report-at-spec : {M : Type 1} → statement M
 report-at-spec =
     tie.close
-    (tie.spec
-    (λ c κs. search needs)
-    choose-requires
-    returns)
+    (tie.spec (λ c κs. search needs) choose-requires returns)

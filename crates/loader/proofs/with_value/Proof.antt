@@ -1,4 +1,4 @@
--- `with_value` meets its contract: the first value, a smaller one, or another. Assumes nothing.
+-- `with_value` meets its contract: the first value, a smaller one, or another.
 use mathlib.Core.Path.{refl}
 use native.Mathlib.Omega.{arith}
 use borrow.Author.Tests.{not-true, not-false}
@@ -19,8 +19,4 @@ returns-3 c = (refl, λ l v e f. upper-more l v e f (not-false _ (c .before .bef
 pub with-value-spec : {M : Type 1} → statement M
 with-value-spec =
     tie.close
-    (tie.spec
-    (λ c. search needs)
-    returns
-    returns-2
-    returns-3)
+    (tie.spec (λ c. search needs) returns returns-2 returns-3)

@@ -1,4 +1,4 @@
--- `write_reports` meets its contract: one report after the other. Assumes nothing.
+-- `write_reports` meets its contract: one report after the other.
 use mathlib.Core.Path.{_≡_}
 use Prim.Native.Nat.{_≤_, _-_}
 use Rattle.maprecords.specs.Related.{readMap}
@@ -42,14 +42,5 @@ returns c =
 pub write-reports-spec : {M : Type 1} → statement M
 write-reports-spec =
     tie.close
-    (tie.spec
-    Inv-loop
-    μ-loop
-    loop-holds
-    (λ c. search needs)
-    (λ c κs. search needs)
-    write-report-requires
-    (λ c. search needs)
-    loop-again
-    same-length
-    returns)
+    (tie.spec Inv-loop μ-loop loop-holds (λ c. search needs) (λ c κs. search needs) write-report-requires (λ c. search needs) loop-again
+    same-length returns)

@@ -1,4 +1,4 @@
--- `begin` meets its contract. Assumes nothing.
+-- `begin` meets its contract.
 use mathlib.Core.Path.{_≡_, refl, ap, sym, _∙_}
 use mathlib.Core.List.{[], _∷_}
 use Prim.Native.Nat.{ℕ, _+_, _-_, _≤_}
@@ -65,14 +65,4 @@ returns c = let s = c .before in
 pub begin-spec : {M : Type 1} → statement M
 begin-spec =
     tie.close
-    (tie.spec
-    Inv-loop
-    μ-loop
-    put8-requires
-    loop-holds
-    add-clear
-    clear-requires
-    add-i
-    loop-less
-    loop-again
-    returns)
+    (tie.spec Inv-loop μ-loop put8-requires loop-holds add-clear clear-requires add-i loop-less loop-again returns)

@@ -1,4 +1,4 @@
--- `clear` meets its contract. Assumes nothing.
+-- `clear` meets its contract.
 use mathlib.Core.Path.{ap, sym, _∙_}
 use lib.ListN.{set}
 use lib.Seq.{set-getD}

@@ -1,4 +1,4 @@
--- `take` meets its contract. Assumes nothing.
+-- `take` meets its contract.
 use mathlib.Core.Path.{refl, ap, _∙_}
 use Prim.Native.Nat.{_≤_, _-_}
 use borrow.Author.Tests.{eq-eqb, ne-eqb}
@@ -57,16 +57,5 @@ returns-2 c = let s = c .before in
 pub take-spec : {M : Type 1} → statement M
 take-spec =
     tie.close
-    (tie.spec
-    Inv-loop
-    μ-loop
-    element-copy-out-if1
-    mul-result
-    returns
-    loop-holds
-    shared-slice-read-b
-    add-i
-    take-byte-requires
-    loop-less
-    loop-again
-    returns-2)
+    (tie.spec Inv-loop μ-loop element-copy-out-if1 mul-result returns loop-holds shared-slice-read-b add-i take-byte-requires loop-less
+    loop-again returns-2)

@@ -1,4 +1,4 @@
--- `take_record` meets its contract. Assumes nothing.
+-- `take_record` meets its contract.
 use borrow.Author.Tests.{eq-eqb, ne-eqb}
 use Rattle.mailbox.specs.Machine.{recordIn}
 use borrow.Author.Needs.{needs}
@@ -26,17 +26,6 @@ returns-3 c = let at = c .before .before in
 pub take-record-spec : {M : Type 1} → statement M
 take-record-spec =
     tie.close
-    (tie.spec
-    (λ c κs. search needs)
-    (λ c. search needs)
-    (λ c. search needs)
-    (λ c. search needs)
-    (λ c κs. search needs)
-    (λ c κs. search needs)
-    (λ c κs. search needs)
-    (λ c κs. search needs)
-    (λ c κs. search needs)
-    (λ c κs. search needs)
-    returns
-    returns-2
+    (tie.spec (λ c κs. search needs) (λ c. search needs) (λ c. search needs) (λ c. search needs) (λ c κs. search needs)
+    (λ c κs. search needs) (λ c κs. search needs) (λ c κs. search needs) (λ c κs. search needs) (λ c κs. search needs) returns returns-2
     returns-3)

@@ -1,4 +1,4 @@
--- `under` meets its contract. Assumes nothing.
+-- `under` meets its contract.
 use borrow.Author.Tests.{eq-eqb, ne-eqb, lt-ltb, le-ltb}
 use borrow.Author.Needs.{needs}
 use Rattle.mailbox.proofs.under.Statement.{statement}

@@ -1,4 +1,4 @@
--- `rm_get` meets its contract: each way out is a law of `Ways`. Assumes nothing.
+-- `rm_get` meets its contract: each way out is a law of `Ways`.
 use mathlib.Core.Path.{ap, sym, _∙_}
 use Rattle.clock.specs.declared.Clock.{Clock}
 use Rattle.map.specs.declared.Op.{Op}
@@ -24,12 +24,5 @@ returns-2 c =
 pub rm-get-spec : {M : Type 1} → statement M
 rm-get-spec =
     tie.close
-    (tie.spec
-    (λ c κs. search needs)
-    (λ c κs. search needs)
-    returns
-    clock-at-requires
-    (λ c κs. search needs)
-    (λ c κs. search needs)
-    (λ c. search needs)
-    returns-2)
+    (tie.spec (λ c κs. search needs) (λ c κs. search needs) returns clock-at-requires (λ c κs. search needs) (λ c κs. search needs)
+    (λ c. search needs) returns-2)

@@ -1,4 +1,4 @@
--- `rm_read_ctx` meets its contract: each way out is a law of `Ways`. Assumes nothing.
+-- `rm_read_ctx` meets its contract: each way out is a law of `Ways`.
 use mathlib.Core.Path.{ap, sym, _∙_}
 use Rattle.map.specs.declared.Op.{Op}
 use Rattle.promises.proofs.Ways.{first-out, op-out}
@@ -20,11 +20,5 @@ returns-2 c =
 pub rm-read-ctx-spec : {M : Type 1} → statement M
 rm-read-ctx-spec =
     tie.close
-    (tie.spec
-    (λ c κs. search needs)
-    (λ c κs. search needs)
-    returns
-    (λ c κs. search needs)
-    (λ c κs. search needs)
-    (λ c. search needs)
+    (tie.spec (λ c κs. search needs) (λ c κs. search needs) returns (λ c κs. search needs) (λ c κs. search needs) (λ c. search needs)
     returns-2)

@@ -1,4 +1,4 @@
--- `update` meets its contract: each way out is a law of `Ways`. Assumes nothing.
+-- `update` meets its contract: each way out is a law of `Ways`.
 use mathlib.Core.Path.{sym, _∙_}
 use Rattle.maprecords.specs.Related.{readMap}
 use Rattle.promises.proofs.Ways.{first-out, op-out}
@@ -25,12 +25,5 @@ returns-2 c =
 pub update-spec : {M : Type 1} → statement M
 update-spec =
     tie.close
-    (tie.spec
-    (λ c κs. search needs)
-    (λ c κs. search needs)
-    returns
-    (λ c κs. search needs)
-    (λ c κs. search needs)
-    give-op-requires
-    (λ c. search needs)
-    returns-2)
+    (tie.spec (λ c κs. search needs) (λ c κs. search needs) returns (λ c κs. search needs) (λ c κs. search needs) give-op-requires
+    (λ c. search needs) returns-2)

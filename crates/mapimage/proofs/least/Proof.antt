@@ -1,4 +1,4 @@
--- `least` meets its contract: the loop holds each removal against the least so far. Assumes nothing.
+-- `least` meets its contract: the loop holds each removal against the least so far.
 use Prim.Native.Nat.{_≤_, _-_, _^_}
 use lib.ListN.{drop, getD}
 use Rattle.parts.specs.Model.{waitingOf}
@@ -34,16 +34,5 @@ returns c =
 pub least-spec : {M : Type 1} → statement M
 least-spec =
     tie.close
-    (tie.spec
-    Inv-loop
-    μ-loop
-    (λ c κs. search needs)
-    loop-holds
-    (λ c. search needs)
-    (λ c. search needs)
-    (λ c. search needs)
-    (λ c. search needs)
-    (λ c κs. search needs)
-    (λ c. search needs)
-    loop-again
-    returns)
+    (tie.spec Inv-loop μ-loop (λ c κs. search needs) loop-holds (λ c. search needs) (λ c. search needs) (λ c. search needs)
+    (λ c. search needs) (λ c κs. search needs) (λ c. search needs) loop-again returns)

@@ -1,4 +1,4 @@
--- `lesser` meets its contract. Assumes nothing.
+-- `lesser` meets its contract.
 use Rattle.mapimage.proofs.lesser.Statement.{statement}
 use Rattle.mapimage.proofs.lesser.Tie as tie
 
@@ -11,6 +11,4 @@ returns-2 c = rw (c .if1 .left)
 pub lesser-spec : {M : Type 1} → statement M
 lesser-spec =
     tie.close
-    (tie.spec
-    returns
-    returns-2)
+    (tie.spec returns returns-2)

@@ -1,4 +1,4 @@
--- `write_entry` meets its contract. Assumes nothing.
+-- `write_entry` meets its contract.
 use lib.ListN.{length-map}
 use Rattle.clock.specs.Dots.{dotsOf}
 use Rattle.clockimage.specs.Image.{dotRecord}
@@ -26,10 +26,4 @@ returns-2 c = rw (ne-eqb _ _ (c .before .before .before .before .before .if1 .le
 pub write-entry-spec : {M : Type 1} → statement M
 write-entry-spec =
     tie.close
-    (tie.spec
-    write-dots-requires
-    (λ c. search needs)
-    returns
-    write-values-requires
-    (λ c. search needs)
-    returns-2)
+    (tie.spec write-dots-requires (λ c. search needs) returns write-values-requires (λ c. search needs) returns-2)

@@ -1,4 +1,4 @@
--- `write_map` meets its contract: one kind of record behind the other. Assumes nothing.
+-- `write_map` meets its contract: one kind of record behind the other.
 use mathlib.Core.Path.{refl}
 use mathlib.Core.List.{List}
 use Prim.Native.Nat.{ℕ, _+_, _*_, _≤_}
@@ -83,12 +83,5 @@ returns c =
 pub write-map-spec : {M : Type 1} → statement M
 write-map-spec =
     tie.close
-    (tie.spec
-    write-dots-requires
-    write-entries-requires
-    write-entries-requires-2
-    write-entries-requires-3
-    write-waiting-requires
-    write-waiting-keys-requires
-    (λ c. search needs)
-    returns)
+    (tie.spec write-dots-requires write-entries-requires write-entries-requires-2 write-entries-requires-3 write-waiting-requires
+    write-waiting-keys-requires (λ c. search needs) returns)

@@ -1,4 +1,4 @@
--- `write_value` meets its contract. Assumes nothing.
+-- `write_value` meets its contract.
 use lib.ListN.{length-map}
 use Rattle.clock.specs.Dots.{dotsOf}
 use Rattle.clockimage.specs.Image.{dotRecord}
@@ -27,10 +27,4 @@ returns-2 c = rw (ne-eqb _ _ (c .before .before .before .before .before .if1 .le
 pub write-value-spec : {M : Type 1} → statement M
 write-value-spec =
     tie.close
-    (tie.spec
-    write-record-requires
-    (λ c. search needs)
-    returns
-    write-dots-requires
-    (λ c. search needs)
-    returns-2)
+    (tie.spec write-record-requires (λ c. search needs) returns write-dots-requires (λ c. search needs) returns-2)

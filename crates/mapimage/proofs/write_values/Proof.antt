@@ -1,4 +1,4 @@
--- `write_values` meets its contract: one value after the other. Assumes nothing.
+-- `write_values` meets its contract: one value after the other.
 use mathlib.Core.Path.{refl}
 use mathlib.Core.List.{[]}
 use Prim.Native.Nat.{_≤_, _-_}
@@ -49,17 +49,5 @@ returns c =
 pub write-values-spec : {M : Type 1} → statement M
 write-values-spec =
     tie.close
-    (tie.spec
-    Inv-loop
-    μ-loop
-    (λ c κs. search needs)
-    loop-holds
-    (λ c. search needs)
-    (λ c. search needs)
-    (λ c. search needs)
-    (λ c. search needs)
-    write-value-requires
-    (λ c. search needs)
-    loop-again
-    same-length
-    returns)
+    (tie.spec Inv-loop μ-loop (λ c κs. search needs) loop-holds (λ c. search needs) (λ c. search needs) (λ c. search needs)
+    (λ c. search needs) write-value-requires (λ c. search needs) loop-again same-length returns)

@@ -1,4 +1,4 @@
--- `write_waiting_keys` meets its contract: the least number that is left, again and again. Assumes nothing.
+-- `write_waiting_keys` meets its contract: the least number that is left, again and again.
 use mathlib.Core.Path.{_≡_}
 use mathlib.Core.Bool.{true}
 use Prim.Native.Nat.{_-_, _^_}
@@ -48,17 +48,5 @@ returns c = let s = c .before in select-end (2 ^ 40) _ _ _ (s .loop .inv .0) (s 
 pub write-waiting-keys-spec : {M : Type 1} → statement M
 write-waiting-keys-spec =
     tie.close
-    (tie.spec
-    Inv-loop
-    μ-loop
-    (λ c κs. search needs)
-    loop-holds
-    cast-t9
-    cast-t11
-    write-record-requires
-    add-least
-    (λ c κs. search needs)
-    loop-less
-    loop-again
-    same-length
-    returns)
+    (tie.spec Inv-loop μ-loop (λ c κs. search needs) loop-holds cast-t9 cast-t11 write-record-requires add-least (λ c κs. search needs)
+    loop-less loop-again same-length returns)

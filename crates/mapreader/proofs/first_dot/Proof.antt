@@ -1,4 +1,4 @@
--- `first_dot` meets its contract. Assumes nothing.
+-- `first_dot` meets its contract.
 use mathlib.Core.List.{[]}
 use borrow.Author.Needs.{needs}
 use native.Mathlib.Omega.{arith}
@@ -11,7 +11,4 @@ returns c = c .clock-with .ensures [] (c .before .new .ensures) (λ _. omega ari
 pub first-dot-spec : {M : Type 1} → statement M
 first-dot-spec =
     tie.close
-    (tie.spec
-    (λ c κs. search needs)
-    (λ c κs. search needs)
-    returns)
+    (tie.spec (λ c κs. search needs) (λ c κs. search needs) returns)

@@ -1,4 +1,4 @@
--- `first_number` meets its contract: by cases. Assumes nothing.
+-- `first_number` meets its contract: by cases.
 use borrow.Author.Tests.{eq-eqb, ne-eqb}
 use Rattle.mapreader.proofs.first_number.Statement.{statement}
 use Rattle.mapreader.proofs.first_number.Tie as tie

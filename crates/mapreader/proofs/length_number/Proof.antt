@@ -1,4 +1,4 @@
--- `length_number` meets its contract: by cases. Assumes nothing.
+-- `length_number` meets its contract: by cases.
 use borrow.Author.Tests.{lt-ltb, le-ltb, eq-eqb, ne-eqb}
 use Rattle.mapreader.proofs.length_number.Statement.{statement}
 use Rattle.mapreader.proofs.length_number.Tie as tie

@@ -1,4 +1,4 @@
--- `new_removal` meets its contract. Assumes nothing.
+-- `new_removal` meets its contract.
 use borrow.Author.Needs.{needs}
 use Rattle.mapreader.proofs.new_removal.Statement.{statement}
 use Rattle.mapreader.proofs.new_removal.Tie as tie
@@ -9,7 +9,4 @@ returns c = λ i. record { clock = c .before .first-dot .ensures i; keys = c .ne
 pub new-removal-spec : {M : Type 1} → statement M
 new-removal-spec =
     tie.close
-    (tie.spec
-    (λ c κs. search needs)
-    (λ c κs. search needs)
-    returns)
+    (tie.spec (λ c κs. search needs) (λ c κs. search needs) returns)

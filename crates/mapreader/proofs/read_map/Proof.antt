@@ -1,4 +1,4 @@
--- `read_map` meets its contract: the reader is fed the whole image, and asked. Assumes nothing.
+-- `read_map` meets its contract: the reader is fed the whole image, and asked.
 use mathlib.Core.Path.{ap, _∙_}
 use mathlib.Core.List.{[]}
 use lib.ListN.{take, length-take}
@@ -24,12 +24,5 @@ returns c =
 pub read-map-spec : {M : Type 1} → statement M
 read-map-spec =
     tie.close
-    (tie.spec
-    (λ c κs. search needs)
-    (λ c κs. search needs)
-    (λ c κs. search needs)
-    slice-aggregate-feed
-    (λ c κs. search needs)
-    (λ c κs. search needs)
-    (λ c κs. search needs)
-    returns)
+    (tie.spec (λ c κs. search needs) (λ c κs. search needs) (λ c κs. search needs) slice-aggregate-feed (λ c κs. search needs)
+    (λ c κs. search needs) (λ c κs. search needs) returns)

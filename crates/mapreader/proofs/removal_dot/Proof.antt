@@ -1,4 +1,4 @@
--- `removal_dot` meets its contract. Assumes nothing.
+-- `removal_dot` meets its contract.
 use mathlib.Core.Path.{ap}
 use borrow.Author.Needs.{needs}
 use Rattle.mapreader.proofs.removal_dot.Statement.{statement}
@@ -12,6 +12,4 @@ returns c d k e room =
 pub removal-dot-spec : {M : Type 1} → statement M
 removal-dot-spec =
     tie.close
-    (tie.spec
-    (λ c κs. search needs)
-    returns)
+    (tie.spec (λ c κs. search needs) returns)

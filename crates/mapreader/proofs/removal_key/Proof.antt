@@ -1,4 +1,4 @@
--- `removal_key` meets its contract: where there is room the key joins. Assumes nothing.
+-- `removal_key` meets its contract: where there is room the key joins.
 use mathlib.Core.Path.{ap}
 use borrow.Author.Needs.{needs}
 use native.Mathlib.Omega.{arith}
@@ -16,7 +16,4 @@ returns-2 c d k e room =
 pub removal-key-spec : {M : Type 1} → statement M
 removal-key-spec =
     tie.close
-    (tie.spec
-    returns
-    (λ c κs. search needs)
-    returns-2)
+    (tie.spec returns (λ c κs. search needs) returns-2)

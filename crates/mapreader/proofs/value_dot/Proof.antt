@@ -1,4 +1,4 @@
--- `value_dot` meets its contract. Assumes nothing.
+-- `value_dot` meets its contract.
 use borrow.Author.Needs.{needs}
 use Rattle.mapreader.proofs.value_dot.Statement.{statement}
 use Rattle.mapreader.proofs.value_dot.Tie as tie
@@ -9,6 +9,4 @@ returns c d e room = let q = c .before .clock-with .ensures d e (λ _. room) in 
 pub value-dot-spec : {M : Type 1} → statement M
 value-dot-spec =
     tie.close
-    (tie.spec
-    (λ c κs. search needs)
-    returns)
+    (tie.spec (λ c κs. search needs) returns)

@@ -1,4 +1,4 @@
--- `dotted` meets its contract: the loop stops at a value with no dot. Assumes nothing.
+-- `dotted` meets its contract: the loop stops at a value with no dot.
 use mathlib.Core.Path.{_≡_, refl, ap, sym, _∙_}
 use mathlib.Core.Bool.{not}
 use Prim.Native.Nat.{_≤_, _-_}
@@ -43,16 +43,5 @@ returns-2 c =
 pub dotted-spec : {M : Type 1} → statement M
 dotted-spec =
     tie.close
-    (tie.spec
-    Inv-loop
-    μ-loop
-    (λ c κs. search needs)
-    loop-holds
-    (λ c. search needs)
-    (λ c. search needs)
-    (λ c κs. search needs)
-    returns
-    (λ c. search needs)
-    (λ c. search needs)
-    loop-again
-    returns-2)
+    (tie.spec Inv-loop μ-loop (λ c κs. search needs) loop-holds (λ c. search needs) (λ c. search needs) (λ c κs. search needs) returns
+    (λ c. search needs) (λ c. search needs) loop-again returns-2)

@@ -1,4 +1,4 @@
--- `entries_whole` meets its contract: the loop stops at an entry that is not whole. Assumes nothing.
+-- `entries_whole` meets its contract: the loop stops at an entry that is not whole.
 use mathlib.Core.Path.{_≡_, refl, sym, _∙_}
 use borrow.Author.Tests.{not-true, not-false}
 use Prim.Native.Nat.{_≤_, _-_}
@@ -45,16 +45,5 @@ returns-2 c =
 pub entries-whole-spec : {M : Type 1} → statement M
 entries-whole-spec =
     tie.close
-    (tie.spec
-    Inv-loop
-    μ-loop
-    (λ c κs. search needs)
-    loop-holds
-    (λ c. search needs)
-    (λ c. search needs)
-    (λ c κs. search needs)
-    returns
-    (λ c. search needs)
-    (λ c. search needs)
-    loop-again
-    returns-2)
+    (tie.spec Inv-loop μ-loop (λ c κs. search needs) loop-holds (λ c. search needs) (λ c. search needs) (λ c κs. search needs) returns
+    (λ c. search needs) (λ c. search needs) loop-again returns-2)

@@ -1,4 +1,4 @@
--- `count_marks` meets its contract: the loop sifts the marks, and only their number is kept. Assumes nothing.
+-- `count_marks` meets its contract: the loop sifts the marks, and only their number is kept.
 use mathlib.Core.Path.{refl, ap, sym, _∙_}
 use mathlib.Core.List.{[]}
 use mathlib.Core.Bool.{false}
@@ -42,15 +42,5 @@ returns c = (sifting-end (c .before .loop .inv .1 .1) (simp length-take (omega a
 pub count-marks-spec : {M : Type 1} → statement M
 count-marks-spec =
     tie.close
-    (tie.spec
-    Inv-loop
-    μ-loop
-    loop-holds
-    (λ c. search needs)
-    (λ c. search needs)
-    (λ c. search needs)
-    (λ c. search needs)
-    loop-again
-    (λ c. search needs)
-    loop-again-2
-    returns)
+    (tie.spec Inv-loop μ-loop loop-holds (λ c. search needs) (λ c. search needs) (λ c. search needs) (λ c. search needs) loop-again
+    (λ c. search needs) loop-again-2 returns)

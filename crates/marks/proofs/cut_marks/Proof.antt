@@ -1,4 +1,4 @@
--- `cut_marks` meets its contract: the loop walks the clock beside the run. Assumes nothing.
+-- `cut_marks` meets its contract: the loop walks the clock beside the run.
 use mathlib.Core.Path.{_≡_, ap, sym, _∙_}
 use mathlib.Core.Logic.{inl, inr}
 use Prim.Native.Nat.{_≤_, _<_, _-_, _+_}
@@ -121,26 +121,7 @@ returns-2 c =
 pub cut-marks-spec : {M : Type 1} → statement M
 cut-marks-spec =
     tie.close
-    (tie.spec
-    Inv-loop
-    μ-loop
-    (λ c κs. search needs)
-    loop-holds
-    (λ c κs. search needs)
-    (λ c. omega (arith, ltb-true))
-    (λ c. omega (arith, ltb-true))
-    (λ c. search needs)
-    (λ c. omega (arith, ltb-true))
-    loop-again
-    (λ c. search needs)
-    (λ c. omega (arith, ltb-true))
-    loop-again-2
-    (λ c. search needs)
-    (λ c. search needs)
-    (λ c. search needs)
-    (λ c. omega (arith, ltb-true))
-    loop-again-3
-    (λ c. omega (arith, ltb-true))
-    loop-again-4
-    returns
-    returns-2)
+    (tie.spec Inv-loop μ-loop (λ c κs. search needs) loop-holds (λ c κs. search needs) (λ c. omega (arith, ltb-true))
+    (λ c. omega (arith, ltb-true)) (λ c. search needs) (λ c. omega (arith, ltb-true)) loop-again (λ c. search needs)
+    (λ c. omega (arith, ltb-true)) loop-again-2 (λ c. search needs) (λ c. search needs) (λ c. search needs) (λ c. omega (arith, ltb-true))
+    loop-again-3 (λ c. omega (arith, ltb-true)) loop-again-4 returns returns-2)

@@ -1,4 +1,4 @@
--- `cut_marks_by` meets its contract: the loop walks the clock's run beside the run. Assumes nothing.
+-- `cut_marks_by` meets its contract: the loop walks the clock's run beside the run.
 use mathlib.Core.Path.{_≡_, ap, sym, _∙_}
 use mathlib.Core.Logic.{inl, inr}
 use mathlib.Core.List.{List}
@@ -137,24 +137,7 @@ returns-2 c =
 pub cut-marks-by-spec : {M : Type 1} → statement M
 cut-marks-by-spec =
     tie.close
-    (tie.spec
-    Inv-loop
-    μ-loop
-    loop-holds
-    (λ c κs. search needs)
-    (λ c κs. omega (arith, ltb-true))
-    (λ c. search needs)
-    (λ c. omega (arith, ltb-true))
-    loop-again
-    (λ c. search needs)
-    (λ c. omega (arith, ltb-true))
-    loop-again-2
-    (λ c. search needs)
-    (λ c. search needs)
-    (λ c. search needs)
-    (λ c. omega (arith, ltb-true))
-    loop-again-3
-    (λ c. omega (arith, ltb-true))
-    loop-again-4
-    returns
+    (tie.spec Inv-loop μ-loop loop-holds (λ c κs. search needs) (λ c κs. omega (arith, ltb-true)) (λ c. search needs)
+    (λ c. omega (arith, ltb-true)) loop-again (λ c. search needs) (λ c. omega (arith, ltb-true)) loop-again-2 (λ c. search needs)
+    (λ c. search needs) (λ c. search needs) (λ c. omega (arith, ltb-true)) loop-again-3 (λ c. omega (arith, ltb-true)) loop-again-4 returns
     returns-2)

@@ -1,4 +1,4 @@
--- `dot_at` meets its contract: the two numbers of the record that a dot has. Assumes nothing.
+-- `dot_at` meets its contract: the two numbers of the record that a dot has.
 use Rattle.records.specs.Records.{recordFrom}
 use borrow.Author.Needs.{needs}
 use Rattle.marks.proofs.dot_at.Statement.{statement}
@@ -11,11 +11,5 @@ returns c = λ i. record { actor = c .before .read16 .ensures i; counter = c .re
 pub dot-at-spec : {M : Type 1} → statement M
 dot-at-spec =
     tie.close
-    (tie.spec
-    (λ c. search needs)
-    (λ c. search needs)
-    (λ c κs. search needs)
-    (λ c. search needs)
-    (λ c. search needs)
-    (λ c κs. search needs)
+    (tie.spec (λ c. search needs) (λ c. search needs) (λ c κs. search needs) (λ c. search needs) (λ c. search needs) (λ c κs. search needs)
     returns)

@@ -1,4 +1,4 @@
--- `pick_clock` meets its contract: the loop adds each dot whose mark is set. Assumes nothing.
+-- `pick_clock` meets its contract: the loop adds each dot whose mark is set.
 use mathlib.Core.Path.{_≡_, ap, sym, _∙_}
 use mathlib.Core.List.{_∷_}
 use Prim.Native.Nat.{_≤_, _<_, _-_, _+_}
@@ -71,19 +71,6 @@ returns c =
 pub pick-clock-spec : {M : Type 1} → statement M
 pick-clock-spec =
     tie.close
-    (tie.spec
-    Inv-loop
-    μ-loop
-    (λ c κs. search needs)
-    loop-holds
-    (λ c κs. search needs)
-    (λ c. search needs)
-    (λ c. search needs)
-    (λ c. omega (arith, room c))
-    (λ c. omega (arith, room c))
-    (λ c. omega (arith, room c))
-    (λ c. search needs)
-    loop-again
-    (λ c. search needs)
-    loop-again-2
-    returns)
+    (tie.spec Inv-loop μ-loop (λ c κs. search needs) loop-holds (λ c κs. search needs) (λ c. search needs) (λ c. search needs)
+    (λ c. omega (arith, room c)) (λ c. omega (arith, room c)) (λ c. omega (arith, room c)) (λ c. search needs) loop-again
+    (λ c. search needs) loop-again-2 returns)

@@ -1,4 +1,4 @@
--- `some_marks` meets its contract: the loop looks for a mark that is set. Assumes nothing.
+-- `some_marks` meets its contract: the loop looks for a mark that is set.
 use mathlib.Core.Bool.{true, false}
 use Prim.Native.Nat.{_≤_, _-_}
 use lib.ListN.{length-take}
@@ -29,13 +29,4 @@ returns-2 c = passing-end (c .before .loop .inv .1) (simp length-take (omega ari
 pub some-marks-spec : {M : Type 1} → statement M
 some-marks-spec =
     tie.close
-    (tie.spec
-    Inv-loop
-    μ-loop
-    loop-holds
-    (λ c. search needs)
-    returns
-    (λ c. search needs)
-    (λ c. search needs)
-    loop-again
-    returns-2)
+    (tie.spec Inv-loop μ-loop loop-holds (λ c. search needs) returns (λ c. search needs) (λ c. search needs) loop-again returns-2)

@@ -1,4 +1,4 @@
--- `write_picked` meets its contract: a record for each dot whose mark is set, one behind the other. Assumes nothing.
+-- `write_picked` meets its contract: a record for each dot whose mark is set, one behind the other.
 use mathlib.Core.Path.{_≡_, refl, ap, sym, _∙_}
 use mathlib.Core.List.{[], _∷_}
 use Prim.Native.Nat.{_≤_, _-_, _+_}
@@ -85,17 +85,5 @@ returns c =
 pub write-picked-spec : {M : Type 1} → statement M
 write-picked-spec =
     tie.close
-    (tie.spec
-    Inv-loop
-    μ-loop
-    loop-holds
-    (λ c κs. search needs)
-    (λ c. search needs)
-    (λ c. search needs)
-    write-record-requires
-    (λ c. search needs)
-    loop-again
-    (λ c. search needs)
-    loop-again-2
-    same-length
-    returns)
+    (tie.spec Inv-loop μ-loop loop-holds (λ c κs. search needs) (λ c. search needs) (λ c. search needs) write-record-requires
+    (λ c. search needs) loop-again (λ c. search needs) loop-again-2 same-length returns)

@@ -1,4 +1,4 @@
--- `begin_entry` meets its contract. Assumes nothing.
+-- `begin_entry` meets its contract.
 use Rattle.memory.specs.Putting.{entryBegun}
 use borrow.Author.Needs.{needs}
 use Rattle.memory.proofs.begin_entry.Statement.{statement}
@@ -11,18 +11,6 @@ returns c = rw (c .put83 .ensures, c .before .before .put82 .ensures, c .before 
 pub begin-entry-spec : {M : Type 1} → statement M
 begin-entry-spec =
     tie.close
-    (tie.spec
-    (λ c. search needs)
-    (λ c. search needs)
-    (λ c κs. search needs)
-    (λ c. search needs)
-    (λ c κs. search needs)
-    (λ c. search needs)
-    (λ c κs. search needs)
-    (λ c. search needs)
-    (λ c. search needs)
-    (λ c κs. search needs)
-    (λ c. search needs)
-    (λ c. search needs)
-    (λ c κs. search needs)
-    returns)
+    (tie.spec (λ c. search needs) (λ c. search needs) (λ c κs. search needs) (λ c. search needs) (λ c κs. search needs) (λ c. search needs)
+    (λ c κs. search needs) (λ c. search needs) (λ c. search needs) (λ c κs. search needs) (λ c. search needs) (λ c. search needs)
+    (λ c κs. search needs) returns)

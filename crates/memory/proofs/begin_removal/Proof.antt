@@ -1,4 +1,4 @@
--- `begin_removal` meets its contract. Assumes nothing.
+-- `begin_removal` meets its contract.
 use Rattle.memory.specs.Putting.{removalBegun}
 use borrow.Author.Needs.{needs}
 use Rattle.memory.proofs.begin_removal.Statement.{statement}
@@ -11,14 +11,5 @@ returns c = rw (c .put83 .ensures, c .before .before .put82 .ensures, c .before 
 pub begin-removal-spec : {M : Type 1} → statement M
 begin-removal-spec =
     tie.close
-    (tie.spec
-    (λ c. search needs)
-    (λ c. search needs)
-    (λ c κs. search needs)
-    (λ c κs. search needs)
-    (λ c. search needs)
-    (λ c κs. search needs)
-    (λ c. search needs)
-    (λ c. search needs)
-    (λ c κs. search needs)
-    returns)
+    (tie.spec (λ c. search needs) (λ c. search needs) (λ c κs. search needs) (λ c κs. search needs) (λ c. search needs)
+    (λ c κs. search needs) (λ c. search needs) (λ c. search needs) (λ c κs. search needs) returns)

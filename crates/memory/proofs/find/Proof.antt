@@ -1,4 +1,4 @@
--- `find` meets its contract. Assumes nothing.
+-- `find` meets its contract.
 use mathlib.Core.Path.{sym, _∙_}
 use Prim.Native.Nat.{_-_}
 use borrow.Author.Tests.{eq-eqb, ne-eqb}
@@ -47,15 +47,4 @@ returns-2 c = look-end _ _ _ _ (c .before .loop .inv .1) (c .before .before .pre
 pub find-spec : {M : Type 1} → statement M
 find-spec =
     tie.close
-    (tie.spec
-    Inv-loop
-    μ-loop
-    loop-holds
-    mul-read32
-    add-read32
-    read32-requires
-    returns
-    add-j
-    loop-less
-    loop-again
-    returns-2)
+    (tie.spec Inv-loop μ-loop loop-holds mul-read32 add-read32 read32-requires returns add-j loop-less loop-again returns-2)

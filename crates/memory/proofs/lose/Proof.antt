@@ -1,4 +1,4 @@
--- `lose` meets its contract. Assumes nothing.
+-- `lose` meets its contract.
 use Rattle.memory.specs.Putting.{lose}
 use borrow.Author.Needs.{needs}
 use Rattle.memory.proofs.lose.Statement.{statement}

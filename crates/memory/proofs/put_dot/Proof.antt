@@ -1,4 +1,4 @@
--- `put_dot` meets its contract. Assumes nothing.
+-- `put_dot` meets its contract.
 use borrow.Author.Tests.{lt-ltb, le-ltb}
 use Rattle.memory.specs.Putting.{dotPut}
 use borrow.Author.Needs.{needs}
@@ -16,17 +16,5 @@ returns-2 c = rw (le-ltb _ _ (c .if1 .left))
 pub put-dot-spec : {M : Type 1} → statement M
 put-dot-spec =
     tie.close
-    (tie.spec
-    (λ c. search needs)
-    (λ c. search needs)
-    (λ c. search needs)
-    (λ c. search needs)
-    (λ c. search needs)
-    (λ c. search needs)
-    (λ c κs. search needs)
-    (λ c. search needs)
-    (λ c κs. search needs)
-    (λ c. search needs)
-    (λ c κs. search needs)
-    returns
-    returns-2)
+    (tie.spec (λ c. search needs) (λ c. search needs) (λ c. search needs) (λ c. search needs) (λ c. search needs) (λ c. search needs)
+    (λ c κs. search needs) (λ c. search needs) (λ c κs. search needs) (λ c. search needs) (λ c κs. search needs) returns returns-2)

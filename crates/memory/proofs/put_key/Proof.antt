@@ -1,4 +1,4 @@
--- `put_key` meets its contract. Assumes nothing.
+-- `put_key` meets its contract.
 use borrow.Author.Tests.{lt-ltb, le-ltb}
 use Rattle.memory.specs.Putting.{keyPut}
 use borrow.Author.Needs.{needs}
@@ -16,18 +16,6 @@ returns-2 c = rw (le-ltb _ _ (c .if1 .left))
 pub put-key-spec : {M : Type 1} → statement M
 put-key-spec =
     tie.close
-    (tie.spec
-    (λ c. search needs)
-    (λ c. search needs)
-    (λ c. search needs)
-    (λ c. search needs)
-    (λ c. search needs)
-    (λ c. search needs)
-    (λ c κs. search needs)
-    (λ c. search needs)
-    (λ c. search needs)
-    (λ c κs. search needs)
-    (λ c. search needs)
-    (λ c κs. search needs)
-    returns
+    (tie.spec (λ c. search needs) (λ c. search needs) (λ c. search needs) (λ c. search needs) (λ c. search needs) (λ c. search needs)
+    (λ c κs. search needs) (λ c. search needs) (λ c. search needs) (λ c κs. search needs) (λ c. search needs) (λ c κs. search needs) returns
     returns-2)

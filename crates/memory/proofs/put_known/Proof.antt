@@ -1,4 +1,4 @@
--- `put_known` meets its contract. Assumes nothing.
+-- `put_known` meets its contract.
 use borrow.Author.Tests.{eq-eqb, ne-eqb}
 use Rattle.memory.specs.Putting.{knownPut}
 use borrow.Author.Needs.{needs}
@@ -20,13 +20,5 @@ returns-3 c = rw (ne-eqb _ _ (c .before .before .before .before .if1 .left), ne-
 pub put-known-spec : {M : Type 1} → statement M
 put-known-spec =
     tie.close
-    (tie.spec
-    (λ c. search needs)
-    (λ c. search needs)
-    (λ c. search needs)
-    (λ c κs. search needs)
-    (λ c κs. search needs)
-    (λ c κs. search needs)
-    returns
-    returns-2
-    returns-3)
+    (tie.spec (λ c. search needs) (λ c. search needs) (λ c. search needs) (λ c κs. search needs) (λ c κs. search needs)
+    (λ c κs. search needs) returns returns-2 returns-3)

@@ -1,4 +1,4 @@
--- `put_record` meets its contract. Assumes nothing.
+-- `put_record` meets its contract.
 use borrow.Author.Tests.{eq-eqb, ne-eqb, lt-ltb, le-ltb}
 use Rattle.memory.specs.Putting.{recordPut}
 use borrow.Author.Needs.{needs}
@@ -20,11 +20,4 @@ returns-3 c = rw (ne-eqb _ _ (c .before .before .before .before .before .if1 .le
 pub put-record-spec : {M : Type 1} → statement M
 put-record-spec =
     tie.close
-    (tie.spec
-    (λ c κs. search needs)
-    (λ c κs. search needs)
-    (λ c κs. search needs)
-    (λ c κs. search needs)
-    returns
-    returns-2
-    returns-3)
+    (tie.spec (λ c κs. search needs) (λ c κs. search needs) (λ c κs. search needs) (λ c κs. search needs) returns returns-2 returns-3)

@@ -1,4 +1,4 @@
--- `put_scan` meets its contract. Assumes nothing.
+-- `put_scan` meets its contract.
 use Rattle.memory.specs.Putting.{scanPut}
 use borrow.Author.Needs.{needs}
 use Rattle.memory.proofs.put_scan.Statement.{statement}
@@ -11,17 +11,6 @@ returns c = rw (c .put163 .ensures, c .before .before .before .put162 .ensures, 
 pub put-scan-spec : {M : Type 1} → statement M
 put-scan-spec =
     tie.close
-    (tie.spec
-    (λ c κs. search needs)
-    (λ c κs. search needs)
-    (λ c κs. search needs)
-    (λ c κs. search needs)
-    (λ c. search needs)
-    (λ c κs. search needs)
-    (λ c. search needs)
-    (λ c. search needs)
-    (λ c κs. search needs)
-    (λ c. search needs)
-    (λ c. search needs)
-    (λ c κs. search needs)
-    returns)
+    (tie.spec (λ c κs. search needs) (λ c κs. search needs) (λ c κs. search needs) (λ c κs. search needs) (λ c. search needs)
+    (λ c κs. search needs) (λ c. search needs) (λ c. search needs) (λ c κs. search needs) (λ c. search needs) (λ c. search needs)
+    (λ c κs. search needs) returns)

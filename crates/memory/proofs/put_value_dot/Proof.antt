@@ -1,4 +1,4 @@
--- `put_value_dot` meets its contract. Assumes nothing.
+-- `put_value_dot` meets its contract.
 use borrow.Author.Tests.{lt-ltb, le-ltb}
 use Rattle.memory.specs.Putting.{valueDotPut}
 use borrow.Author.Needs.{needs}
@@ -20,21 +20,6 @@ returns-3 c = rw (le-ltb _ _ (c .before .before .if1 .left)) (c .lose2 .ensures)
 pub put-value-dot-spec : {M : Type 1} → statement M
 put-value-dot-spec =
     tie.close
-    (tie.spec
-    (λ c. search needs)
-    (λ c. search needs)
-    (λ c. search needs)
-    (λ c. search needs)
-    (λ c. search needs)
-    (λ c. search needs)
-    (λ c. search needs)
-    (λ c κs. search needs)
-    (λ c. search needs)
-    (λ c. search needs)
-    (λ c. search needs)
-    (λ c κs. search needs)
-    (λ c κs. search needs)
-    (λ c κs. search needs)
-    returns
-    returns-2
-    returns-3)
+    (tie.spec (λ c. search needs) (λ c. search needs) (λ c. search needs) (λ c. search needs) (λ c. search needs) (λ c. search needs)
+    (λ c. search needs) (λ c κs. search needs) (λ c. search needs) (λ c. search needs) (λ c. search needs) (λ c κs. search needs)
+    (λ c κs. search needs) (λ c κs. search needs) returns returns-2 returns-3)

@@ -1,4 +1,4 @@
--- `scan_of` meets its contract. Assumes nothing.
+-- `scan_of` meets its contract.
 use borrow.Author.Needs.{needs}
 use Rattle.memory.proofs.scan_of.Statement.{statement}
 use Rattle.memory.proofs.scan_of.Tie as tie
@@ -9,16 +9,5 @@ returns c = rw (c .before .before .read163 .ensures, c .before .before .before .
 pub scan-of-spec : {M : Type 1} → statement M
 scan-of-spec =
     tie.close
-    (tie.spec
-    (λ c κs. search needs)
-    (λ c κs. search needs)
-    (λ c. search needs)
-    (λ c κs. search needs)
-    (λ c. search needs)
-    (λ c κs. search needs)
-    (λ c. search needs)
-    (λ c. search needs)
-    (λ c. search needs)
-    (λ c. search needs)
-    (λ c. search needs)
-    returns)
+    (tie.spec (λ c κs. search needs) (λ c κs. search needs) (λ c. search needs) (λ c κs. search needs) (λ c. search needs)
+    (λ c κs. search needs) (λ c. search needs) (λ c. search needs) (λ c. search needs) (λ c. search needs) (λ c. search needs) returns)

@@ -1,4 +1,4 @@
--- `counted` meets its contract. Assumes nothing.
+-- `counted` meets its contract.
 use mathlib.Core.Path.{ap}
 use lib.ListN.{set}
 use borrow.Author.Needs.{needs}
@@ -15,11 +15,4 @@ returns-2 c = ap (set (c .before .args .t1) (c .before .args .kind)) (omega arit
 pub counted-spec : {M : Type 1} → statement M
 counted-spec =
     tie.close
-    (tie.spec
-    (λ c. search needs)
-    (λ c. search needs)
-    (λ c. search needs)
-    (λ c. search needs)
-    (λ c. search needs)
-    returns
-    returns-2)
+    (tie.spec (λ c. search needs) (λ c. search needs) (λ c. search needs) (λ c. search needs) (λ c. search needs) returns returns-2)

@@ -1,4 +1,4 @@
--- `keys_with` meets its contract. Assumes nothing.
+-- `keys_with` meets its contract.
 use Rattle.opimage.proofs.keys_with.Statement.{statement}
 use Rattle.opimage.proofs.keys_with.Tie as tie
 
@@ -14,7 +14,4 @@ returns-2 c l e = rw (c .if1 .left) e
 pub keys-with-spec : {M : Type 1} → statement M
 keys-with-spec =
     tie.close
-    (tie.spec
-    push-requires
-    returns
-    returns-2)
+    (tie.spec push-requires returns returns-2)

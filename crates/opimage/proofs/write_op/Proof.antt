@@ -1,4 +1,4 @@
--- `write_op` meets its contract. Assumes nothing.
+-- `write_op` meets its contract.
 use Rattle.records.proofs.RoundTrips.{length-bytes}
 use Rattle.opimage.specs.OpImage.{opRecords}
 use borrow.Author.Needs.{needs}
@@ -29,10 +29,4 @@ returns-2 c = rw (c .before .before .before .before .before .if1 .left) (c .befo
 pub write-op-spec : {M : Type 1} → statement M
 write-op-spec =
     tie.close
-    (tie.spec
-    write-update-requires
-    (λ c. search needs)
-    returns
-    write-removal-requires
-    (λ c. search needs)
-    returns-2)
+    (tie.spec write-update-requires (λ c. search needs) returns write-removal-requires (λ c. search needs) returns-2)

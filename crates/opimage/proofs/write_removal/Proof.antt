@@ -1,4 +1,4 @@
--- `write_removal` meets its contract: head, dots, keys. Assumes nothing.
+-- `write_removal` meets its contract: head, dots, keys.
 use mathlib.Core.Path.{refl}
 use mathlib.Core.List.{[], _∷_, map}
 use lib.ListN.{length-map}
@@ -37,9 +37,4 @@ returns c =
 pub write-removal-spec : {M : Type 1} → statement M
 write-removal-spec =
     tie.close
-    (tie.spec
-    (λ c κs. search needs)
-    write-dots-requires
-    write-keys-requires
-    (λ c. search needs)
-    returns)
+    (tie.spec (λ c κs. search needs) write-dots-requires write-keys-requires (λ c. search needs) returns)

@@ -1,4 +1,4 @@
--- `write_update` meets its contract: head, value, dots. Assumes nothing.
+-- `write_update` meets its contract: head, value, dots.
 use mathlib.Core.Path.{refl}
 use mathlib.Core.List.{[], _∷_}
 use lib.ListN.{length-map}
@@ -30,9 +30,4 @@ returns c =
 pub write-update-spec : {M : Type 1} → statement M
 write-update-spec =
     tie.close
-    (tie.spec
-    (λ c κs. search needs)
-    (λ c κs. search needs)
-    write-dots-requires
-    (λ c. search needs)
-    returns)
+    (tie.spec (λ c κs. search needs) (λ c κs. search needs) write-dots-requires (λ c. search needs) returns)

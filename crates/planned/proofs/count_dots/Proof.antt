@@ -1,4 +1,4 @@
--- `count_dots` meets its contract: a removal a turn. Assumes nothing.
+-- `count_dots` meets its contract: a removal a turn.
 use mathlib.Core.Path.{_≡_, ap}
 use mathlib.Core.List.{List}
 use Prim.Native.Nat.{ℕ, _+_, _*_, _≤_, _<_, _-_}
@@ -59,16 +59,5 @@ returns c =
 pub count-dots-spec : {M : Type 1} → statement M
 count-dots-spec =
     tie.close
-    (tie.spec
-    Inv-loop
-    μ-loop
-    (λ c κs. search needs)
-    loop-holds
-    (λ c. search needs)
-    element-copy-out-x
-    (λ c. search needs)
-    count-requires
-    (λ c. search needs)
-    (λ c. search needs)
-    loop-again
-    returns)
+    (tie.spec Inv-loop μ-loop (λ c κs. search needs) loop-holds (λ c. search needs) element-copy-out-x (λ c. search needs) count-requires
+    (λ c. search needs) (λ c. search needs) loop-again returns)

@@ -1,4 +1,4 @@
--- `in_turn` meets its contract: case by case. Assumes nothing.
+-- `in_turn` meets its contract: case by case.
 use mathlib.Core.Path.{ap}
 use mathlib.Core.Bool.{not}
 use borrow.Author.Needs.{needs}

@@ -1,4 +1,4 @@
--- `next_turn` meets its contract: the one in turn is looked at. Assumes nothing.
+-- `next_turn` meets its contract: the one in turn is looked at.
 use mathlib.Core.Path.{_≡_, refl, sym, _∙_}
 use mathlib.Core.Bool.{Bool, true, false, not, _&&_, _||_}
 use Rattle.parts.specs.Waits.{clockBefore}
@@ -50,10 +50,4 @@ returns-2 c =
 pub next-turn-spec : {M : Type 1} → statement M
 next-turn-spec =
     tie.close
-    (tie.spec
-    in-turn-requires
-    in-turn-requires-2
-    waits-requires
-    returns
-    waits-requires-2
-    returns-2)
+    (tie.spec in-turn-requires in-turn-requires-2 waits-requires returns waits-requires-2 returns-2)

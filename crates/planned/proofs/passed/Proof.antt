@@ -1,4 +1,4 @@
--- `passed` meets its contract: one more, or not. Assumes nothing.
+-- `passed` meets its contract: one more, or not.
 use borrow.Author.Needs.{needs}
 use native.Mathlib.Omega.{arith}
 use Rattle.planned.proofs.passed.Statement.{statement}

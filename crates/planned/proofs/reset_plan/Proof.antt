@@ -1,4 +1,4 @@
--- `reset_plan` meets its contract: what is left of the removals in order, and each one's place. Assumes nothing.
+-- `reset_plan` meets its contract: what is left of the removals in order, and each one's place.
 use Rattle.clock.specs.Dots.{dotsOf}
 use Rattle.planned.proofs.Results.{reset-plans}
 use borrow.Author.Needs.{needs}

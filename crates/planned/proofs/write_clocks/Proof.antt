@@ -1,4 +1,4 @@
--- `write_clocks` meets its contract: a removal a turn. Assumes nothing.
+-- `write_clocks` meets its contract: a removal a turn.
 use mathlib.Core.Path.{refl, ap}
 use mathlib.Core.List.{List, []}
 use Prim.Native.Nat.{_+_, _*_, _≤_, _<_, _-_}
@@ -80,17 +80,5 @@ returns c =
 pub write-clocks-spec : {M : Type 1} → statement M
 write-clocks-spec =
     tie.close
-    (tie.spec
-    Inv-loop
-    μ-loop
-    (λ c κs. search needs)
-    loop-holds
-    (λ c. search needs)
-    element-copy-out-x
-    (λ c. search needs)
-    (λ c. search needs)
-    write-held-requires
-    (λ c. search needs)
-    loop-again
-    same-length
-    returns)
+    (tie.spec Inv-loop μ-loop (λ c κs. search needs) loop-holds (λ c. search needs) element-copy-out-x (λ c. search needs)
+    (λ c. search needs) write-held-requires (λ c. search needs) loop-again same-length returns)

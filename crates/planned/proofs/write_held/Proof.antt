@@ -1,4 +1,4 @@
--- `write_held` meets its contract: from the image that it names. Assumes nothing.
+-- `write_held` meets its contract: from the image that it names.
 use Rattle.planned.proofs.Lefts.{asks-second, asks-first, wrote-second, wrote-first}
 use borrow.Author.Needs.{needs}
 use Rattle.planned.proofs.write_held.Statement.{statement}

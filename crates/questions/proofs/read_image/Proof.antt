@@ -1,4 +1,4 @@
--- `read_image` writes its records within the buffer. Assumes nothing.
+-- `read_image` writes its records within the buffer.
 use Prim.Native.Nat.{_≤_, _-_}
 use borrow.Author.Needs.{needs}
 use Rattle.questions.proofs.read_image.Statement.{statement}
@@ -13,16 +13,5 @@ abbrev μ-loop : tie.MeasureT-loop
 pub read-image-spec : {M : Type 1} → statement M
 read-image-spec =
     tie.close
-    (tie.spec
-    Inv-loop
-    μ-loop
-    (λ c κs. search needs)
-    (λ c. search needs)
-    (λ c. search needs)
-    (λ c κs. search needs)
-    (λ c. search needs)
-    (λ c κs. search needs)
-    (λ c. search needs)
-    (λ c. search needs)
-    (λ c. search needs)
-    (λ c. search needs))
+    (tie.spec Inv-loop μ-loop (λ c κs. search needs) (λ c. search needs) (λ c. search needs) (λ c κs. search needs) (λ c. search needs)
+    (λ c κs. search needs) (λ c. search needs) (λ c. search needs) (λ c. search needs) (λ c. search needs))

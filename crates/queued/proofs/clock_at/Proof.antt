@@ -1,4 +1,4 @@
--- `clock_at` meets its contract: the run of the removal's dots is its clock. Assumes nothing.
+-- `clock_at` meets its contract: the run of the removal's dots is its clock.
 use mathlib.Core.Path.{_∙_}
 use Rattle.queued.proofs.Taking.{lying-clock, lying-short}
 use borrow.Author.Needs.{needs}
@@ -54,16 +54,5 @@ returns c = λ w q h. c .clock-of .ensures ∙ lying-clock (q .each _ h)
 pub clock-at-spec : {M : Type 1} → statement M
 clock-at-spec =
     tie.close
-    (tie.spec
-    (λ c. search needs)
-    (λ c. search needs)
-    mul-from-2
-    (λ c. search needs)
-    (λ c. search needs)
-    (λ c. search needs)
-    mul-to-2
-    sub-clock-of
-    part-clock-of-start
-    part-clock-of-end
-    clock-of-requires
-    returns)
+    (tie.spec (λ c. search needs) (λ c. search needs) mul-from-2 (λ c. search needs) (λ c. search needs) (λ c. search needs) mul-to-2
+    sub-clock-of part-clock-of-start part-clock-of-end clock-of-requires returns)

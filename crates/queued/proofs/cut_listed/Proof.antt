@@ -1,4 +1,4 @@
--- `cut_listed` meets its contract: a removal a turn. Assumes nothing.
+-- `cut_listed` meets its contract: a removal a turn.
 use mathlib.Core.Path.{_≡_, sym, _∙_}
 use mathlib.Core.List.{List}
 use Prim.Native.Nat.{ℕ, _≤_, _-_}
@@ -62,17 +62,5 @@ returns c =
 pub cut-listed-spec : {M : Type 1} → statement M
 cut-listed-spec =
     tie.close
-    (tie.spec
-    Inv-loop
-    μ-loop
-    (λ c κs. search needs)
-    loop-holds
-    (λ c. search needs)
-    (λ c. search needs)
-    clock-at-requires
-    (λ c κs. search needs)
-    (λ c. search needs)
-    loop-again
-    (λ c. search needs)
-    loop-again-2
-    returns)
+    (tie.spec Inv-loop μ-loop (λ c κs. search needs) loop-holds (λ c. search needs) (λ c. search needs) clock-at-requires
+    (λ c κs. search needs) (λ c. search needs) loop-again (λ c. search needs) loop-again-2 returns)

@@ -1,4 +1,4 @@
--- `cut_listed_marks` meets its contract: a removal a turn. Assumes nothing.
+-- `cut_listed_marks` meets its contract: a removal a turn.
 use mathlib.Core.Path.{refl, sym, _∙_}
 use mathlib.Core.List.{List}
 use Prim.Native.Nat.{ℕ, _≤_, _-_}
@@ -61,16 +61,5 @@ returns c =
 pub cut-listed-marks-spec : {M : Type 1} → statement M
 cut-listed-marks-spec =
     tie.close
-    (tie.spec
-    Inv-loop
-    μ-loop
-    (λ c κs. search needs)
-    loop-holds
-    (λ c. search needs)
-    (λ c. search needs)
-    cut-marks-at-requires
-    (λ c. search needs)
-    loop-again
-    (λ c. search needs)
-    loop-again-2
-    returns)
+    (tie.spec Inv-loop μ-loop (λ c κs. search needs) loop-holds (λ c. search needs) (λ c. search needs) cut-marks-at-requires
+    (λ c. search needs) loop-again (λ c. search needs) loop-again-2 returns)

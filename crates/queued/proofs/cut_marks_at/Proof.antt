@@ -1,4 +1,4 @@
--- `cut_marks_at` meets its contract: the run of the removal's dots cuts. Assumes nothing.
+-- `cut_marks_at` meets its contract: the run of the removal's dots cuts.
 use Rattle.queued.proofs.Taking.{lying-dots, lying-lawful}
 use borrow.Author.Needs.{needs}
 use Rattle.queued.proofs.cut_marks_at.Statement.{statement}
@@ -53,16 +53,5 @@ returns c = λ w q h. rw (lying-dots (q .each _ h)) at (c .cut-marks-by .ensures
 pub cut-marks-at-spec : {M : Type 1} → statement M
 cut-marks-at-spec =
     tie.close
-    (tie.spec
-    (λ c. search needs)
-    (λ c. search needs)
-    mul-from-2
-    (λ c. search needs)
-    (λ c. search needs)
-    (λ c. search needs)
-    mul-to-2
-    sub-cut-marks-by
-    part-cut-marks-by-start
-    part-cut-marks-by-end
-    cut-marks-by-requires
-    returns)
+    (tie.spec (λ c. search needs) (λ c. search needs) mul-from-2 (λ c. search needs) (λ c. search needs) (λ c. search needs) mul-to-2
+    sub-cut-marks-by part-cut-marks-by-start part-cut-marks-by-end cut-marks-by-requires returns)

@@ -1,4 +1,4 @@
--- `listers` meets its contract: a record of the key marks the removal of its index. Assumes nothing.
+-- `listers` meets its contract: a record of the key marks the removal of its index.
 use mathlib.Core.List.{List}
 use Prim.Native.Nat.{ℕ, _≤_, _-_}
 use lib.ListN.{length, length-set}
@@ -48,20 +48,5 @@ returns-2 c = (omega arith, λ low w k h. mark-end _ (c .before .loop .inv .1 lo
 pub listers-spec : {M : Type 1} → statement M
 listers-spec =
     tie.close
-    (tie.spec
-    Inv-loop
-    μ-loop
-    loop-holds
-    (λ c. search needs)
-    (λ c κs. search needs)
-    returns
-    (λ c. search needs)
-    (λ c. search needs)
-    (λ c. search needs)
-    (λ c. search needs)
-    loop-again
-    (λ c. search needs)
-    loop-again-2
-    (λ c. search needs)
-    loop-again-3
-    returns-2)
+    (tie.spec Inv-loop μ-loop loop-holds (λ c. search needs) (λ c κs. search needs) returns (λ c. search needs) (λ c. search needs)
+    (λ c. search needs) (λ c. search needs) loop-again (λ c. search needs) loop-again-2 (λ c. search needs) loop-again-3 returns-2)

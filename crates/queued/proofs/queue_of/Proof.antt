@@ -1,4 +1,4 @@
--- `queue_of` meets its contract: the run of a removal's dots a turn. Assumes nothing.
+-- `queue_of` meets its contract: the run of a removal's dots a turn.
 use mathlib.Core.Path.{_≡_, sym}
 use Prim.Native.Nat.{_*_, _+_, _≤_, _-_}
 use lib.ListN.{length, length-set}
@@ -42,15 +42,5 @@ returns c =
 pub queue-of-spec : {M : Type 1} → statement M
 queue-of-spec =
     tie.close
-    (tie.spec
-    Inv-loop
-    μ-loop
-    loop-holds
-    (λ c. search needs)
-    (λ c κs. search needs)
-    (λ c. search needs)
-    (λ c. search needs)
-    (λ c. search needs)
-    (λ c. search needs)
-    loop-again
-    returns)
+    (tie.spec Inv-loop μ-loop loop-holds (λ c. search needs) (λ c κs. search needs) (λ c. search needs) (λ c. search needs)
+    (λ c. search needs) (λ c. search needs) loop-again returns)

@@ -1,4 +1,4 @@
--- `actor_of` meets its contract. Assumes nothing.
+-- `actor_of` meets its contract.
 use Rattle.records.proofs.actor_of.Statement.{statement}
 use Rattle.records.proofs.actor_of.Tie as tie
 
@@ -11,6 +11,4 @@ returns-2 c = rw (c .if1 .left)
 pub actor-of-spec : {M : Type 1} → statement M
 actor-of-spec =
     tie.close
-    (tie.spec
-    returns
-    returns-2)
+    (tie.spec returns returns-2)

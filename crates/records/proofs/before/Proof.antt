@@ -1,4 +1,4 @@
--- `before` meets its contract. Assumes nothing.
+-- `before` meets its contract.
 use Rattle.records.specs.Kinds.{before}
 use borrow.Author.Needs.{needs}
 use Rattle.records.proofs.before.Statement.{statement}
@@ -11,7 +11,4 @@ returns c = rw (c .before .actor-of .ensures, c .actor-of2 .ensures)
 pub before-spec : {M : Type 1} → statement M
 before-spec =
     tie.close
-    (tie.spec
-    (λ c κs. search needs)
-    (λ c κs. search needs)
-    returns)
+    (tie.spec (λ c κs. search needs) (λ c κs. search needs) returns)

@@ -1,4 +1,4 @@
--- `put8` meets its contract. Assumes nothing.
+-- `put8` meets its contract.
 use Rattle.records.proofs.Placing.{placed-one}
 use borrow.Author.Needs.{needs}
 use Rattle.records.proofs.put8.Statement.{statement}
@@ -10,7 +10,4 @@ returns c = placed-one _ _ _ (c .pre)
 pub put8-spec : {M : Type 1} → statement M
 put8-spec =
     tie.close
-    (tie.spec
-    (λ c. search needs)
-    (λ c. search needs)
-    returns)
+    (tie.spec (λ c. search needs) (λ c. search needs) returns)

@@ -1,4 +1,4 @@
--- `read_record` meets its contract. Assumes nothing.
+-- `read_record` meets its contract.
 use Rattle.records.specs.Records.{recordFrom}
 use borrow.Author.Needs.{needs}
 use Rattle.records.proofs.read_record.Statement.{statement}
@@ -11,14 +11,5 @@ returns c = cc
 pub read-record-spec : {M : Type 1} → statement M
 read-record-spec =
     tie.close
-    (tie.spec
-    (λ c. search needs)
-    (λ c. search needs)
-    (λ c. search needs)
-    (λ c. search needs)
-    (λ c κs. search needs)
-    (λ c. search needs)
-    (λ c κs. search needs)
-    (λ c. search needs)
-    (λ c κs. search needs)
-    returns)
+    (tie.spec (λ c. search needs) (λ c. search needs) (λ c. search needs) (λ c. search needs) (λ c κs. search needs) (λ c. search needs)
+    (λ c κs. search needs) (λ c. search needs) (λ c κs. search needs) returns)

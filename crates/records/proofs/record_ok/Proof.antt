@@ -1,4 +1,4 @@
--- `record_ok` meets its contract. Assumes nothing.
+-- `record_ok` meets its contract.
 use Rattle.records.specs.Kinds.{recordOk}
 use borrow.Author.Needs.{needs}
 use Rattle.records.proofs.record_ok.Statement.{statement}
@@ -11,8 +11,4 @@ returns c = cc
 pub record-ok-spec : {M : Type 1} → statement M
 record-ok-spec =
     tie.close
-    (tie.spec
-    (λ c κs. search needs)
-    (λ c κs. search needs)
-    (λ c κs. search needs)
-    returns)
+    (tie.spec (λ c κs. search needs) (λ c κs. search needs) (λ c κs. search needs) returns)

@@ -1,4 +1,4 @@
--- `clock_of` meets its contract: the loop adds a record's dot a turn, in place. Assumes nothing.
+-- `clock_of` meets its contract: the loop adds a record's dot a turn, in place.
 use mathlib.Core.Path.{_≡_, ap, sym, _∙_}
 use mathlib.Core.List.{List, [], _∷_, _++_, map}
 use Prim.Native.Nat.{ℕ, _/_, _≤_, _<_, _-_}
@@ -74,17 +74,5 @@ returns c =
 pub clock-of-spec : {M : Type 1} → statement M
 clock-of-spec =
     tie.close
-    (tie.spec
-    Inv-loop
-    μ-loop
-    (λ c κs. search needs)
-    loop-holds
-    (λ c. search needs)
-    (λ c κs. search needs)
-    (λ c. search needs)
-    mul-d
-    element-set-from-d
-    add-clock
-    (λ c. search needs)
-    loop-again
-    returns)
+    (tie.spec Inv-loop μ-loop (λ c κs. search needs) loop-holds (λ c. search needs) (λ c κs. search needs) (λ c. search needs) mul-d
+    element-set-from-d add-clock (λ c. search needs) loop-again returns)

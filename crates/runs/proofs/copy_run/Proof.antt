@@ -1,4 +1,4 @@
--- `copy_run` meets its contract: the loop copies a byte a turn. Assumes nothing.
+-- `copy_run` meets its contract: the loop copies a byte a turn.
 use mathlib.Core.Path.{_≡_, refl, ap, _∙_}
 use mathlib.Core.List.{append-assoc}
 use Prim.Native.Nat.{suc, _+_, _-_, _≤_}
@@ -45,16 +45,5 @@ returns c =
 pub copy-run-spec : {M : Type 1} → statement M
 copy-run-spec =
     tie.close
-    (tie.spec
-    Inv-loop
-    μ-loop
-    loop-holds
-    (λ c. search needs)
-    (λ c. search needs)
-    (λ c. search needs)
-    (λ c. search needs)
-    (λ c. search needs)
-    loop-again
-    (λ c. search needs)
-    (λ c. search needs)
-    returns)
+    (tie.spec Inv-loop μ-loop loop-holds (λ c. search needs) (λ c. search needs) (λ c. search needs) (λ c. search needs) (λ c. search needs)
+    loop-again (λ c. search needs) (λ c. search needs) returns)

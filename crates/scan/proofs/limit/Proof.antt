@@ -1,4 +1,4 @@
--- `limit` meets its contract. Assumes nothing.
+-- `limit` meets its contract.
 use mathlib.Core.Path.{sym}
 use lib.ListN.{List·getD-eq-default}
 use native.Mathlib.Omega.{arith}
@@ -12,8 +12,4 @@ returns-2 c = sym (List·getD-eq-default (c .before .args .t1) 0 (omega arith))
 pub limit-spec : {M : Type 1} → statement M
 limit-spec =
     tie.close
-    (tie.spec
-    (λ c. search needs)
-    (λ c. search needs)
-    (λ c. search needs)
-    returns-2)
+    (tie.spec (λ c. search needs) (λ c. search needs) (λ c. search needs) returns-2)

@@ -1,4 +1,4 @@
--- `tally` meets its contract. Assumes nothing.
+-- `tally` meets its contract.
 use borrow.Author.Tests.{not-true, not-false, lt-ltb, le-ltb}
 use borrow.Author.Needs.{needs}
 use Rattle.scan.proofs.tally.Statement.{statement}
@@ -19,9 +19,4 @@ returns-4 c = rw (not-false (c .before .before .before .args .group) (c .before 
 pub tally-spec : {M : Type 1} → statement M
 tally-spec =
     tie.close
-    (tie.spec
-    returns
-    returns-2
-    (λ c. search needs)
-    returns-3
-    returns-4)
+    (tie.spec returns returns-2 (λ c. search needs) returns-3 returns-4)

@@ -1,4 +1,4 @@
--- `within` meets its contract. Assumes nothing.
+-- `within` meets its contract.
 use borrow.Author.Needs.{needs}
 use Rattle.scan.proofs.within.Statement.{statement}
 use Rattle.scan.proofs.within.Tie as tie
@@ -9,8 +9,4 @@ returns c = rw (c .before .before .limit .ensures, c .before .limit2 .ensures, c
 pub within-spec : {M : Type 1} → statement M
 within-spec =
     tie.close
-    (tie.spec
-    (λ c κs. search needs)
-    (λ c κs. search needs)
-    (λ c κs. search needs)
-    returns)
+    (tie.spec (λ c κs. search needs) (λ c κs. search needs) (λ c κs. search needs) returns)

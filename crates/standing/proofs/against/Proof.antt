@@ -1,4 +1,4 @@
--- `against` meets its contract: the loop compares the run with one value after the other. Assumes nothing.
+-- `against` meets its contract: the loop compares the run with one value after the other.
 use mathlib.Core.Path.{_≡_, refl, sym, _∙_}
 use mathlib.Core.List.{List}
 use Prim.Native.Nat.{_≤_, _<_, _-_, _+_}
@@ -98,33 +98,8 @@ returns-2 c = λ v l e r. let s = c .before in passed-end (s .loop .inv .2 v l e
 pub against-spec : {M : Type 1} → statement M
 against-spec =
     tie.close
-    (tie.spec
-    Inv-loop
-    μ-loop
-    loop-holds
-    (λ c. omega (arith, found c))
-    (λ c. omega (arith, found c))
-    (λ c. omega (arith, found c))
-    (λ c. omega (arith, found c))
-    (λ c. omega (arith, found c))
-    (λ c. omega (arith, found c))
-    (λ c. omega (arith, found c))
-    (λ c. omega (arith, found c))
-    (λ c. omega (arith, found c))
-    (λ c. omega (arith, found c))
-    compare-runs-requires
-    (λ c. search needs)
-    (λ c. search needs)
-    returns
-    (λ c. search needs)
-    (λ c. search needs)
-    (λ c. search needs)
-    loop-again
-    (λ c. search needs)
-    (λ c. search needs)
-    (λ c. search needs)
-    loop-again-2
-    (λ c. search needs)
-    (λ c. search needs)
-    loop-again-3
-    returns-2)
+    (tie.spec Inv-loop μ-loop loop-holds (λ c. omega (arith, found c)) (λ c. omega (arith, found c)) (λ c. omega (arith, found c))
+    (λ c. omega (arith, found c)) (λ c. omega (arith, found c)) (λ c. omega (arith, found c)) (λ c. omega (arith, found c))
+    (λ c. omega (arith, found c)) (λ c. omega (arith, found c)) (λ c. omega (arith, found c)) compare-runs-requires (λ c. search needs)
+    (λ c. search needs) returns (λ c. search needs) (λ c. search needs) (λ c. search needs) loop-again (λ c. search needs)
+    (λ c. search needs) (λ c. search needs) loop-again-2 (λ c. search needs) (λ c. search needs) loop-again-3 returns-2)

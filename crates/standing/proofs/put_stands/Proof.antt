@@ -1,4 +1,4 @@
--- `put_stands` meets its contract: the loop compares one value after the other with the put. Assumes nothing.
+-- `put_stands` meets its contract: the loop compares one value after the other with the put.
 use mathlib.Core.Path.{_≡_, refl, sym, _∙_}
 use mathlib.Core.Bool.{Bool, true, false, _||_}
 use mathlib.Core.List.{List}
@@ -101,34 +101,9 @@ returns c = λ l v r e. putting-end (c .before .loop .inv .1 l v r e) (omega (ar
 pub put-stands-spec : {M : Type 1} → statement M
 put-stands-spec =
     tie.close
-    (tie.spec
-    Inv-loop
-    μ-loop
-    loop-holds
-    (λ c. omega (arith, found c))
-    (λ c. omega (arith, found c))
-    (λ c. omega (arith, found c))
-    (λ c. omega (arith, found c))
-    (λ c. omega (arith, found c))
-    (λ c. omega (arith, found c))
-    (λ c. omega (arith, found c))
-    (λ c. omega (arith, found c))
-    (λ c. omega (arith, found c))
-    (λ c. omega (arith, found c))
-    compare-runs-requires
-    (λ c. search needs)
-    (λ c. search needs)
-    (λ c. omega (arith, found (c .before .before .before .before)))
-    (λ c. search needs)
-    loop-again
-    (λ c. search needs)
-    (λ c. omega (arith, found (c .before .before .before .before)))
-    (λ c. search needs)
-    loop-again-2
-    (λ c. search needs)
-    (λ c. search needs)
-    loop-again-3
-    (λ c. search needs)
-    (λ c. search needs)
-    loop-again-4
-    returns)
+    (tie.spec Inv-loop μ-loop loop-holds (λ c. omega (arith, found c)) (λ c. omega (arith, found c)) (λ c. omega (arith, found c))
+    (λ c. omega (arith, found c)) (λ c. omega (arith, found c)) (λ c. omega (arith, found c)) (λ c. omega (arith, found c))
+    (λ c. omega (arith, found c)) (λ c. omega (arith, found c)) (λ c. omega (arith, found c)) compare-runs-requires (λ c. search needs)
+    (λ c. search needs) (λ c. omega (arith, found (c .before .before .before .before))) (λ c. search needs) loop-again (λ c. search needs)
+    (λ c. omega (arith, found (c .before .before .before .before))) (λ c. search needs) loop-again-2 (λ c. search needs) (λ c. search needs)
+    loop-again-3 (λ c. search needs) (λ c. search needs) loop-again-4 returns)

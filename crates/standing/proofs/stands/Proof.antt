@@ -1,4 +1,4 @@
--- `stands` meets its contract: the loop takes our values one after the other. Assumes nothing.
+-- `stands` meets its contract: the loop takes our values one after the other.
 use mathlib.Core.List.{List}
 use Prim.Native.Nat.{_≤_, _<_, _-_, _+_}
 use lib.ListN.{getD}
@@ -61,25 +61,7 @@ returns c = λ l k p q. merging-end (c .before .loop .inv .1 l k p q) (omega (ar
 pub stands-spec : {M : Type 1} → statement M
 stands-spec =
     tie.close
-    (tie.spec
-    Inv-loop
-    μ-loop
-    loop-holds
-    (λ c. omega (arith, found c))
-    (λ c. omega (arith, found c))
-    (λ c. omega (arith, found c))
-    (λ c. omega (arith, found c))
-    (λ c. omega (arith, found c))
-    (λ c. omega (arith, found c))
-    (λ c. omega (arith, found c))
-    (λ c. omega (arith, found c))
-    (λ c. omega (arith, found c))
-    (λ c. omega (arith, found c))
-    against-requires
-    (λ c. search needs)
-    (λ c. search needs)
-    (λ c. search needs)
-    loop-again
-    (λ c. search needs)
-    loop-again-2
-    returns)
+    (tie.spec Inv-loop μ-loop loop-holds (λ c. omega (arith, found c)) (λ c. omega (arith, found c)) (λ c. omega (arith, found c))
+    (λ c. omega (arith, found c)) (λ c. omega (arith, found c)) (λ c. omega (arith, found c)) (λ c. omega (arith, found c))
+    (λ c. omega (arith, found c)) (λ c. omega (arith, found c)) (λ c. omega (arith, found c)) against-requires (λ c. search needs)
+    (λ c. search needs) (λ c. search needs) loop-again (λ c. search needs) loop-again-2 returns)

@@ -1,4 +1,4 @@
--- `print_numbers` stays within the table. Assumes nothing.
+-- `print_numbers` stays within the table.
 use Prim.Native.Nat.{_≤_, _-_}
 use borrow.Author.Needs.{needs}
 use Rattle.tally.proofs.print_numbers.Statement.{statement}
@@ -13,14 +13,5 @@ abbrev μ-loop : tie.MeasureT-loop
 pub print-numbers-spec : {M : Type 1} → statement M
 print-numbers-spec =
     tie.close
-    (tie.spec
-    Inv-loop
-    μ-loop
-    (λ c. search needs)
-    (λ c. search needs)
-    (λ c. search needs)
-    (λ c κs. search needs)
-    (λ c. search needs)
-    (λ c. search needs)
-    (λ c. search needs)
-    (λ c. search needs))
+    (tie.spec Inv-loop μ-loop (λ c. search needs) (λ c. search needs) (λ c. search needs) (λ c κs. search needs) (λ c. search needs)
+    (λ c. search needs) (λ c. search needs) (λ c. search needs))

@@ -1,4 +1,4 @@
--- `count` meets its contract. Assumes nothing.
+-- `count` meets its contract.
 use mathlib.Core.Path.{refl, sym, _∙_}
 use Rattle.asking.specs.Asking as asking
 use Rattle.answers.proofs.Answers.{both-pass, one-fails}
@@ -19,7 +19,4 @@ returns-2 c =
 pub count-spec : {M : Type 1} → statement M
 count-spec =
     tie.close
-    (tie.spec
-    (λ c κs. search needs)
-    returns
-    returns-2)
+    (tie.spec (λ c κs. search needs) returns returns-2)

@@ -1,4 +1,4 @@
--- `merge` meets its contract: a refused image's number, or what both say. Assumes nothing.
+-- `merge` meets its contract: a refused image's number, or what both say.
 use mathlib.Core.Path.{ap, sym, _∙_}
 use Rattle.asking.specs.declared.CvRDTValidation.the-variants.{Once}
 use Rattle.asking.specs.Asking.{spentNumber}
@@ -41,11 +41,4 @@ returns-3 c =
 pub merge-spec : {M : Type 1} → statement M
 merge-spec =
     tie.close
-    (tie.spec
-    (λ c κs. search needs)
-    returns
-    (λ c κs. search needs)
-    returns-2
-    spent-between-requires
-    (λ c κs. search needs)
-    returns-3)
+    (tie.spec (λ c κs. search needs) returns (λ c κs. search needs) returns-2 spent-between-requires (λ c κs. search needs) returns-3)

@@ -1,4 +1,4 @@
--- `op` meets its contract: a refused image's number, or what both say. Assumes nothing.
+-- `op` meets its contract: a refused image's number, or what both say.
 use mathlib.Core.Path.{ap, sym, _∙_}
 use Rattle.maprecords.specs.Related.{readMap}
 use Rattle.opimage.specs.declared.ReadOp.{ReadOp}
@@ -42,11 +42,4 @@ returns-3 c =
 pub op-spec : {M : Type 1} → statement M
 op-spec =
     tie.close
-    (tie.spec
-    (λ c κs. search needs)
-    returns
-    (λ c κs. search needs)
-    returns-2
-    order-of-requires
-    (λ c κs. search needs)
-    returns-3)
+    (tie.spec (λ c κs. search needs) returns (λ c κs. search needs) returns-2 order-of-requires (λ c κs. search needs) returns-3)

@@ -1,4 +1,4 @@
--- `dot_test` meets its contract. Assumes nothing.
+-- `dot_test` meets its contract.
 use borrow.Author.Needs.{needs}
 use Rattle.walks.specs.Walk.{dotTest}
 use Rattle.walks.proofs.dot_test.Statement.{statement}

@@ -1,4 +1,4 @@
--- `key_test` meets its contract: the loop follows the definition. Assumes nothing.
+-- `key_test` meets its contract: the loop follows the definition.
 use borrow.Author.Needs.{needs}
 use Rattle.walks.specs.Walk.{keyTest}
 use Rattle.walks.proofs.key_test.Statement.{statement}

@@ -1,4 +1,4 @@
--- `keys_good` meets its contract: the loop follows the definition. Assumes nothing.
+-- `keys_good` meets its contract: the loop follows the definition.
 use mathlib.Core.Path.{_≡_}
 use Prim.Native.Nat.{_+_, _*_, _≤_, _-_}
 use borrow.Author.Needs.{needs}
@@ -48,27 +48,6 @@ returns-3 c = keys-stop _ _ _ _ (c .before .loop .inv .1) (omega arith)
 pub keys-good-spec : {M : Type 1} → statement M
 keys-good-spec =
     tie.close
-    (tie.spec
-    Inv-loop
-    μ-loop
-    loop-holds
-    (λ c. search needs)
-    (λ c κs. search needs)
-    (λ c. search needs)
-    (λ c κs. search needs)
-    returns
-    (λ c. search needs)
-    (λ c. search needs)
-    (λ c. search needs)
-    (λ c. search needs)
-    (λ c. search needs)
-    array-read-c
-    returns-2
-    add-counts
-    (λ c. search needs)
-    array-write-counts
-    (λ c. search needs)
-    (λ c. search needs)
-    (λ c. search needs)
-    loop-again
-    returns-3)
+    (tie.spec Inv-loop μ-loop loop-holds (λ c. search needs) (λ c κs. search needs) (λ c. search needs) (λ c κs. search needs) returns
+    (λ c. search needs) (λ c. search needs) (λ c. search needs) (λ c. search needs) (λ c. search needs) array-read-c returns-2 add-counts
+    (λ c. search needs) array-write-counts (λ c. search needs) (λ c. search needs) (λ c. search needs) loop-again returns-3)

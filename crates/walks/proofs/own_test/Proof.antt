@@ -1,4 +1,4 @@
--- `own_test` meets its contract. Assumes nothing.
+-- `own_test` meets its contract.
 use borrow.Author.Needs.{needs}
 use Rattle.walks.specs.Walk.{ownTest}
 use Rattle.walks.proofs.own_test.Statement.{statement}

@@ -1,4 +1,4 @@
--- `value_test` meets its contract. Assumes nothing.
+-- `value_test` meets its contract.
 use borrow.Author.Needs.{needs}
 use Rattle.walks.specs.Walk.{valueTest}
 use Rattle.walks.proofs.value_test.Statement.{statement}

@@ -1,4 +1,4 @@
--- `AddCtx::update` meets its contract. Assumes nothing.
+-- `AddCtx::update` meets its contract.
 use mathlib.Core.Path.{_∙_}
 use borrow.Author.Tests.{eq-eqb, ne-eqb}
 use Rattle.asking.specs.Asking.{updateUnder}
@@ -17,8 +17,4 @@ returns-2 c = rw (c .new .ensures, eq-eqb _ _ (c .before .before .before .if1 .l
 pub update-spec : {M : Type 1} → statement M
 update-spec =
     tie.close
-    (tie.spec
-    (λ c κs. search needs)
-    returns
-    (λ c κs. search needs)
-    returns-2)
+    (tie.spec (λ c κs. search needs) returns (λ c κs. search needs) returns-2)

@@ -1,4 +1,4 @@
--- `ReadCtx::derive_add_ctx` meets its contract: 9 at the last counter, 4 for a ninth dot, else the dot and the clock. Assumes nothing.
+-- `ReadCtx::derive_add_ctx` meets its contract: 9 at the last counter, 4 for a ninth dot, else the dot and the clock.
 use mathlib.Core.Path.{_∙_}
 use borrow.Author.Tests.{le-leb, lt-leb, lt-ltb, le-ltb}
 use Rattle.clock.proofs.Packs.{over-means, within-means, within-clock}
@@ -33,12 +33,5 @@ returns-3 c =
 pub derive-add-ctx-spec : {M : Type 1} → statement M
 derive-add-ctx-spec =
     tie.close
-    (tie.spec
-    (λ c κs. search needs)
-    (λ c κs. search needs)
-    returns
-    (λ c. search needs)
-    (λ c κs. search needs)
-    (λ c κs. search needs)
-    returns-2
-    returns-3)
+    (tie.spec (λ c κs. search needs) (λ c κs. search needs) returns (λ c. search needs) (λ c κs. search needs) (λ c κs. search needs)
+    returns-2 returns-3)

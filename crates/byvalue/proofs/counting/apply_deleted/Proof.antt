@@ -1,4 +1,4 @@
--- `apply_deleted` meets its contract: each way out is a law of `Ways`. Assumes nothing.
+-- `apply_deleted` meets its contract: each way out is a law of `Ways`.
 use mathlib.Core.Path.{ap, ap₂, sym, _∙_}
 use Rattle.maprecords.specs.declared.ReadMap.{ReadMap}
 use Rattle.opimage.specs.declared.ReadOp.{ReadOp}
@@ -54,12 +54,4 @@ returns-4 c =
 pub apply-deleted-spec : {M : Type 1} → statement M
 apply-deleted-spec =
     tie.close
-    (tie.spec
-    (λ c κs. search needs)
-    returns
-    (λ c κs. search needs)
-    returns-2
-    returns-3
-    apply-requires
-    fewer-requires
-    returns-4)
+    (tie.spec (λ c κs. search needs) returns (λ c κs. search needs) returns-2 returns-3 apply-requires fewer-requires returns-4)

@@ -1,4 +1,4 @@
--- `count_dots` meets its contract: the loop adds up what each has. Assumes nothing.
+-- `count_dots` meets its contract: the loop adds up what each has.
 use mathlib.Core.Path.{_≡_}
 use Prim.Native.Nat.{_+_, _*_, _≤_, _-_}
 use lib.ListN.{length, drop}
@@ -40,16 +40,5 @@ returns c =
 pub count-dots-spec : {M : Type 1} → statement M
 count-dots-spec =
     tie.close
-    (tie.spec
-    Inv-loop
-    μ-loop
-    size-requires
-    loop-holds
-    (λ c. search needs)
-    (λ c. search needs)
-    (λ c. search needs)
-    (λ c κs. search needs)
-    (λ c. search needs)
-    (λ c. search needs)
-    loop-again
-    returns)
+    (tie.spec Inv-loop μ-loop size-requires loop-holds (λ c. search needs) (λ c. search needs) (λ c. search needs) (λ c κs. search needs)
+    (λ c. search needs) (λ c. search needs) loop-again returns)

@@ -1,4 +1,4 @@
--- `fewer` meets its contract: each way out is a law of the counting calls. Assumes nothing.
+-- `fewer` meets its contract: each way out is a law of the counting calls.
 use mathlib.Core.Path.{refl}
 use Rattle.answers.proofs.Lengths.{length-image}
 use Rattle.promises.specs.Deleted.{entryDots}
@@ -34,11 +34,4 @@ returns-3 c =
 pub fewer-spec : {M : Type 1} → statement M
 fewer-spec =
     tie.close
-    (tie.spec
-    returns
-    (λ c κs. search needs)
-    returns-2
-    (λ c κs. search needs)
-    (λ c κs. search needs)
-    sub-result
-    returns-3)
+    (tie.spec returns (λ c κs. search needs) returns-2 (λ c κs. search needs) (λ c κs. search needs) sub-result returns-3)

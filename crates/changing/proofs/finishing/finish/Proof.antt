@@ -1,4 +1,4 @@
--- `finish` meets its contract: nothing is written before the number is known, then one section behind the other. Assumes nothing.
+-- `finish` meets its contract: nothing is written before the number is known, then one section behind the other.
 use mathlib.Core.Path.{sym, _∙_}
 use mathlib.Core.List.{_++_, append-assoc}
 use native.Mathlib.Omega.{arith}
@@ -84,17 +84,5 @@ returns-3 f c l w d =
 pub finish-spec : {M : Type 1} → statement M
 finish-spec =
     tie.close
-    (tie.spec
-    weigh-requires
-    (λ c κs. search needs)
-    returns
-    (λ c κs. search needs)
-    add-records
-    add-records-2
-    add-records-3
-    (λ c κs. search needs)
-    returns-2
-    write-sketch-requires
-    write-waiting-requires
-    (λ c. search needs)
-    returns-3)
+    (tie.spec weigh-requires (λ c κs. search needs) returns (λ c κs. search needs) add-records add-records-2 add-records-3
+    (λ c κs. search needs) returns-2 write-sketch-requires write-waiting-requires (λ c. search needs) returns-3)

@@ -1,4 +1,4 @@
--- `weigh` meets its contract: 5, 6, 7, 8, then how many records there are. Assumes nothing.
+-- `weigh` meets its contract: 5, 6, 7, 8, then how many records there are.
 use mathlib.Core.Path.{sym, _∙_}
 use lib.ListN.{length-append}
 use native.Mathlib.Omega.{arith}
@@ -80,16 +80,5 @@ returns-5 f =
 pub weigh-spec : {M : Type 1} → statement M
 weigh-spec =
     tie.close
-    (tie.spec
-    (λ c κs. search needs)
-    returns
-    (λ c κs. search needs)
-    returns-2
-    (λ c κs. search needs)
-    returns-3
-    count-keys-requires
-    (λ c κs. search needs)
-    returns-4
-    count-dots-requires
-    add-records
-    returns-5)
+    (tie.spec (λ c κs. search needs) returns (λ c κs. search needs) returns-2 (λ c κs. search needs) returns-3 count-keys-requires
+    (λ c κs. search needs) returns-4 count-dots-requires add-records returns-5)

@@ -1,4 +1,4 @@
--- `write_waiting` meets its contract: dots, then keys. Assumes nothing.
+-- `write_waiting` meets its contract: dots, then keys.
 use mathlib.Core.Path.{refl}
 use borrow.Author.Needs.{needs}
 use Rattle.records.proofs.Writing.{write-start, write-room, write-on, write-last, last-room}

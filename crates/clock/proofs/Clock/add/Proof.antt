@@ -1,4 +1,4 @@
--- `Clock::add` meets its contract: the dot is joined where it is beyond the clock, and nothing is where it is not. Assumes nothing.
+-- `Clock::add` meets its contract: the dot is joined where it is beyond the clock, and nothing is where it is not.
 use mathlib.Core.Path.{ap}
 use mathlib.Core.List.{[]}
 use borrow.Author.Tests.{lt-ltb, le-ltb}
@@ -30,11 +30,4 @@ returns-2 c =
 pub add-spec : {M : Type 1} → statement M
 add-spec =
     tie.close
-    (tie.spec
-    (λ c κs. search needs)
-    (λ c κs. search needs)
-    push-requires
-    (λ c κs. search needs)
-    returns
-    (λ c κs. search needs)
-    returns-2)
+    (tie.spec (λ c κs. search needs) (λ c κs. search needs) push-requires (λ c κs. search needs) returns (λ c κs. search needs) returns-2)

@@ -1,4 +1,4 @@
--- `Clock::common` meets its contract, by that of `sift`. Assumes nothing.
+-- `Clock::common` meets its contract, by that of `sift`.
 use Rattle.clock.specs.Dots.{commonDots}
 use borrow.Author.Needs.{needs}
 use Rattle.clock.proofs.Clock.common.Statement.{statement}
@@ -11,6 +11,4 @@ returns c = c .sift .ensures
 pub common-spec : {M : Type 1} → statement M
 common-spec =
     tie.close
-    (tie.spec
-    (λ c κs. search needs)
-    returns)
+    (tie.spec (λ c κs. search needs) returns)

@@ -1,4 +1,4 @@
--- `Clock::compare` meets its contract, by a walk where the clocks allow it, and else by looking up, both ways. Assumes nothing.
+-- `Clock::compare` meets its contract, by a walk where the clocks allow it, and else by looking up, both ways.
 use mathlib.Core.Path.{sym, _∙_}
 use Rattle.clock.specs.Dots.{orderOf}
 use Rattle.clock.proofs.Walks.{lawful-told}
@@ -20,15 +20,5 @@ returns-3 c = rw (← c .before .before .covers-by-look .ensures, ← c .before 
 pub compare-spec : {M : Type 1} → statement M
 compare-spec =
     tie.close
-    (tie.spec
-    (λ c κs. search needs)
-    compare-level-requires
-    (λ c. search needs)
-    (λ c κs. search needs)
-    (λ c κs. search needs)
-    compare-beside-requires
-    (λ c. search needs)
-    (λ c κs. search needs)
-    (λ c κs. search needs)
-    (λ c κs. search needs)
-    returns-3)
+    (tie.spec (λ c κs. search needs) compare-level-requires (λ c. search needs) (λ c κs. search needs) (λ c κs. search needs)
+    compare-beside-requires (λ c. search needs) (λ c κs. search needs) (λ c κs. search needs) (λ c κs. search needs) returns-3)

@@ -1,4 +1,4 @@
--- `Clock::compare_beside` meets its contract: the loop walks both clocks side by side, and keeps what each covers of the other. Assumes nothing.
+-- `Clock::compare_beside` meets its contract: the loop walks both clocks side by side, and keeps what each covers of the other.
 use mathlib.Core.Path.{_≡_, ap, ap₂, _∙_}
 use mathlib.Core.Bool.{_&&_}
 use mathlib.Core.Logic.{_⊎_, ⊎-elim, inl, inr}
@@ -104,26 +104,6 @@ returns-2 c =
 pub compare-beside-spec : {M : Type 1} → statement M
 compare-beside-spec =
     tie.close
-    (tie.spec
-    Inv-loop
-    μ-loop
-    (λ c κs. search needs)
-    (λ c κs. search needs)
-    loop-holds
-    returns
-    (λ c. search needs)
-    (λ c. search needs)
-    (λ c. search needs)
-    element-copy-out-y
-    (λ c. search needs)
-    loop-less
-    loop-again
-    (λ c. search needs)
-    loop-less-2
-    loop-again-2
-    (λ c. search needs)
-    (λ c. search needs)
-    loop-less-3
-    loop-again-3
-    (λ c κs. search needs)
-    returns-2)
+    (tie.spec Inv-loop μ-loop (λ c κs. search needs) (λ c κs. search needs) loop-holds returns (λ c. search needs) (λ c. search needs)
+    (λ c. search needs) element-copy-out-y (λ c. search needs) loop-less loop-again (λ c. search needs) loop-less-2 loop-again-2
+    (λ c. search needs) (λ c. search needs) loop-less-3 loop-again-3 (λ c κs. search needs) returns-2)

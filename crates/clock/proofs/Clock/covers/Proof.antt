@@ -1,4 +1,4 @@
--- `Clock::covers` meets its contract, by that of `compare`. Assumes nothing.
+-- `Clock::covers` meets its contract, by that of `compare`.
 use Rattle.clock.proofs.Walks.{over-told}
 use borrow.Author.Needs.{needs}
 use Rattle.clock.proofs.Clock.covers.Statement.{statement}
@@ -19,13 +19,5 @@ returns-4 c = rw (← over-told, ← c .before .before .compare .ensures, c .enu
 pub covers-spec : {M : Type 1} → statement M
 covers-spec =
     tie.close
-    (tie.spec
-    (λ c κs. search needs)
-    (λ c. search needs)
-    (λ c. search needs)
-    (λ c. search needs)
-    (λ c. search needs)
-    returns
-    returns-2
-    returns-3
-    returns-4)
+    (tie.spec (λ c κs. search needs) (λ c. search needs) (λ c. search needs) (λ c. search needs) (λ c. search needs) returns returns-2
+    returns-3 returns-4)

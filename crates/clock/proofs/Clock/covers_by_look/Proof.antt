@@ -1,4 +1,4 @@
--- `Clock::covers_by_look` meets its contract: the loop looks for a dot that is beyond. Assumes nothing.
+-- `Clock::covers_by_look` meets its contract: the loop looks for a dot that is beyond.
 use mathlib.Core.Bool.{true, false}
 use Prim.Native.Nat.{_≤_, _-_}
 use borrow.Author.Tests.{lt-ltb, le-ltb}
@@ -32,16 +32,5 @@ returns-2 c = passing-end (c .before .loop .inv .1) (omega arith)
 pub covers-by-look-spec : {M : Type 1} → statement M
 covers-by-look-spec =
     tie.close
-    (tie.spec
-    Inv-loop
-    μ-loop
-    (λ c κs. search needs)
-    loop-holds
-    (λ c. search needs)
-    (λ c. search needs)
-    (λ c κs. search needs)
-    returns
-    (λ c. search needs)
-    (λ c. search needs)
-    loop-again
-    returns-2)
+    (tie.spec Inv-loop μ-loop (λ c κs. search needs) loop-holds (λ c. search needs) (λ c. search needs) (λ c κs. search needs) returns
+    (λ c. search needs) (λ c. search needs) loop-again returns-2)

@@ -1,4 +1,4 @@
--- `Clock::cut` meets its contract, by that of `sift`, and by the sizes before and after. Assumes nothing.
+-- `Clock::cut` meets its contract, by that of `sift`, and by the sizes before and after.
 use mathlib.Core.Path.{_≡_, ap, ap₂}
 use Prim.Native.Nat.{_-_}
 use Rattle.clock.specs.declared.Clock.{Clock}
@@ -27,8 +27,4 @@ returns c =
 pub cut-spec : {M : Type 1} → statement M
 cut-spec =
     tie.close
-    (tie.spec
-    (λ c κs. search needs)
-    (λ c κs. search needs)
-    sub-deleted
-    returns)
+    (tie.spec (λ c κs. search needs) (λ c κs. search needs) sub-deleted returns)

@@ -1,4 +1,4 @@
--- `Clock::get` meets its contract: the loop looks for the actor's dot. Assumes nothing.
+-- `Clock::get` meets its contract: the loop looks for the actor's dot.
 use Prim.Native.Nat.{_≤_, _-_}
 use lib.Dec.{eqb}
 use borrow.Author.Tests.{eq-eqb, ne-eqb}
@@ -32,15 +32,5 @@ returns-2 c = passing-end (c .before .loop .inv .1) (omega arith)
 pub get-spec : {M : Type 1} → statement M
 get-spec =
     tie.close
-    (tie.spec
-    Inv-loop
-    μ-loop
-    (λ c κs. search needs)
-    loop-holds
-    (λ c. search needs)
-    (λ c. search needs)
-    returns
-    (λ c. search needs)
-    (λ c. search needs)
-    loop-again
-    returns-2)
+    (tie.spec Inv-loop μ-loop (λ c κs. search needs) loop-holds (λ c. search needs) (λ c. search needs) returns (λ c. search needs)
+    (λ c. search needs) loop-again returns-2)

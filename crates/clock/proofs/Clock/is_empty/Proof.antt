@@ -1,4 +1,4 @@
--- `Clock::is_empty` meets its contract, by that of `size`. Assumes nothing.
+-- `Clock::is_empty` meets its contract, by that of `size`.
 use mathlib.Core.Path.{ap}
 use lib.Dec.{eqb}
 use Rattle.clock.specs.Dots.{isEmpty}
@@ -13,6 +13,4 @@ returns c = ap (λ k. eqb k 0) (c .size .ensures .0)
 pub is-empty-spec : {M : Type 1} → statement M
 is-empty-spec =
     tie.close
-    (tie.spec
-    (λ c κs. search needs)
-    returns)
+    (tie.spec (λ c κs. search needs) returns)

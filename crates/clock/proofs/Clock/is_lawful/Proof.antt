@@ -1,4 +1,4 @@
--- `Clock::is_lawful` meets its contract: each dot stands from the place behind the last actor on. Assumes nothing.
+-- `Clock::is_lawful` meets its contract: each dot stands from the place behind the last actor on.
 use mathlib.Core.Path.{_≡_, refl, sym, _∙_}
 use mathlib.Core.Bool.{Bool}
 use mathlib.Core.List.{List}
@@ -50,17 +50,5 @@ returns-2 c =
 pub is-lawful-spec : {M : Type 1} → statement M
 is-lawful-spec =
     tie.close
-    (tie.spec
-    Inv-loop
-    μ-loop
-    (λ c κs. search needs)
-    loop-holds
-    (λ c. search needs)
-    (λ c. search needs)
-    (λ c. search needs)
-    (λ c. search needs)
-    returns
-    (λ c. search needs)
-    (λ c. search needs)
-    loop-again
-    returns-2)
+    (tie.spec Inv-loop μ-loop (λ c κs. search needs) loop-holds (λ c. search needs) (λ c. search needs) (λ c. search needs)
+    (λ c. search needs) returns (λ c. search needs) (λ c. search needs) loop-again returns-2)

@@ -1,4 +1,4 @@
--- `Clock::new` meets its contract. Assumes nothing.
+-- `Clock::new` meets its contract.
 use Rattle.lists.specs.Pad.{pad}
 use borrow.Author.Needs.{needs}
 use Rattle.clock.proofs.Clock.new.Statement.{statement}
@@ -11,5 +11,4 @@ returns c = search needs
 pub new-spec : {M : Type 1} → statement M
 new-spec =
     tie.close
-    (tie.spec
-    returns)
+    (tie.spec returns)

@@ -1,4 +1,4 @@
--- `Clock::push` meets its contract: a store behind the last dot. Assumes nothing.
+-- `Clock::push` meets its contract: a store behind the last dot.
 use mathlib.Core.Path.{ap}
 use Rattle.clock.proofs.Packs.{pushed}
 use borrow.Author.Needs.{needs}
@@ -12,8 +12,4 @@ returns c = λ l e. pushed l _ e (omega (arith, ap (λ k. k .len) e))
 pub push-spec : {M : Type 1} → statement M
 push-spec =
     tie.close
-    (tie.spec
-    (λ c. search needs)
-    (λ c. search needs)
-    (λ c. search needs)
-    returns)
+    (tie.spec (λ c. search needs) (λ c. search needs) (λ c. search needs) returns)

@@ -1,4 +1,4 @@
--- `Clock::sift` meets its contract, by the walk where both clocks are in order, and else by looking up. Assumes nothing.
+-- `Clock::sift` meets its contract, by the walk where both clocks are in order, and else by looking up.
 use mathlib.Core.Path.{sym, _∙_}
 use Rattle.clock.proofs.Walks.{lawful-told}
 use borrow.Author.Needs.{needs}
@@ -12,10 +12,5 @@ sift-beside-requires c κs =
 pub sift-spec : {M : Type 1} → statement M
 sift-spec =
     tie.close
-    (tie.spec
-    (λ c κs. search needs)
-    (λ c κs. search needs)
-    sift-beside-requires
-    (λ c. search needs)
-    (λ c κs. search needs)
+    (tie.spec (λ c κs. search needs) (λ c κs. search needs) sift-beside-requires (λ c. search needs) (λ c κs. search needs)
     (λ c. search needs))

@@ -1,4 +1,4 @@
--- `Clock::sift_beside` meets its contract: the loop sifts the clock's dots, and walks the other clock beside them. Assumes nothing.
+-- `Clock::sift_beside` meets its contract: the loop sifts the clock's dots, and walks the other clock beside them.
 use mathlib.Core.Path.{_≡_, refl, ap, sym, _∙_}
 use mathlib.Core.Logic.{⊎-elim}
 use mathlib.Core.List.{[]}
@@ -94,28 +94,7 @@ returns c = sifting-end (c .before .loop .inv .2) (omega arith)
 pub sift-beside-spec : {M : Type 1} → statement M
 sift-beside-spec =
     tie.close
-    (tie.spec
-    Inv-loop
-    μ-loop
-    (λ c κs. search needs)
-    (λ c κs. search needs)
-    (λ c κs. search needs)
-    loop-holds
-    (λ c. search needs)
-    (λ c. search needs)
-    (λ c. search needs)
-    (λ c. search needs)
-    (λ c. search needs)
-    (λ c. search needs)
-    loop-again
-    (λ c. search needs)
-    (λ c. search needs)
-    (λ c κs. search needs)
-    (λ c. omega (arith, room c))
-    (λ c. omega (arith, room c))
-    (λ c. omega (arith, room c))
-    (λ c. omega (arith, met (c .before .before)))
-    loop-again-2
-    (λ c. omega (arith, met (c .before .before)))
-    loop-again-3
-    returns)
+    (tie.spec Inv-loop μ-loop (λ c κs. search needs) (λ c κs. search needs) (λ c κs. search needs) loop-holds (λ c. search needs)
+    (λ c. search needs) (λ c. search needs) (λ c. search needs) (λ c. search needs) (λ c. search needs) loop-again (λ c. search needs)
+    (λ c. search needs) (λ c κs. search needs) (λ c. omega (arith, room c)) (λ c. omega (arith, room c)) (λ c. omega (arith, room c))
+    (λ c. omega (arith, met (c .before .before))) loop-again-2 (λ c. omega (arith, met (c .before .before))) loop-again-3 returns)

@@ -1,4 +1,4 @@
--- `Clock::sift_by_look` meets its contract: the loop sifts the clock's dots. Assumes nothing.
+-- `Clock::sift_by_look` meets its contract: the loop sifts the clock's dots.
 use mathlib.Core.Path.{refl, ap, sym, _∙_}
 use mathlib.Core.List.{[]}
 use Prim.Native.Nat.{_≤_, _-_, _<_}
@@ -47,22 +47,6 @@ returns c = sifting-end (c .before .loop .inv .1) (omega arith)
 pub sift-by-look-spec : {M : Type 1} → statement M
 sift-by-look-spec =
     tie.close
-    (tie.spec
-    Inv-loop
-    μ-loop
-    (λ c κs. search needs)
-    (λ c κs. search needs)
-    loop-holds
-    (λ c. search needs)
-    (λ c. search needs)
-    (λ c. search needs)
-    (λ c κs. search needs)
-    (λ c κs. search needs)
-    (λ c. omega (arith, room c))
-    (λ c. omega (arith, room c))
-    (λ c. omega (arith, room c))
-    (λ c. search needs)
-    loop-again
-    (λ c. search needs)
-    loop-again-2
-    returns)
+    (tie.spec Inv-loop μ-loop (λ c κs. search needs) (λ c κs. search needs) loop-holds (λ c. search needs) (λ c. search needs)
+    (λ c. search needs) (λ c κs. search needs) (λ c κs. search needs) (λ c. omega (arith, room c)) (λ c. omega (arith, room c))
+    (λ c. omega (arith, room c)) (λ c. search needs) loop-again (λ c. search needs) loop-again-2 returns)

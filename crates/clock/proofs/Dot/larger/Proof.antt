@@ -1,4 +1,4 @@
--- `Dot::larger` meets its contract. Assumes nothing.
+-- `Dot::larger` meets its contract.
 use borrow.Author.Tests.{lt-ltb, le-ltb}
 use Rattle.clock.proofs.Dot.larger.Statement.{statement}
 use Rattle.clock.proofs.Dot.larger.Tie as tie
@@ -12,6 +12,4 @@ returns-2 c = rw (le-ltb _ _ (c .if1 .left))
 pub larger-spec : {M : Type 1} → statement M
 larger-spec =
     tie.close
-    (tie.spec
-    returns
-    returns-2)
+    (tie.spec returns returns-2)

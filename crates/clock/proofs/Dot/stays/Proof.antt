@@ -1,4 +1,4 @@
--- `Dot::stays` meets its contract. Assumes nothing.
+-- `Dot::stays` meets its contract.
 use Rattle.clock.proofs.Dot.stays.Statement.{statement}
 use Rattle.clock.proofs.Dot.stays.Tie as tie
 

@@ -1,4 +1,4 @@
--- `Joined::join` meets its contract: what is over the limit stays over. Assumes nothing.
+-- `Joined::join` meets its contract: what is over the limit stays over.
 use mathlib.Core.Path.{ap, sym, _∙_}
 use Rattle.clock.specs.Dots.{dotsOf, fitted, joinDots}
 use Rattle.clock.proofs.Packs.{exceeds, over-means, within-clock, dots-of, join-longer}
@@ -19,7 +19,4 @@ returns-2 c = λ l e.
 pub join-spec : {M : Type 1} → statement M
 join-spec =
     tie.close
-    (tie.spec
-    returns
-    (λ c κs. search needs)
-    returns-2)
+    (tie.spec returns (λ c κs. search needs) returns-2)

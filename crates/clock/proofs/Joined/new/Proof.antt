@@ -1,4 +1,4 @@
--- `Joined::new` meets its contract. Assumes nothing.
+-- `Joined::new` meets its contract.
 use Rattle.clock.proofs.Packs.{fits}
 use mathlib.Core.List.{[]}
 use borrow.Author.Needs.{needs}
@@ -12,6 +12,4 @@ returns c = rw (c .new .ensures, fits [] (omega arith))
 pub new-spec : {M : Type 1} → statement M
 new-spec =
     tie.close
-    (tie.spec
-    (λ c κs. search needs)
-    returns)
+    (tie.spec (λ c κs. search needs) returns)

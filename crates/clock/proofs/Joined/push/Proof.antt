@@ -1,4 +1,4 @@
--- `Joined::push` meets its contract: over the limit stays over, and the ninth dot goes over. Assumes nothing.
+-- `Joined::push` meets its contract: over the limit stays over, and the ninth dot goes over.
 use mathlib.Core.Path.{ap, sym, _∙_}
 use Rattle.lists.proofs.Pads.{length-snoc}
 use Rattle.clock.proofs.Packs.{fits, exceeds, over-means, within-clock}
@@ -25,9 +25,4 @@ returns-3 c = λ l e.
 pub push-spec : {M : Type 1} → statement M
 push-spec =
     tie.close
-    (tie.spec
-    returns
-    (λ c κs. search needs)
-    returns-2
-    (λ c κs. search needs)
-    returns-3)
+    (tie.spec returns (λ c κs. search needs) returns-2 (λ c κs. search needs) returns-3)

@@ -1,4 +1,4 @@
--- `ClockReader::new` meets its contract. Assumes nothing.
+-- `ClockReader::new` meets its contract.
 use Rattle.lists.specs.Sift.{sift}
 use borrow.Author.Needs.{needs}
 use Rattle.clockimage.proofs.ClockReader.new.Statement.{statement}
@@ -11,7 +11,4 @@ returns c = record { scanned = c .before .new .ensures 1 1; clock = λ _. c .new
 pub new-spec : {M : Type 1} → statement M
 new-spec =
     tie.close
-    (tie.spec
-    (λ c κs. search needs)
-    (λ c κs. search needs)
-    returns)
+    (tie.spec (λ c κs. search needs) (λ c κs. search needs) returns)

@@ -1,4 +1,4 @@
--- `ClockReader::take` meets its contract: a dot more, where nothing is wrong. Assumes nothing.
+-- `ClockReader::take` meets its contract: a dot more, where nothing is wrong.
 use mathlib.Core.Path.{refl, ap, sym, _∙_}
 use borrow.Author.Tests.{eq-eqb, eqb-true}
 use Rattle.scan.proofs.Scanning.{scan-before, none-under}

@@ -1,4 +1,4 @@
--- `ClockReader::verdict` meets its contract. Assumes nothing.
+-- `ClockReader::verdict` meets its contract.
 use mathlib.Core.Path.{sym, _∙_}
 use borrow.Author.Tests.{eq-eqb, ne-eqb}
 use borrow.Author.Needs.{needs}
@@ -18,7 +18,4 @@ returns-2 c l s =
 pub verdict-spec : {M : Type 1} → statement M
 verdict-spec =
     tie.close
-    (tie.spec
-    returns
-    (λ c κs. search needs)
-    returns-2)
+    (tie.spec returns (λ c κs. search needs) returns-2)

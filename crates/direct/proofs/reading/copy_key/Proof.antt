@@ -1,4 +1,4 @@
--- `copy_key` meets its contract: four spans, one behind the other. Assumes nothing.
+-- `copy_key` meets its contract: four spans, one behind the other.
 use mathlib.Core.Path.{refl}
 use native.Mathlib.Omega.{arith}
 use borrow.Author.Needs.{needs}
@@ -59,10 +59,4 @@ returns c =
 pub copy-key-spec : {M : Type 1} → statement M
 copy-key-spec =
     tie.close
-    (tie.spec
-    copy-span-requires
-    copy-span-requires-2
-    copy-span-requires-3
-    copy-span-requires-4
-    (λ c. search needs)
-    returns)
+    (tie.spec copy-span-requires copy-span-requires-2 copy-span-requires-3 copy-span-requires-4 (λ c. search needs) returns)

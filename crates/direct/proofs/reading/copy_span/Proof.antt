@@ -1,4 +1,4 @@
--- `copy_span` meets its contract: the bytes of a span are those of its records. Assumes nothing.
+-- `copy_span` meets its contract: the bytes of a span are those of its records.
 use Prim.Native.Nat.{_*_, _-_}
 use lib.ListN.{drop, length-take}
 use native.Mathlib.Omega.{arith}
@@ -24,12 +24,5 @@ returns c =
 pub copy-span-spec : {M : Type 1} → statement M
 copy-span-spec =
     tie.close
-    (tie.spec
-    (λ c. search needs)
-    (λ c. search needs)
-    (λ c. search needs)
-    (λ c. search needs)
-    (λ c. search needs)
-    copy-run-requires
-    (λ c. search needs)
-    returns)
+    (tie.spec (λ c. search needs) (λ c. search needs) (λ c. search needs) (λ c. search needs) (λ c. search needs) copy-run-requires
+    (λ c. search needs) returns)

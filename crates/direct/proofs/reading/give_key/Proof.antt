@@ -1,4 +1,4 @@
--- `give_key` meets its contract: what is copied is the image of the map clock and the entry. Assumes nothing.
+-- `give_key` meets its contract: what is copied is the image of the map clock and the entry.
 use mathlib.Core.Path.{refl}
 use native.Mathlib.Omega.{arith}
 use borrow.Author.Needs.{needs}
@@ -39,17 +39,5 @@ returns-2 c =
 pub give-key-spec : {M : Type 1} → statement M
 give-key-spec =
     tie.close
-    (tie.spec
-    (λ c κs. search needs)
-    (λ c κs. search needs)
-    (λ c κs. search needs)
-    (λ c κs. search needs)
-    (λ c κs. search needs)
-    (λ c. search needs)
-    (λ c. search needs)
-    (λ c. search needs)
-    (λ c. search needs)
-    returns
-    copy-key-requires
-    (λ c. search needs)
-    returns-2)
+    (tie.spec (λ c κs. search needs) (λ c κs. search needs) (λ c κs. search needs) (λ c κs. search needs) (λ c κs. search needs)
+    (λ c. search needs) (λ c. search needs) (λ c. search needs) (λ c. search needs) returns copy-key-requires (λ c. search needs) returns-2)

@@ -1,4 +1,4 @@
--- `order_of` meets its contract: the map clock and the entry's are those of the map. Assumes nothing.
+-- `order_of` meets its contract: the map clock and the entry's are those of the map.
 use mathlib.Core.Path.{_∙_}
 use Rattle.clock.proofs.Packs.{dots-of}
 use Rattle.asking.specs.Asking.{validateUpdate, validateOp}
@@ -19,8 +19,4 @@ returns-2 c = rw (c .if1 .left)
 pub order-of-spec : {M : Type 1} → statement M
 order-of-spec =
     tie.close
-    (tie.spec
-    (λ c κs. search needs)
-    (λ c κs. search needs)
-    returns
-    returns-2)
+    (tie.spec (λ c κs. search needs) (λ c κs. search needs) returns returns-2)

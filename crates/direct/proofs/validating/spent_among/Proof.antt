@@ -1,4 +1,4 @@
--- `spent_among` meets its contract: the walk looks for an entry that shares a dot. Assumes nothing.
+-- `spent_among` meets its contract: the walk looks for an entry that shares a dot.
 use mathlib.Core.Path.{sym, _∙_}
 use Prim.Native.Nat.{_-_}
 use native.Mathlib.Omega.{arith}
@@ -52,14 +52,5 @@ returns-2 c = seek-end (c .before .loop .inv) (omega arith)
 pub spent-among-spec : {M : Type 1} → statement M
 spent-among-spec =
     tie.close
-    (tie.spec
-    Inv-loop
-    μ-loop
-    loop-holds
-    stop-at-requires
-    (λ c κs. search needs)
-    (λ c κs. search needs)
-    returns
-    loop-less
-    loop-again
+    (tie.spec Inv-loop μ-loop loop-holds stop-at-requires (λ c κs. search needs) (λ c κs. search needs) returns loop-less loop-again
     returns-2)

@@ -1,4 +1,4 @@
--- `spent_between` meets its contract: the walk looks for an entry of ours that shares a dot. Assumes nothing.
+-- `spent_between` meets its contract: the walk looks for an entry of ours that shares a dot.
 use mathlib.Core.Path.{sym, _∙_}
 use Prim.Native.Nat.{_-_}
 use native.Mathlib.Omega.{arith}
@@ -55,14 +55,5 @@ returns-2 c = seek-end (c .before .loop .inv) (omega arith)
 pub spent-between-spec : {M : Type 1} → statement M
 spent-between-spec =
     tie.close
-    (tie.spec
-    Inv-loop
-    μ-loop
-    loop-holds
-    stop-at-requires
-    spent-among-requires
-    (λ c κs. search needs)
-    returns
-    loop-less
-    loop-again
+    (tie.spec Inv-loop μ-loop loop-holds stop-at-requires spent-among-requires (λ c κs. search needs) returns loop-less loop-again
     returns-2)

@@ -1,4 +1,4 @@
--- `Map::apply` meets its contract, by those of the update and the removal. Assumes nothing.
+-- `Map::apply` meets its contract, by those of the update and the removal.
 use mathlib.Core.Path.{_∙_}
 use Rattle.map.specs.Applying.{apply}
 use borrow.Author.Needs.{needs}
@@ -19,8 +19,4 @@ returns-2 c = c .apply-keyset-rm .ensures ∙ rw (c .before .if1 .left)
 pub apply-spec : {M : Type 1} → statement M
 apply-spec =
     tie.close
-    (tie.spec
-    apply-update-requires
-    returns
-    (λ c κs. search needs)
-    returns-2)
+    (tie.spec apply-update-requires returns (λ c κs. search needs) returns-2)

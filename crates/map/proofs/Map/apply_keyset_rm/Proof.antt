@@ -1,4 +1,4 @@
--- `Map::apply_keyset_rm` meets its contract: the entries, and what waits then, judged. Assumes nothing.
+-- `Map::apply_keyset_rm` meets its contract: the entries, and what waits then, judged.
 use mathlib.Core.Path.{_≡_, refl, ap, sym, _∙_}
 use mathlib.Core.Bool.{true, false}
 use mathlib.Core.List.{[], List·Memᴰ·eq-of-singleton}
@@ -73,17 +73,5 @@ returns-4 c =
 pub apply-keyset-rm-spec : {M : Type 1} → statement M
 apply-keyset-rm-spec =
     tie.close
-    (tie.spec
-    (λ c κs. search needs)
-    (λ c κs. search needs)
-    (λ c κs. search needs)
-    returns
-    (λ c κs. search needs)
-    push-requires
-    join-requires
-    (λ c κs. search needs)
-    returns-2
-    (λ c κs. search needs)
-    returns-3
-    (λ c κs. search needs)
-    returns-4)
+    (tie.spec (λ c κs. search needs) (λ c κs. search needs) (λ c κs. search needs) returns (λ c κs. search needs) push-requires
+    join-requires (λ c κs. search needs) returns-2 (λ c κs. search needs) returns-3 (λ c κs. search needs) returns-4)

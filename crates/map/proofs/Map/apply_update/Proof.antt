@@ -1,4 +1,4 @@
--- `Map::apply_update` meets its contract: a seen dot changes nothing; else the finished entries, and what still waits, judged. Assumes nothing.
+-- `Map::apply_update` meets its contract: a seen dot changes nothing; else the finished entries, and what still waits, judged.
 use mathlib.Core.Path.{_≡_, refl, ap, sym, _∙_}
 use mathlib.Core.Bool.{true, false}
 use mathlib.Core.List.{[], _∷_, _++_, append-assoc}
@@ -131,23 +131,6 @@ returns-5 c =
 pub apply-update-spec : {M : Type 1} → statement M
 apply-update-spec =
     tie.close
-    (tie.spec
-    (λ c κs. search needs)
-    returns
-    (λ c κs. search needs)
-    (λ c κs. search needs)
-    returns-2
-    (λ c κs. search needs)
-    side-requires
-    (λ c κs. search needs)
-    put-requires
-    (λ c κs. search needs)
-    add-requires-2
-    side-requires-2
-    (λ c κs. search needs)
-    returns-3
-    (λ c κs. search needs)
-    returns-4
-    (λ c κs. search needs)
-    (λ c κs. search needs)
-    returns-5)
+    (tie.spec (λ c κs. search needs) returns (λ c κs. search needs) (λ c κs. search needs) returns-2 (λ c κs. search needs) side-requires
+    (λ c κs. search needs) put-requires (λ c κs. search needs) add-requires-2 side-requires-2 (λ c κs. search needs) returns-3
+    (λ c κs. search needs) returns-4 (λ c κs. search needs) (λ c κs. search needs) returns-5)

@@ -1,4 +1,4 @@
--- `Map::reset_remove` meets its contract: every part cut, judged. Assumes nothing.
+-- `Map::reset_remove` meets its contract: every part cut, judged.
 use mathlib.Core.Path.{ap, sym, _∙_}
 use mathlib.Core.Bool.{true, false}
 use Prim.Native.Nat.{_≤_}
@@ -45,11 +45,5 @@ returns-2 c =
 pub reset-remove-spec : {M : Type 1} → statement M
 reset-remove-spec =
     tie.close
-    (tie.spec
-    (λ c κs. search needs)
-    (λ c κs. search needs)
-    reset-requires-2
-    (λ c κs. search needs)
-    returns
-    (λ c κs. search needs)
+    (tie.spec (λ c κs. search needs) (λ c κs. search needs) reset-requires-2 (λ c κs. search needs) returns (λ c κs. search needs)
     returns-2)

@@ -1,4 +1,4 @@
--- `feed` meets its contract: each turn puts one record where it belongs. Assumes nothing.
+-- `feed` meets its contract: each turn puts one record where it belongs.
 use mathlib.Core.Path.{_≡_, refl, ap, sym, _∙_}
 use mathlib.Core.Bool.{false, _&&_, and-assoc}
 use mathlib.Core.Logic.{⊎-elim}
@@ -586,91 +586,15 @@ returns c l m =
 pub feed-spec : {M : Type 1} → statement M
 feed-spec =
     tie.close
-    (tie.spec
-    Inv-records
-    μ-records
-    (λ c. search needs)
-    records-holds
-    (λ c. search needs)
-    read-record-requires
-    (λ c. search needs)
-    (λ c. search needs)
-    (λ c. search needs)
-    (λ c κs. search needs)
-    (λ c κs. search needs)
-    (λ c. search needs)
-    (λ c κs. search needs)
-    records-less
-    records-again
-    place-requires
-    mul-t53
-    array-read-t56
-    mul-hand
-    element-set-from-hand
-    mul-e
-    element-copy-out-e
-    (λ c κs. search needs)
-    records-less-2
-    records-again-2
-    (λ c. search needs)
-    (λ c κs. search needs)
-    mul-value
-    element-set-from-value
-    add-register
-    records-less-3
-    records-again-3
-    records-less-4
-    records-again-4
-    (λ c. search needs)
-    mul-v
-    element-copy-out-v
-    (λ c κs. search needs)
-    mul-value-2
-    element-set-from-value-2
-    records-less-5
-    records-again-5
-    records-less-6
-    records-again-6
-    mul-t87
-    array-read-t90
-    mul-hand-2
-    element-set-from-hand-2
-    add-entries
-    mul-keys
-    array-write-keys
-    (λ c κs. search needs)
-    (λ c κs. search needs)
-    records-less-7
-    records-again-7
-    records-less-8
-    records-again-8
-    (λ c. search needs)
-    mul-w
-    element-copy-out-w
-    (λ c κs. search needs)
-    mul-more
-    element-set-from-more
-    records-less-9
-    records-again-9
-    (λ c κs. search needs)
-    mul-more-2
-    element-set-from-more-2
-    records-less-10
-    records-again-10
-    (λ c κs. search needs)
-    mul-new
-    element-set-from-new
-    add-waiting
-    records-less-11
-    records-again-11
-    records-less-12
-    records-again-12
-    (λ c. search needs)
-    records-again-13
-    (λ c. search needs)
-    records-again-14
-    mul-t39
-    array-read-t122
-    mul-hand-3
-    element-set-from-hand-3
-    returns)
+    (tie.spec Inv-records μ-records (λ c. search needs) records-holds (λ c. search needs) read-record-requires (λ c. search needs)
+    (λ c. search needs) (λ c. search needs) (λ c κs. search needs) (λ c κs. search needs) (λ c. search needs) (λ c κs. search needs)
+    records-less records-again place-requires mul-t53 array-read-t56 mul-hand element-set-from-hand mul-e element-copy-out-e
+    (λ c κs. search needs) records-less-2 records-again-2 (λ c. search needs) (λ c κs. search needs) mul-value element-set-from-value
+    add-register records-less-3 records-again-3 records-less-4 records-again-4 (λ c. search needs) mul-v element-copy-out-v
+    (λ c κs. search needs) mul-value-2 element-set-from-value-2 records-less-5 records-again-5 records-less-6 records-again-6 mul-t87
+    array-read-t90 mul-hand-2 element-set-from-hand-2 add-entries mul-keys array-write-keys (λ c κs. search needs) (λ c κs. search needs)
+    records-less-7 records-again-7 records-less-8 records-again-8 (λ c. search needs) mul-w element-copy-out-w (λ c κs. search needs)
+    mul-more element-set-from-more records-less-9 records-again-9 (λ c κs. search needs) mul-more-2 element-set-from-more-2 records-less-10
+    records-again-10 (λ c κs. search needs) mul-new element-set-from-new add-waiting records-less-11 records-again-11 records-less-12
+    records-again-12 (λ c. search needs) records-again-13 (λ c. search needs) records-again-14 mul-t39 array-read-t122 mul-hand-3
+    element-set-from-hand-3 returns)

@@ -1,4 +1,4 @@
--- `new` meets its contract: no record was taken. Assumes nothing.
+-- `new` meets its contract: no record was taken.
 use mathlib.Core.Path.{refl}
 use mathlib.Core.List.{[]}
 use Rattle.lists.specs.Pad.{pad}

@@ -1,4 +1,4 @@
--- `number` meets its contract: what the length, the records one by one and the records as a whole are answered with. Assumes nothing.
+-- `number` meets its contract: what the length, the records one by one and the records as a whole are answered with.
 use mathlib.Core.Path.{_∙_}
 use Rattle.mapreader.proofs.Readers.{judged-number}
 use borrow.Author.Needs.{needs}

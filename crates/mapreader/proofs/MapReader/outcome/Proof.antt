@@ -1,4 +1,4 @@
--- `outcome` meets its contract: the parts are those of the map where nothing is wrong. Assumes nothing.
+-- `outcome` meets its contract: the parts are those of the map where nothing is wrong.
 use mathlib.Core.Path.{sym, _∙_}
 use mathlib.Core.List.{[]}
 use borrow.Author.Tests.{eq-eqb, ne-eqb}

@@ -1,4 +1,4 @@
--- `related` meets its contract: the three tests. Assumes nothing.
+-- `related` meets its contract: the three tests.
 use borrow.Author.Needs.{needs}
 use Rattle.mapreader.proofs.MapReader.related.Statement.{statement}
 use Rattle.mapreader.proofs.MapReader.related.Tie as tie

@@ -1,4 +1,4 @@
--- `clock_left` meets its contract: two cuts, one after the other. Assumes nothing.
+-- `clock_left` meets its contract: two cuts, one after the other.
 use borrow.Author.Needs.{needs}
 use Rattle.merging.proofs.drawing.clock_left.Statement.{statement}
 use Rattle.merging.proofs.drawing.clock_left.Tie as tie

@@ -1,4 +1,4 @@
--- `draw_both` meets its contract: ours that stand, and theirs behind them. Assumes nothing.
+-- `draw_both` meets its contract: ours that stand, and theirs behind them.
 use mathlib.Core.Path.{refl, sym, subst}
 use mathlib.Core.List.{[]}
 use native.Mathlib.Omega.{arith}
@@ -40,10 +40,4 @@ returns c =
 pub draw-both-spec : {M : Type 1} → statement M
 draw-both-spec =
     tie.close
-    (tie.spec
-    sub-stands
-    sub-stands-2
-    stands-requires
-    (λ c κs. search needs)
-    draw-values-requires-2
-    returns)
+    (tie.spec sub-stands sub-stands-2 stands-requires (λ c κs. search needs) draw-values-requires-2 returns)

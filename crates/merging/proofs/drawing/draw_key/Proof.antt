@@ -1,4 +1,4 @@
--- `draw_key` meets its contract: the values are drawn where something is left of the clock. Assumes nothing.
+-- `draw_key` meets its contract: the values are drawn where something is left of the clock.
 use mathlib.Core.Path.{ap, sym, _∙_}
 use borrow.Author.Needs.{needs}
 use Rattle.lists.proofs.Orders.{apart}

@@ -1,4 +1,4 @@
--- `draw_keys` meets its contract: the loop draws the next key of both maps, and the next, until neither has more. Assumes nothing.
+-- `draw_keys` meets its contract: the loop draws the next key of both maps, and the next, until neither has more.
 use mathlib.Core.Path.{_≡_, refl, ap, sym, subst, _∙_}
 use mathlib.Core.Bool.{Bool, true, false, _||_}
 use mathlib.Core.List.{List}
@@ -182,25 +182,6 @@ loop-again-3 c =
 pub draw-keys-spec : {M : Type 1} → statement M
 draw-keys-spec =
     tie.close
-    (tie.spec
-    Inv-loop
-    μ-loop
-    (λ c κs. search needs)
-    (λ c κs. search needs)
-    (λ c κs. search needs)
-    loop-holds
-    next-requires
-    listers-requires
-    listers-requires-2
-    draw-key-requires
-    (λ c κs. search needs)
-    with-requires
-    (λ c. search needs)
-    (λ c. search needs)
-    loop-less
-    loop-again
-    loop-less-2
-    loop-again-2
-    loop-less-3
-    loop-again-3
-    returns)
+    (tie.spec Inv-loop μ-loop (λ c κs. search needs) (λ c κs. search needs) (λ c κs. search needs) loop-holds next-requires listers-requires
+    listers-requires-2 draw-key-requires (λ c κs. search needs) with-requires (λ c. search needs) (λ c. search needs) loop-less loop-again
+    loop-less-2 loop-again-2 loop-less-3 loop-again-3 returns)

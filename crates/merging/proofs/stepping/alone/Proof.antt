@@ -1,4 +1,4 @@
--- `alone` meets its contract: the entry's clock cut, and the other map's clock cut by what is left. Assumes nothing.
+-- `alone` meets its contract: the entry's clock cut, and the other map's clock cut by what is left.
 use mathlib.Core.Path.{refl, ap, ap₂, _∙_}
 use borrow.Author.Needs.{needs}
 use Rattle.clock.specs.Dots.{clockOf, cutDots}

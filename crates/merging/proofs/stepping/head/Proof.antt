@@ -1,4 +1,4 @@
--- `head` meets its contract: a key has 32 bits. Assumes nothing.
+-- `head` meets its contract: a key has 32 bits.
 use mathlib.Core.Path.{ap}
 use native.Mathlib.Omega.{arith}
 use borrow.Author.Needs.{needs}

@@ -1,4 +1,4 @@
--- `is_equal` meets its contract. Assumes nothing.
+-- `is_equal` meets its contract.
 use mathlib.Core.Path.{sym}
 use borrow.Author.Needs.{needs}
 use Rattle.lists.proofs.Orders.{apart}
@@ -8,12 +8,5 @@ use Rattle.merging.proofs.stepping.is_equal.Tie as tie
 pub is-equal-spec : {M : Type 1} → statement M
 is-equal-spec =
     tie.close
-    (tie.spec
-    (λ c. search needs)
-    (λ c. search needs)
-    (λ c. search needs)
-    (λ c t. apart (sym t))
-    (λ c. search needs)
-    (λ c t. apart (sym t))
-    (λ c. search needs)
-    (λ c t. apart (sym t)))
+    (tie.spec (λ c. search needs) (λ c. search needs) (λ c. search needs) (λ c t. apart (sym t)) (λ c. search needs) (λ c t. apart (sym t))
+    (λ c. search needs) (λ c t. apart (sym t)))

@@ -1,4 +1,4 @@
--- `next` meets its contract: the lower key comes first, and an equal one from both sides. Assumes nothing.
+-- `next` meets its contract: the lower key comes first, and an equal one from both sides.
 use mathlib.Core.Path.{_≡_}
 use Prim.Native.Nat.{_<_}
 use native.Mathlib.Omega.{arith}
@@ -92,16 +92,5 @@ returns-3 c = λ es fs h k.
 pub next-spec : {M : Type 1} → statement M
 next-spec =
     tie.close
-    (tie.spec
-    head-requires
-    head-requires-2
-    alone-requires
-    (λ c κs. search needs)
-    returns
-    alone-requires-2
-    (λ c κs. search needs)
-    returns-2
-    entry-at-requires
-    entry-at-requires-2
-    meet-requires
-    returns-3)
+    (tie.spec head-requires head-requires-2 alone-requires (λ c κs. search needs) returns alone-requires-2 (λ c κs. search needs) returns-2
+    entry-at-requires entry-at-requires-2 meet-requires returns-3)

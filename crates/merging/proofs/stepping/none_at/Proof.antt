@@ -1,4 +1,4 @@
--- `none_at` meets its contract: nothing lies there. Assumes nothing.
+-- `none_at` meets its contract: nothing lies there.
 use mathlib.Core.Path.{refl}
 use Rattle.merging.proofs.Fronts.{none-lies}
 use Rattle.merging.proofs.stepping.none_at.Statement.{statement}

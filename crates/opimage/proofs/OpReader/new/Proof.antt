@@ -1,4 +1,4 @@
--- `OpReader::new` meets its contract. Assumes nothing.
+-- `OpReader::new` meets its contract.
 use mathlib.Core.Path.{refl}
 use Rattle.lists.specs.Sift.{sift}
 use Rattle.lists.specs.Fold.{fold}
@@ -18,8 +18,4 @@ returns c = record {
 pub new-spec : {M : Type 1} → statement M
 new-spec =
     tie.close
-    (tie.spec
-    (λ c κs. search needs)
-    (λ c κs. search needs)
-    (λ c κs. search needs)
-    returns)
+    (tie.spec (λ c κs. search needs) (λ c κs. search needs) (λ c κs. search needs) returns)

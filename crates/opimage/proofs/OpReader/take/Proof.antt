@@ -1,4 +1,4 @@
--- `OpReader::take` meets its contract. Assumes nothing.
+-- `OpReader::take` meets its contract.
 use mathlib.Core.Path.{sym, _∙_}
 use Rattle.scan.proofs.Scanning.{scan-before, none-under}
 use borrow.Author.Needs.{needs}
@@ -26,8 +26,4 @@ returns-2 c l s =
 pub take-spec : {M : Type 1} → statement M
 take-spec =
     tie.close
-    (tie.spec
-    (λ c κs. search needs)
-    with-requires
-    returns
-    returns-2)
+    (tie.spec (λ c κs. search needs) with-requires returns returns-2)

@@ -1,4 +1,4 @@
--- `OpReader::verdict` meets its contract. Assumes nothing.
+-- `OpReader::verdict` meets its contract.
 use borrow.Author.Tests.{eq-eqb, ne-eqb}
 use Rattle.clockimage.specs.Image.{contentOf}
 use Rattle.opimage.proofs.Packs.{related-counts, one-of}
@@ -37,12 +37,5 @@ returns-3 c l s =
 pub verdict-spec : {M : Type 1} → statement M
 verdict-spec =
     tie.close
-    (tie.spec
-    (λ c κs. search needs)
-    returns
-    (λ c κs. search needs)
-    (λ c κs. search needs)
-    (λ c. search needs)
-    returns-2
-    (λ c κs. search needs)
-    returns-3)
+    (tie.spec (λ c κs. search needs) returns (λ c κs. search needs) (λ c κs. search needs) (λ c. search needs) returns-2
+    (λ c κs. search needs) returns-3)

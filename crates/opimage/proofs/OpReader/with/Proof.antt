@@ -1,4 +1,4 @@
--- `OpReader::with` meets its contract: each part goes on by what its kind says. Assumes nothing.
+-- `OpReader::with` meets its contract: each part goes on by what its kind says.
 use mathlib.Core.Path.{refl, ap, sym, _∙_}
 use Prim.Native.Nat.{_<_}
 use lib.ListN.{length}
@@ -50,11 +50,5 @@ returns c l p s =
 pub with-spec : {M : Type 1} → statement M
 with-spec =
     tie.close
-    (tie.spec
-    counted-requires
-    (λ c κs. search needs)
-    (λ c κs. search needs)
-    (λ c κs. search needs)
-    keys-with-requires
-    (λ c κs. search needs)
-    returns)
+    (tie.spec counted-requires (λ c κs. search needs) (λ c κs. search needs) (λ c κs. search needs) keys-with-requires
+    (λ c κs. search needs) returns)

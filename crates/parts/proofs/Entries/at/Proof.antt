@@ -1,4 +1,4 @@
--- `Entries::at` meets its contract: the loop looks for the key. Assumes nothing.
+-- `Entries::at` meets its contract: the loop looks for the key.
 use mathlib.Core.Path.{_∙_}
 use mathlib.Core.List.{[]}
 use Prim.Native.Nat.{_≤_, _-_}
@@ -36,16 +36,5 @@ returns-2 c = c .new .ensures ∙ passing-end (c .before .before .loop .inv .1) 
 pub at-spec : {M : Type 1} → statement M
 at-spec =
     tie.close
-    (tie.spec
-    Inv-loop
-    μ-loop
-    (λ c κs. search needs)
-    loop-holds
-    (λ c. search needs)
-    (λ c. search needs)
-    returns
-    (λ c. search needs)
-    (λ c. search needs)
-    loop-again
-    (λ c κs. search needs)
-    returns-2)
+    (tie.spec Inv-loop μ-loop (λ c κs. search needs) loop-holds (λ c. search needs) (λ c. search needs) returns (λ c. search needs)
+    (λ c. search needs) loop-again (λ c κs. search needs) returns-2)

@@ -1,4 +1,4 @@
--- `Entry::aside` meets its contract. Assumes nothing.
+-- `Entry::aside` meets its contract.
 use Rattle.parts.proofs.Entry.aside.Statement.{statement}
 use Rattle.parts.proofs.Entry.aside.Tie as tie
 
@@ -11,6 +11,4 @@ returns-2 c = rw (c .before .if1 .left)
 pub aside-spec : {M : Type 1} → statement M
 aside-spec =
     tie.close
-    (tie.spec
-    returns
-    returns-2)
+    (tie.spec returns returns-2)

@@ -1,4 +1,4 @@
--- `Entry::cut` meets its contract, by the clock's and the register's. Assumes nothing.
+-- `Entry::cut` meets its contract, by the clock's and the register's.
 use Rattle.clock.proofs.Packs.{cut-left}
 use Rattle.parts.specs.Entries.{cutEntry}
 use borrow.Author.Needs.{needs}
@@ -12,7 +12,4 @@ returns c = rw (cut-left _ _ (c .before .before .cut .ensures), c .cut2 .ensures
 pub cut-spec : {M : Type 1} → statement M
 cut-spec =
     tie.close
-    (tie.spec
-    (λ c κs. search needs)
-    (λ c κs. search needs)
-    returns)
+    (tie.spec (λ c κs. search needs) (λ c κs. search needs) returns)

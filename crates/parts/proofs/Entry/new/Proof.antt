@@ -1,4 +1,4 @@
--- `Entry::new` meets its contract. Assumes nothing.
+-- `Entry::new` meets its contract.
 use borrow.Author.Needs.{needs}
 use Rattle.parts.proofs.Entry.new.Statement.{statement}
 use Rattle.parts.proofs.Entry.new.Tie as tie
@@ -9,7 +9,4 @@ returns c = rw (c .before .new .ensures, c .new2 .ensures)
 pub new-spec : {M : Type 1} → statement M
 new-spec =
     tie.close
-    (tie.spec
-    (λ c κs. search needs)
-    (λ c κs. search needs)
-    returns)
+    (tie.spec (λ c κs. search needs) (λ c κs. search needs) returns)

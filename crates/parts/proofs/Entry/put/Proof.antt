@@ -1,4 +1,4 @@
--- `Entry::put` meets its contract: the dot fits, so the clock is the grown one. Assumes nothing.
+-- `Entry::put` meets its contract: the dot fits, so the clock is the grown one.
 use mathlib.Core.Path.{ap, sym, _∙_}
 use Rattle.clock.proofs.Packs.{fits}
 use Rattle.parts.specs.Entries.{putEntry}
@@ -17,7 +17,4 @@ returns c =
 pub put-spec : {M : Type 1} → statement M
 put-spec =
     tie.close
-    (tie.spec
-    (λ c κs. search needs)
-    (λ c κs. search needs)
-    returns)
+    (tie.spec (λ c κs. search needs) (λ c κs. search needs) returns)

@@ -1,4 +1,4 @@
--- `Entry::removed` meets its contract. Assumes nothing.
+-- `Entry::removed` meets its contract.
 use mathlib.Core.Path.{sym, _∙_}
 use Rattle.parts.specs.Entries.{removeFrom}
 use borrow.Author.Needs.{needs}
@@ -16,8 +16,4 @@ returns-2 c = rw (sym (c .before .contains .ensures) ∙ c .if1 .left)
 pub removed-spec : {M : Type 1} → statement M
 removed-spec =
     tie.close
-    (tie.spec
-    (λ c κs. search needs)
-    (λ c κs. search needs)
-    returns
-    returns-2)
+    (tie.spec (λ c κs. search needs) (λ c κs. search needs) returns returns-2)

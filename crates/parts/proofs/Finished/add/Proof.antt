@@ -1,4 +1,4 @@
--- `Finished::add` meets its contract: an emptied entry is left out; one that is kept is laid down behind the last. Assumes nothing.
+-- `Finished::add` meets its contract: an emptied entry is left out; one that is kept is laid down behind the last.
 use mathlib.Core.Path.{_≡_, ap, sym, _∙_}
 use mathlib.Core.List.{[], _∷_, _++_, append-nil}
 use Rattle.lists.specs.Sift.{sift, those}
@@ -32,12 +32,5 @@ returns-2 c =
 pub add-spec : {M : Type 1} → statement M
 add-spec =
     tie.close
-    (tie.spec
-    (λ c κs. search needs)
-    returns
-    (λ c κs. search needs)
-    (λ c κs. search needs)
-    (λ c. search needs)
-    (λ c. search needs)
-    (λ c. search needs)
-    returns-2)
+    (tie.spec (λ c κs. search needs) returns (λ c κs. search needs) (λ c κs. search needs) (λ c. search needs) (λ c. search needs)
+    (λ c. search needs) returns-2)

@@ -1,4 +1,4 @@
--- `Finished::new` meets its contract. Assumes nothing.
+-- `Finished::new` meets its contract.
 use mathlib.Core.Path.{refl}
 use Rattle.lists.specs.First.{firstIn}
 use Rattle.lists.specs.Pad.{pad}
@@ -13,6 +13,4 @@ returns c = (refl, record { count = refl; wide = refl; items = λ few thin. rw (
 pub new-spec : {M : Type 1} → statement M
 new-spec =
     tie.close
-    (tie.spec
-    (λ c κs. search needs)
-    returns)
+    (tie.spec (λ c κs. search needs) returns)

@@ -1,4 +1,4 @@
--- `Finished::side` meets its contract: the loop adds the entries on the side, each finished. Assumes nothing.
+-- `Finished::side` meets its contract: the loop adds the entries on the side, each finished.
 use mathlib.Core.Path.{_≡_, ap, sym, _∙_}
 use mathlib.Core.Bool.{true, false, not}
 use mathlib.Core.List.{List, _++_}
@@ -101,27 +101,7 @@ returns c =
 pub side-spec : {M : Type 1} → statement M
 side-spec =
     tie.close
-    (tie.spec
-    Inv-loop
-    μ-loop
-    (λ c κs. search needs)
-    loop-holds
-    (λ c. search needs)
-    (λ c. search needs)
-    (λ c. search needs)
-    (λ c κs. search needs)
-    (λ c κs. search needs)
-    (λ c κs. search needs)
-    (λ c κs. search needs)
-    (λ c κs. search needs)
-    (λ c κs. search needs)
-    (λ c. search needs)
-    (λ c. search needs)
-    add-out
-    (λ c. search needs)
-    loop-again
-    (λ c. search needs)
-    loop-again-2
-    (λ c. search needs)
-    loop-again-3
-    returns)
+    (tie.spec Inv-loop μ-loop (λ c κs. search needs) loop-holds (λ c. search needs) (λ c. search needs) (λ c. search needs)
+    (λ c κs. search needs) (λ c κs. search needs) (λ c κs. search needs) (λ c κs. search needs) (λ c κs. search needs)
+    (λ c κs. search needs) (λ c. search needs) (λ c. search needs) add-out (λ c. search needs) loop-again (λ c. search needs) loop-again-2
+    (λ c. search needs) loop-again-3 returns)

@@ -1,4 +1,4 @@
--- `Gathered::add` meets its contract: the removal is stored where all fit. Assumes nothing.
+-- `Gathered::add` meets its contract: the removal is stored where all fit.
 use mathlib.Core.Path.{ap}
 use Rattle.lists.proofs.Tally.{both-pass}
 use Rattle.parts.specs.Model.{waitingLimit}
@@ -30,10 +30,4 @@ returns-2 c =
 pub add-spec : {M : Type 1} → statement M
 add-spec =
     tie.close
-    (tie.spec
-    push-requires
-    (λ c. search needs)
-    returns
-    (λ c κs. search needs)
-    (λ c. search needs)
-    returns-2)
+    (tie.spec push-requires (λ c. search needs) returns (λ c κs. search needs) (λ c. search needs) returns-2)

@@ -1,4 +1,4 @@
--- `Gathered::keep` meets its contract: a removal's own keys are within the limit. Assumes nothing.
+-- `Gathered::keep` meets its contract: a removal's own keys are within the limit.
 use mathlib.Core.Path.{_≡_, refl, sym, _∙_}
 use mathlib.Core.Bool.{false}
 use lib.ListN.{length}
@@ -24,6 +24,4 @@ returns c =
 pub keep-spec : {M : Type 1} → statement M
 keep-spec =
     tie.close
-    (tie.spec
-    (λ c κs. search needs)
-    returns)
+    (tie.spec (λ c κs. search needs) returns)

@@ -1,4 +1,4 @@
--- `Gathered::new` meets its contract. Assumes nothing.
+-- `Gathered::new` meets its contract.
 use mathlib.Core.Path.{ap}
 use Rattle.lists.specs.First.{firstIn}
 use Rattle.parts.specs.Model.{gathered}
@@ -13,6 +13,4 @@ returns c = (rw (c .new .ensures), search needs, ap (λ w. w .len) (c .new .ensu
 pub new-spec : {M : Type 1} → statement M
 new-spec =
     tie.close
-    (tie.spec
-    (λ c κs. search needs)
-    returns)
+    (tie.spec (λ c κs. search needs) returns)

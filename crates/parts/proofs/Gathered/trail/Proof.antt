@@ -1,4 +1,4 @@
--- `Gathered::trail` meets its contract: the loop adds the rest, one removal after the other. Assumes nothing.
+-- `Gathered::trail` meets its contract: the loop adds the rest, one removal after the other.
 use mathlib.Core.Path.{_≡_, refl}
 use mathlib.Core.List.{List, _++_, map}
 use Prim.Native.Nat.{_≤_, _<_, _-_, _+_}
@@ -42,15 +42,5 @@ returns c = (search needs, λ l laid e. trailing-end (c .before .loop .inv .2 l 
 pub trail-spec : {M : Type 1} → statement M
 trail-spec =
     tie.close
-    (tie.spec
-    Inv-loop
-    μ-loop
-    (λ c κs. search needs)
-    loop-holds
-    (λ c. search needs)
-    (λ c. search needs)
-    (λ c. search needs)
-    (λ c κs. search needs)
-    (λ c. search needs)
-    loop-again
-    returns)
+    (tie.spec Inv-loop μ-loop (λ c κs. search needs) loop-holds (λ c. search needs) (λ c. search needs) (λ c. search needs)
+    (λ c κs. search needs) (λ c. search needs) loop-again returns)

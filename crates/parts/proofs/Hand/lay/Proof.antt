@@ -1,4 +1,4 @@
--- `Hand::lay` meets its contract. Assumes nothing.
+-- `Hand::lay` meets its contract.
 use borrow.Author.Needs.{needs}
 use Rattle.parts.proofs.Hand.lay.Statement.{statement}
 use Rattle.parts.proofs.Hand.lay.Tie as tie
@@ -9,6 +9,4 @@ returns c = rw (c .before .settle .ensures)
 pub lay-spec : {M : Type 1} → statement M
 lay-spec =
     tie.close
-    (tie.spec
-    (λ c κs. search needs)
-    returns)
+    (tie.spec (λ c κs. search needs) returns)

@@ -1,4 +1,4 @@
--- `Keys::contains` meets its contract: the loop looks for the key. Assumes nothing.
+-- `Keys::contains` meets its contract: the loop looks for the key.
 use mathlib.Core.Bool.{true, false}
 use Prim.Native.Nat.{_≤_, _-_}
 use lib.Dec.{eqb}
@@ -33,15 +33,5 @@ returns-2 c = passing-end (c .before .loop .inv .1) (omega arith)
 pub contains-spec : {M : Type 1} → statement M
 contains-spec =
     tie.close
-    (tie.spec
-    Inv-loop
-    μ-loop
-    (λ c κs. search needs)
-    loop-holds
-    (λ c. search needs)
-    (λ c. search needs)
-    returns
-    (λ c. search needs)
-    (λ c. search needs)
-    loop-again
-    returns-2)
+    (tie.spec Inv-loop μ-loop (λ c κs. search needs) loop-holds (λ c. search needs) (λ c. search needs) returns (λ c. search needs)
+    (λ c. search needs) loop-again returns-2)

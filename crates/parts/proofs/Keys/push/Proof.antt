@@ -1,4 +1,4 @@
--- `Keys::push` meets its contract: a store behind the last key. Assumes nothing.
+-- `Keys::push` meets its contract: a store behind the last key.
 use mathlib.Core.Path.{ap}
 use Rattle.parts.proofs.Sets.{key-pushed}
 use borrow.Author.Needs.{needs}
@@ -12,8 +12,4 @@ returns c = λ l e. key-pushed l _ e (omega (arith, ap (λ k. k .len) e))
 pub push-spec : {M : Type 1} → statement M
 push-spec =
     tie.close
-    (tie.spec
-    (λ c. search needs)
-    (λ c. search needs)
-    (λ c. search needs)
-    returns)
+    (tie.spec (λ c. search needs) (λ c. search needs) (λ c. search needs) returns)

@@ -1,4 +1,4 @@
--- `Keys::union` meets its contract: the loop walks both sets side by side, and the rest of one goes behind. Assumes nothing.
+-- `Keys::union` meets its contract: the loop walks both sets side by side, and the rest of one goes behind.
 use mathlib.Core.Path.{ap, sym, _∙_}
 use mathlib.Core.Logic.{_⊎_, ⊎-elim, inl, inr}
 use Prim.Native.Nat.{_≤_, _<_, _-_, _+_}
@@ -82,30 +82,7 @@ returns c =
 pub union-spec : {M : Type 1} → statement M
 union-spec =
     tie.close
-    (tie.spec
-    Inv-loop
-    μ-loop
-    (λ c κs. search needs)
-    (λ c κs. search needs)
-    (λ c κs. search needs)
-    loop-holds
-    (λ c. search needs)
-    (λ c. search needs)
-    (λ c. search needs)
-    element-copy-out-y
-    (λ c κs. search needs)
-    (λ c. search needs)
-    loop-less
-    loop-again
-    (λ c κs. search needs)
-    (λ c. search needs)
-    loop-less-2
-    loop-again-2
-    (λ c κs. search needs)
-    (λ c. search needs)
-    (λ c. search needs)
-    loop-less-3
-    loop-again-3
-    (λ c κs. search needs)
-    (λ c κs. search needs)
-    returns)
+    (tie.spec Inv-loop μ-loop (λ c κs. search needs) (λ c κs. search needs) (λ c κs. search needs) loop-holds (λ c. search needs)
+    (λ c. search needs) (λ c. search needs) element-copy-out-y (λ c κs. search needs) (λ c. search needs) loop-less loop-again
+    (λ c κs. search needs) (λ c. search needs) loop-less-2 loop-again-2 (λ c κs. search needs) (λ c. search needs) (λ c. search needs)
+    loop-less-3 loop-again-3 (λ c κs. search needs) (λ c κs. search needs) returns)

@@ -1,4 +1,4 @@
--- `Left::none` meets its contract. Assumes nothing.
+-- `Left::none` meets its contract.
 use mathlib.Core.Path.{ap, _∙_}
 use mathlib.Core.Bool.{false}
 use Rattle.parts.specs.Model.{handOf}
@@ -12,7 +12,4 @@ returns c = ap (λ h. record { stays = false; hand = h }) (c .hand .ensures ∙ 
 pub none-spec : {M : Type 1} → statement M
 none-spec =
     tie.close
-    (tie.spec
-    (λ c κs. search needs)
-    (λ c κs. search needs)
-    returns)
+    (tie.spec (λ c κs. search needs) (λ c κs. search needs) returns)

@@ -1,4 +1,4 @@
--- `Remnant::unite` meets its contract: too many keys stay too many, and the union is kept where it fits. Assumes nothing.
+-- `Remnant::unite` meets its contract: too many keys stay too many, and the union is kept where it fits.
 use mathlib.Core.Path.{_≡_, ap, sym, _∙_}
 use mathlib.Core.List.{List, [], List·Memᴰ·eq-of-singleton}
 use Rattle.parts.specs.declared.Removal.{Removal}
@@ -54,11 +54,4 @@ returns-3 c = λ l v w q.
 pub unite-spec : {M : Type 1} → statement M
 unite-spec =
     tie.close
-    (tie.spec
-    returns
-    (λ c κs. search needs)
-    push-requires
-    join-requires
-    (λ c κs. search needs)
-    returns-2
-    returns-3)
+    (tie.spec returns (λ c κs. search needs) push-requires join-requires (λ c κs. search needs) returns-2 returns-3)

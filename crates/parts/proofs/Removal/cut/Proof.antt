@@ -1,4 +1,4 @@
--- `Removal::cut` meets its contract, by the clock's. Assumes nothing.
+-- `Removal::cut` meets its contract, by the clock's.
 use Rattle.clock.proofs.Packs.{cut-left}
 use borrow.Author.Needs.{needs}
 use Rattle.parts.proofs.Removal.cut.Statement.{statement}
@@ -10,6 +10,4 @@ returns c = rw (cut-left _ _ (c .before .before .cut .ensures))
 pub cut-spec : {M : Type 1} → statement M
 cut-spec =
     tie.close
-    (tie.spec
-    (λ c κs. search needs)
-    returns)
+    (tie.spec (λ c κs. search needs) returns)

@@ -1,4 +1,4 @@
--- `Removal::waits` meets its contract, by that of `compare`. Assumes nothing.
+-- `Removal::waits` meets its contract, by that of `compare`.
 use Rattle.parts.specs.Waits.{waits}
 use borrow.Author.Needs.{needs}
 use Rattle.parts.proofs.Removal.waits.Statement.{statement}
@@ -23,13 +23,5 @@ returns-4 c = rw (← c .before .before .compare .ensures, c .enum-told4 .given 
 pub waits-spec : {M : Type 1} → statement M
 waits-spec =
     tie.close
-    (tie.spec
-    (λ c κs. search needs)
-    (λ c. search needs)
-    (λ c. search needs)
-    (λ c. search needs)
-    (λ c. search needs)
-    returns
-    returns-2
-    returns-3
-    returns-4)
+    (tie.spec (λ c κs. search needs) (λ c. search needs) (λ c. search needs) (λ c. search needs) (λ c. search needs) returns returns-2
+    returns-3 returns-4)

@@ -1,4 +1,4 @@
--- `United::new` meets its contract. Assumes nothing.
+-- `United::new` meets its contract.
 use mathlib.Core.List.{[]}
 use Rattle.parts.proofs.Sets.{keys-fit}
 use borrow.Author.Needs.{needs}
@@ -12,6 +12,4 @@ returns c = rw (c .new .ensures, keys-fit [] (omega arith))
 pub new-spec : {M : Type 1} → statement M
 new-spec =
     tie.close
-    (tie.spec
-    (λ c κs. search needs)
-    returns)
+    (tie.spec (λ c κs. search needs) returns)

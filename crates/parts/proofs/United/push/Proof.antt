@@ -1,4 +1,4 @@
--- `United::push` meets its contract: over the limit stays over, and one key too many goes over. Assumes nothing.
+-- `United::push` meets its contract: over the limit stays over, and one key too many goes over.
 use mathlib.Core.Path.{ap, sym, _∙_}
 use Rattle.lists.proofs.Pads.{length-snoc}
 use Rattle.parts.proofs.Sets.{keys-fit, keys-exceed, keys-over, united-keys}
@@ -25,9 +25,4 @@ returns-3 c = λ l e.
 pub push-spec : {M : Type 1} → statement M
 push-spec =
     tie.close
-    (tie.spec
-    returns
-    (λ c κs. search needs)
-    returns-2
-    (λ c κs. search needs)
-    returns-3)
+    (tie.spec returns (λ c κs. search needs) returns-2 (λ c κs. search needs) returns-3)

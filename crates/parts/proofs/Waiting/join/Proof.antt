@@ -1,4 +1,4 @@
--- `Waiting::join` meets its contract: the loop walks both lists side by side, and the rest of one goes behind. Assumes nothing.
+-- `Waiting::join` meets its contract: the loop walks both lists side by side, and the rest of one goes behind.
 use mathlib.Core.Path.{refl, ap, sym, _∙_}
 use mathlib.Core.Logic.{_⊎_, ⊎-elim, inl, inr}
 use Prim.Native.Nat.{_*_, _≤_, _<_, _-_, _+_}
@@ -125,33 +125,7 @@ returns c =
 pub join-spec : {M : Type 1} → statement M
 join-spec =
     tie.close
-    (tie.spec
-    Inv-loop
-    μ-loop
-    (λ c κs. search needs)
-    (λ c κs. search needs)
-    (λ c κs. search needs)
-    loop-holds
-    (λ c. search needs)
-    (λ c. search needs)
-    (λ c. search needs)
-    element-copy-out-y
-    (λ c κs. search needs)
-    keep-requires
-    (λ c. search needs)
-    loop-less
-    loop-again
-    (λ c κs. search needs)
-    keep-requires-2
-    (λ c. search needs)
-    loop-less-2
-    loop-again-2
-    (λ c κs. search needs)
-    add-requires
-    (λ c. search needs)
-    (λ c. search needs)
-    loop-less-3
-    loop-again-3
-    trail-requires
-    trail-requires-2
-    returns)
+    (tie.spec Inv-loop μ-loop (λ c κs. search needs) (λ c κs. search needs) (λ c κs. search needs) loop-holds (λ c. search needs)
+    (λ c. search needs) (λ c. search needs) element-copy-out-y (λ c κs. search needs) keep-requires (λ c. search needs) loop-less loop-again
+    (λ c κs. search needs) keep-requires-2 (λ c. search needs) loop-less-2 loop-again-2 (λ c κs. search needs) add-requires
+    (λ c. search needs) (λ c. search needs) loop-less-3 loop-again-3 trail-requires trail-requires-2 returns)

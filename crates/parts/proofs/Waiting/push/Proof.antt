@@ -1,4 +1,4 @@
--- `Waiting::push` meets its contract: a store behind the last removal. Assumes nothing.
+-- `Waiting::push` meets its contract: a store behind the last removal.
 use mathlib.Core.Path.{refl, ap}
 use Rattle.parts.proofs.Packs.{removal-pushed}
 use borrow.Author.Needs.{needs}
@@ -12,8 +12,4 @@ returns c = (refl, λ l e. removal-pushed l _ e (omega (arith, ap (λ k. k .len)
 pub push-spec : {M : Type 1} → statement M
 push-spec =
     tie.close
-    (tie.spec
-    (λ c. search needs)
-    (λ c. search needs)
-    (λ c. search needs)
-    returns)
+    (tie.spec (λ c. search needs) (λ c. search needs) (λ c. search needs) returns)

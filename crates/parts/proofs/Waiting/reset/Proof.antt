@@ -1,4 +1,4 @@
--- `Waiting::reset` meets its contract: the loop cuts each removal, and unites those that are left. Assumes nothing.
+-- `Waiting::reset` meets its contract: the loop cuts each removal, and unites those that are left.
 use mathlib.Core.Path.{refl, ap, sym, _∙_}
 use mathlib.Core.Bool.{not}
 use mathlib.Core.List.{[]}
@@ -75,20 +75,6 @@ returns c =
 pub reset-spec : {M : Type 1} → statement M
 reset-spec =
     tie.close
-    (tie.spec
-    Inv-loop
-    μ-loop
-    (λ c κs. search needs)
-    (λ c κs. search needs)
-    loop-holds
-    (λ c. search needs)
-    (λ c. search needs)
-    (λ c. search needs)
-    (λ c κs. search needs)
-    (λ c κs. search needs)
-    unite-requires
-    (λ c. search needs)
-    loop-again
-    (λ c. search needs)
-    loop-again-2
-    returns)
+    (tie.spec Inv-loop μ-loop (λ c κs. search needs) (λ c κs. search needs) loop-holds (λ c. search needs) (λ c. search needs)
+    (λ c. search needs) (λ c κs. search needs) (λ c κs. search needs) unite-requires (λ c. search needs) loop-again (λ c. search needs)
+    loop-again-2 returns)

@@ -1,4 +1,4 @@
--- `Waiting::uncovered` meets its contract: the loop sifts the removals. Assumes nothing.
+-- `Waiting::uncovered` meets its contract: the loop sifts the removals.
 use mathlib.Core.Path.{refl, ap, sym, _∙_}
 use mathlib.Core.List.{[]}
 use Prim.Native.Nat.{_≤_, _-_, _<_}
@@ -49,21 +49,6 @@ returns c = sifting-end (c .before .loop .inv .1) (omega arith)
 pub uncovered-spec : {M : Type 1} → statement M
 uncovered-spec =
     tie.close
-    (tie.spec
-    Inv-loop
-    μ-loop
-    (λ c κs. search needs)
-    (λ c κs. search needs)
-    loop-holds
-    (λ c. search needs)
-    (λ c. search needs)
-    (λ c. search needs)
-    (λ c κs. search needs)
-    (λ c. omega (arith, room c))
-    (λ c. omega (arith, room c))
-    (λ c. omega (arith, room c))
-    (λ c. search needs)
-    loop-again
-    (λ c. search needs)
-    loop-again-2
-    returns)
+    (tie.spec Inv-loop μ-loop (λ c κs. search needs) (λ c κs. search needs) loop-holds (λ c. search needs) (λ c. search needs)
+    (λ c. search needs) (λ c κs. search needs) (λ c. omega (arith, room c)) (λ c. omega (arith, room c)) (λ c. omega (arith, room c))
+    (λ c. search needs) loop-again (λ c. search needs) loop-again-2 returns)

@@ -1,4 +1,4 @@
--- `meet` meets its contract: one side's entry alone, or both together. Assumes nothing.
+-- `meet` meets its contract: one side's entry alone, or both together.
 use mathlib.Core.Path.{_≡_, refl}
 use mathlib.Core.Bool.{Bool, true, false, not, _&&_, _||_}
 use Rattle.lists.proofs.Orders.{apart}
@@ -33,10 +33,4 @@ returns-3 c = rw (c .before .before .before .before .if1 .left, c .before .if2 .
 pub meet-spec : {M : Type 1} → statement M
 meet-spec =
     tie.close
-    (tie.spec
-    (λ c κs. search needs)
-    returns
-    (λ c κs. search needs)
-    returns-2
-    together-requires
-    returns-3)
+    (tie.spec (λ c κs. search needs) returns (λ c κs. search needs) returns-2 together-requires returns-3)

@@ -1,4 +1,4 @@
--- `clock_before` meets its contract: the loop passes equal dots. Assumes nothing.
+-- `clock_before` meets its contract: the loop passes equal dots.
 use mathlib.Core.Path.{_≡_, refl, _∙_}
 use mathlib.Core.Logic.{⊎-elim}
 use mathlib.Core.List.{_∷_}
@@ -78,19 +78,5 @@ returns-3 c =
 pub clock-before-spec : {M : Type 1} → statement M
 clock-before-spec =
     tie.close
-    (tie.spec
-    Inv-loop
-    μ-loop
-    (λ c κs. search needs)
-    (λ c κs. search needs)
-    loop-holds
-    (λ c. search needs)
-    (λ c. search needs)
-    (λ c. search needs)
-    element-copy-out-y
-    returns
-    returns-2
-    (λ c. search needs)
-    (λ c. search needs)
-    loop-again
-    returns-3)
+    (tie.spec Inv-loop μ-loop (λ c κs. search needs) (λ c κs. search needs) loop-holds (λ c. search needs) (λ c. search needs)
+    (λ c. search needs) element-copy-out-y returns returns-2 (λ c. search needs) (λ c. search needs) loop-again returns-3)

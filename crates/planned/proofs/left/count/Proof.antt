@@ -1,4 +1,4 @@
--- `count` meets its contract: the marks of the run's dots are counted. Assumes nothing.
+-- `count` meets its contract: the marks of the run's dots are counted.
 use Rattle.planned.proofs.Lefts.{left-count}
 use borrow.Author.Needs.{needs}
 use native.Mathlib.Omega.{arith}

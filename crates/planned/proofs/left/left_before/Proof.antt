@@ -1,4 +1,4 @@
--- `left_before` meets its contract: the loop passes equal dots of what is left. Assumes nothing.
+-- `left_before` meets its contract: the loop passes equal dots of what is left.
 use mathlib.Core.Path.{_≡_, ap₂, sym, _∙_}
 use mathlib.Core.Bool.{true, false}
 use mathlib.Core.Logic.{⊎-elim, inl, inr}
@@ -84,20 +84,6 @@ returns-3 c =
 pub left-before-spec : {M : Type 1} → statement M
 left-before-spec =
     tie.close
-    (tie.spec
-    Inv-loop
-    μ-loop
-    (λ c κs. search needs)
-    (λ c κs. search needs)
-    loop-holds
-    (λ c κs. search needs)
-    dot-at-requires-2
-    returns
-    returns-2
-    (λ c. search needs)
-    (λ c κs. search needs)
-    (λ c. search needs)
-    (λ c κs. omega (arith, ltb-true))
-    (λ c. search needs)
-    loop-again
-    returns-3)
+    (tie.spec Inv-loop μ-loop (λ c κs. search needs) (λ c κs. search needs) loop-holds (λ c κs. search needs) dot-at-requires-2 returns
+    returns-2 (λ c. search needs) (λ c κs. search needs) (λ c. search needs) (λ c κs. omega (arith, ltb-true)) (λ c. search needs)
+    loop-again returns-3)

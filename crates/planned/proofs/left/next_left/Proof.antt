@@ -1,4 +1,4 @@
--- `next_left` meets its contract: the loop passes what is not marked. Assumes nothing.
+-- `next_left` meets its contract: the loop passes what is not marked.
 use mathlib.Core.Path.{_≡_, refl, _∙_}
 use mathlib.Core.List.{List}
 use Prim.Native.Nat.{_≤_, _-_}
@@ -39,13 +39,4 @@ returns-2 c = let g = c .before .loop .inv in (g .0, (λ h. absurd (omega arith)
 pub next-left-spec : {M : Type 1} → statement M
 next-left-spec =
     tie.close
-    (tie.spec
-    Inv-loop
-    μ-loop
-    loop-holds
-    (λ c. search needs)
-    returns
-    (λ c. search needs)
-    (λ c. search needs)
-    loop-again
-    returns-2)
+    (tie.spec Inv-loop μ-loop loop-holds (λ c. search needs) returns (λ c. search needs) (λ c. search needs) loop-again returns-2)

@@ -1,4 +1,4 @@
--- `waits` meets its contract: something is left behind the cut. Assumes nothing.
+-- `waits` meets its contract: something is left behind the cut.
 use mathlib.Core.Path.{ap, _∙_}
 use mathlib.Core.Bool.{not}
 use Rattle.clock.specs.Dots.{isEmpty}

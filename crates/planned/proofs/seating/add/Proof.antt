@@ -1,4 +1,4 @@
--- `add` meets its contract: it is there, or comes to its place. Assumes nothing.
+-- `add` meets its contract: it is there, or comes to its place.
 use borrow.Author.Needs.{needs}
 use native.Mathlib.Omega.{arith}
 use Rattle.planned.proofs.seating.add.Statement.{statement}

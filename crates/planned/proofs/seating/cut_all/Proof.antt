@@ -1,4 +1,4 @@
--- `cut_all` meets its contract: a removal a turn comes to its place. Assumes nothing.
+-- `cut_all` meets its contract: a removal a turn comes to its place.
 use mathlib.Core.Path.{refl}
 use mathlib.Core.List.{List, map}
 use Prim.Native.Nat.{_≤_, _-_}
@@ -101,18 +101,5 @@ returns c =
 pub cut-all-spec : {M : Type 1} → statement M
 cut-all-spec =
     tie.close
-    (tie.spec
-    Inv-loop
-    μ-loop
-    (λ c κs. search needs)
-    (λ c κs. search needs)
-    loop-holds
-    cut-at-requires
-    (λ c. search needs)
-    count-requires
-    add-requires
-    (λ c. search needs)
-    loop-again
-    (λ c. search needs)
-    loop-again-2
-    returns)
+    (tie.spec Inv-loop μ-loop (λ c κs. search needs) (λ c κs. search needs) loop-holds cut-at-requires (λ c. search needs) count-requires
+    add-requires (λ c. search needs) loop-again (λ c. search needs) loop-again-2 returns)

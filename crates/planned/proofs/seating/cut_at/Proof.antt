@@ -1,4 +1,4 @@
--- `cut_at` meets its contract: the removal's whole run is cut. Assumes nothing.
+-- `cut_at` meets its contract: the removal's whole run is cut.
 use mathlib.Core.Bool.{false}
 use Rattle.planned.proofs.Lefts.{whole-clear, cut-left}
 use borrow.Author.Needs.{needs}
@@ -16,12 +16,5 @@ returns c = λ w q h. cut-left w _ _ h (q .each _ h) (c .before .whole .ensures)
 pub cut-at-spec : {M : Type 1} → statement M
 cut-at-spec =
     tie.close
-    (tie.spec
-    (λ c. search needs)
-    (λ c. search needs)
-    (λ c. search needs)
-    (λ c. search needs)
-    (λ c. search needs)
-    (λ c κs. search needs)
-    cut-requires
-    returns)
+    (tie.spec (λ c. search needs) (λ c. search needs) (λ c. search needs) (λ c. search needs) (λ c. search needs) (λ c κs. search needs)
+    cut-requires returns)

@@ -1,4 +1,4 @@
--- `insert` meets its contract: one a turn moves up. Assumes nothing.
+-- `insert` meets its contract: one a turn moves up.
 use mathlib.Core.Path.{_≡_}
 use Prim.Native.Nat.{_≤_, _-_}
 use lib.ListN.{length, getD}
@@ -48,18 +48,5 @@ returns c =
 pub insert-spec : {M : Type 1} → statement M
 insert-spec =
     tie.close
-    (tie.spec
-    Inv-loop
-    μ-loop
-    (λ c. search needs)
-    element-set-from-x
-    loop-holds
-    (λ c. search needs)
-    element-copy-out-y
-    (λ c. search needs)
-    (λ c. search needs)
-    element-set-from-y
-    (λ c. search needs)
-    loop-again
-    (λ c. search needs)
-    returns)
+    (tie.spec Inv-loop μ-loop (λ c. search needs) element-set-from-x loop-holds (λ c. search needs) element-copy-out-y (λ c. search needs)
+    (λ c. search needs) element-set-from-y (λ c. search needs) loop-again (λ c. search needs) returns)

@@ -1,4 +1,4 @@
--- `seat` meets its contract: the loop follows the definition. Assumes nothing.
+-- `seat` meets its contract: the loop follows the definition.
 use mathlib.Core.Path.{sym, _∙_}
 use mathlib.Core.List.{List}
 use Prim.Native.Nat.{_≤_, _-_}
@@ -67,16 +67,5 @@ returns-2 c =
 pub seat-spec : {M : Type 1} → statement M
 seat-spec =
     tie.close
-    (tie.spec
-    Inv-loop
-    μ-loop
-    (λ c κs. search needs)
-    loop-holds
-    (λ c. search needs)
-    element-copy-out-y
-    before-requires
-    returns
-    (λ c. search needs)
-    (λ c. search needs)
-    loop-again
-    returns-2)
+    (tie.spec Inv-loop μ-loop (λ c κs. search needs) loop-holds (λ c. search needs) element-copy-out-y before-requires returns
+    (λ c. search needs) (λ c. search needs) loop-again returns-2)

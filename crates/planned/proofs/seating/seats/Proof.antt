@@ -1,4 +1,4 @@
--- `seats` meets its contract: a removal's place a turn. Assumes nothing.
+-- `seats` meets its contract: a removal's place a turn.
 use mathlib.Core.Path.{_≡_}
 use mathlib.Core.List.{List, map}
 use Prim.Native.Nat.{_≤_, _-_}
@@ -100,20 +100,5 @@ returns c =
 pub seats-spec : {M : Type 1} → statement M
 seats-spec =
     tie.close
-    (tie.spec
-    Inv-loop
-    μ-loop
-    (λ c κs. search needs)
-    (λ c. search needs)
-    loop-holds
-    cut-at-requires
-    (λ c. search needs)
-    count-requires
-    seat-requires
-    cast-out-2
-    (λ c. search needs)
-    (λ c. search needs)
-    loop-again
-    (λ c. search needs)
-    loop-again-2
-    returns)
+    (tie.spec Inv-loop μ-loop (λ c κs. search needs) (λ c. search needs) loop-holds cut-at-requires (λ c. search needs) count-requires
+    seat-requires cast-out-2 (λ c. search needs) (λ c. search needs) loop-again (λ c. search needs) loop-again-2 returns)

@@ -1,4 +1,4 @@
--- `there` meets its contract: what stands at its place is it, or is behind it. Assumes nothing.
+-- `there` meets its contract: what stands at its place is it, or is behind it.
 use Rattle.planned.proofs.Lefts.{told-before, lined-places}
 use Rattle.planned.proofs.Seats.{there-told, not-there}
 use borrow.Author.Needs.{needs}

@@ -1,4 +1,4 @@
--- `none` meets its contract: there is no removal whose dots would lie somewhere. Assumes nothing.
+-- `none` meets its contract: there is no removal whose dots would lie somewhere.
 use mathlib.Core.Path.{refl}
 use native.Mathlib.Omega.{arith}
 use Rattle.queued.proofs.Queue.none.Statement.{statement}

@@ -1,4 +1,4 @@
--- `any_long` meets its contract: a removal a turn. Assumes nothing.
+-- `any_long` meets its contract: a removal a turn.
 use mathlib.Core.Path.{_≡_, refl, sym, _∙_}
 use mathlib.Core.List.{List}
 use Prim.Native.Nat.{ℕ, _≤_, _<_, _-_}
@@ -40,14 +40,5 @@ returns-2 c = λ result few f.
 pub any-long-spec : {M : Type 1} → statement M
 any-long-spec =
     tie.close
-    (tie.spec
-    Inv-loop
-    μ-loop
-    loop-holds
-    (λ c. search needs)
-    (λ c. search needs)
-    (λ c. search needs)
-    returns
-    (λ c. search needs)
-    loop-again
+    (tie.spec Inv-loop μ-loop loop-holds (λ c. search needs) (λ c. search needs) (λ c. search needs) returns (λ c. search needs) loop-again
     returns-2)

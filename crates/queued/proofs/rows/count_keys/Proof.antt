@@ -1,4 +1,4 @@
--- `count_keys` meets its contract: a key a turn. Assumes nothing.
+-- `count_keys` meets its contract: a key a turn.
 use mathlib.Core.List.{List}
 use Prim.Native.Nat.{ℕ, _+_, _*_, _≤_, _<_, _-_}
 use lib.ListN.{length, getD, getD-replicate}
@@ -65,15 +65,5 @@ returns c = λ w v result a b mv few sound.
 pub count-keys-spec : {M : Type 1} → statement M
 count-keys-spec =
     tie.close
-    (tie.spec
-    Inv-loop
-    μ-loop
-    loop-holds
-    row-requires
-    (λ c κs. search needs)
-    (λ c. search needs)
-    add-row-requires
-    (λ c. search needs)
-    loop-again
-    (λ c κs. search needs)
-    returns)
+    (tie.spec Inv-loop μ-loop loop-holds row-requires (λ c κs. search needs) (λ c. search needs) add-row-requires (λ c. search needs)
+    loop-again (λ c κs. search needs) returns)

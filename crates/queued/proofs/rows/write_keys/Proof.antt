@@ -1,4 +1,4 @@
--- `write_keys` meets its contract: a key a turn. Assumes nothing.
+-- `write_keys` meets its contract: a key a turn.
 use mathlib.Core.List.{List}
 use Prim.Native.Nat.{_+_, _*_, _≤_, _-_}
 use lib.ListN.{length}
@@ -62,13 +62,4 @@ returns c = λ w v result a b mv few room. keys-end (c .before .loop .inv .1 .1 
 pub write-keys-spec : {M : Type 1} → statement M
 write-keys-spec =
     tie.close
-    (tie.spec
-    Inv-loop
-    μ-loop
-    loop-holds
-    row-requires
-    write-row-requires
-    (λ c. search needs)
-    loop-again
-    same-length
-    returns)
+    (tie.spec Inv-loop μ-loop loop-holds row-requires write-row-requires (λ c. search needs) loop-again same-length returns)

@@ -1,4 +1,4 @@
--- `Contents::push` meets its contract: a store behind the last. Assumes nothing.
+-- `Contents::push` meets its contract: a store behind the last.
 use mathlib.Core.Path.{ap}
 use Rattle.lists.proofs.Pads.{push-pad, length-snoc}
 use Rattle.register.specs.Values.{valueLimit, noContent}
@@ -13,8 +13,4 @@ returns c = λ l e. rw (e, push-pad noContent valueLimit l _ (omega (arith, ap (
 pub push-spec : {M : Type 1} → statement M
 push-spec =
     tie.close
-    (tie.spec
-    (λ c. search needs)
-    (λ c. search needs)
-    (λ c. search needs)
-    returns)
+    (tie.spec (λ c. search needs) (λ c. search needs) (λ c. search needs) returns)

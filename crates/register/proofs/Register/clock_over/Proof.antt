@@ -1,4 +1,4 @@
--- `Register::clock_over` meets its contract: the loop joins one clock after the other. Assumes nothing.
+-- `Register::clock_over` meets its contract: the loop joins one clock after the other.
 use mathlib.Core.List.{[]}
 use Prim.Native.Nat.{_≤_, _-_}
 use Rattle.lists.proofs.Folding.{Folding, folding-start, folding-on, folding-end}
@@ -29,16 +29,5 @@ returns c = folding-end (c .before .loop .inv .1) (omega arith)
 pub clock-over-spec : {M : Type 1} → statement M
 clock-over-spec =
     tie.close
-    (tie.spec
-    Inv-loop
-    μ-loop
-    (λ c κs. search needs)
-    (λ c κs. search needs)
-    loop-holds
-    (λ c. search needs)
-    (λ c. search needs)
-    (λ c. search needs)
-    (λ c κs. search needs)
-    (λ c. search needs)
-    loop-again
-    returns)
+    (tie.spec Inv-loop μ-loop (λ c κs. search needs) (λ c κs. search needs) loop-holds (λ c. search needs) (λ c. search needs)
+    (λ c. search needs) (λ c κs. search needs) (λ c. search needs) loop-again returns)

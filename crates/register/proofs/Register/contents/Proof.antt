@@ -1,4 +1,4 @@
--- `Register::contents` meets its contract: the loop adds one value after the other. Assumes nothing.
+-- `Register::contents` meets its contract: the loop adds one value after the other.
 use mathlib.Core.Path.{refl, ap}
 use mathlib.Core.List.{[], map}
 use Prim.Native.Nat.{_-_, _≤_}
@@ -36,15 +36,5 @@ returns c = trailing-end (c .before .loop .inv .1) (omega arith)
 pub contents-spec : {M : Type 1} → statement M
 contents-spec =
     tie.close
-    (tie.spec
-    Inv-loop
-    μ-loop
-    (λ c κs. search needs)
-    loop-holds
-    (λ c. search needs)
-    (λ c. search needs)
-    (λ c. search needs)
-    push-requires
-    (λ c. search needs)
-    loop-again
-    returns)
+    (tie.spec Inv-loop μ-loop (λ c κs. search needs) loop-holds (λ c. search needs) (λ c. search needs) (λ c. search needs) push-requires
+    (λ c. search needs) loop-again returns)

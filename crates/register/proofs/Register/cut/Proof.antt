@@ -1,4 +1,4 @@
--- `Register::cut` meets its contract: in hand, cut, and laid down again, since a cut adds nothing. Assumes nothing.
+-- `Register::cut` meets its contract: in hand, cut, and laid down again, since a cut adds nothing.
 use mathlib.Core.Path.{_≡_, ap, _∙_}
 use lib.ListN.{length}
 use Rattle.lists.proofs.Pads.{unmapped, used}
@@ -27,8 +27,4 @@ returns c =
 pub cut-spec : {M : Type 1} → statement M
 cut-spec =
     tie.close
-    (tie.spec
-    (λ c κs. search needs)
-    (λ c κs. search needs)
-    (λ c κs. search needs)
-    returns)
+    (tie.spec (λ c κs. search needs) (λ c κs. search needs) (λ c κs. search needs) returns)

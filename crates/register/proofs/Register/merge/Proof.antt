@@ -1,4 +1,4 @@
--- `Register::merge` meets its contract: ours that stand, and theirs that stand against those. Assumes nothing.
+-- `Register::merge` meets its contract: ours that stand, and theirs that stand against those.
 use mathlib.Core.Path.{_≡_, ap, _∙_}
 use mathlib.Core.Bool.{true, false}
 use lib.ListN.{length}
@@ -39,9 +39,4 @@ returns c =
 pub merge-spec : {M : Type 1} → statement M
 merge-spec =
     tie.close
-    (tie.spec
-    (λ c κs. search needs)
-    (λ c κs. search needs)
-    (λ c κs. search needs)
-    trail-requires
-    returns)
+    (tie.spec (λ c κs. search needs) (λ c κs. search needs) (λ c κs. search needs) trail-requires returns)

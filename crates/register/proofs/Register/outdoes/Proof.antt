@@ -1,4 +1,4 @@
--- `Register::outdoes` meets its contract: the loop looks for a value that this one yields to. Assumes nothing.
+-- `Register::outdoes` meets its contract: the loop looks for a value that this one yields to.
 use mathlib.Core.Path.{sym, _∙_}
 use mathlib.Core.Bool.{true, false}
 use Prim.Native.Nat.{_≤_, _-_}
@@ -33,16 +33,5 @@ returns-2 c = passing-end (c .before .loop .inv .1) (omega arith)
 pub outdoes-spec : {M : Type 1} → statement M
 outdoes-spec =
     tie.close
-    (tie.spec
-    Inv-loop
-    μ-loop
-    (λ c κs. search needs)
-    loop-holds
-    (λ c. search needs)
-    (λ c. search needs)
-    (λ c κs. search needs)
-    returns
-    (λ c. search needs)
-    (λ c. search needs)
-    loop-again
-    returns-2)
+    (tie.spec Inv-loop μ-loop (λ c κs. search needs) loop-holds (λ c. search needs) (λ c. search needs) (λ c κs. search needs) returns
+    (λ c. search needs) (λ c. search needs) loop-again returns-2)

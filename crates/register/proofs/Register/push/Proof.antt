@@ -1,4 +1,4 @@
--- `Register::push` meets its contract: a store behind the last value. Assumes nothing.
+-- `Register::push` meets its contract: a store behind the last value.
 use mathlib.Core.Path.{ap}
 use Rattle.register.proofs.Packs.{pushed}
 use borrow.Author.Needs.{needs}
@@ -12,8 +12,4 @@ returns c = λ l e. pushed l _ e (omega (arith, ap (λ k. k .len) e))
 pub push-spec : {M : Type 1} → statement M
 push-spec =
     tie.close
-    (tie.spec
-    (λ c. search needs)
-    (λ c. search needs)
-    (λ c. search needs)
-    returns)
+    (tie.spec (λ c. search needs) (λ c. search needs) (λ c. search needs) returns)

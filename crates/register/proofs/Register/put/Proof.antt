@@ -1,4 +1,4 @@
--- `Register::put` meets its contract. Assumes nothing.
+-- `Register::put` meets its contract.
 use mathlib.Core.Path.{_≡_, ap, sym, _∙_}
 use mathlib.Core.List.{[]}
 use lib.ListN.{length}
@@ -59,15 +59,5 @@ returns-3 c =
 pub put-spec : {M : Type 1} → statement M
 put-spec =
     tie.close
-    (tie.spec
-    (λ c κs. search needs)
-    (λ c κs. search needs)
-    returns
-    (λ c κs. search needs)
-    push-requires
-    (λ c κs. search needs)
-    (λ c κs. search needs)
-    (λ c κs. search needs)
-    returns-2
-    push-requires-2
-    returns-3)
+    (tie.spec (λ c κs. search needs) (λ c κs. search needs) returns (λ c κs. search needs) push-requires (λ c κs. search needs)
+    (λ c κs. search needs) (λ c κs. search needs) returns-2 push-requires-2 returns-3)

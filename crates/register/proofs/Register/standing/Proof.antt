@@ -1,4 +1,4 @@
--- `Register::standing` meets its contract: the loop sifts the values. Assumes nothing.
+-- `Register::standing` meets its contract: the loop sifts the values.
 use mathlib.Core.Path.{refl, ap, sym, _∙_}
 use mathlib.Core.Bool.{not}
 use mathlib.Core.List.{[]}
@@ -48,21 +48,6 @@ returns c = sifting-end (c .before .loop .inv .1) (omega arith)
 pub standing-spec : {M : Type 1} → statement M
 standing-spec =
     tie.close
-    (tie.spec
-    Inv-loop
-    μ-loop
-    (λ c κs. search needs)
-    (λ c κs. search needs)
-    loop-holds
-    (λ c. search needs)
-    (λ c. search needs)
-    (λ c. search needs)
-    (λ c κs. search needs)
-    (λ c. omega (arith, room c))
-    (λ c. omega (arith, room c))
-    (λ c. omega (arith, room c))
-    (λ c. search needs)
-    loop-again
-    (λ c. search needs)
-    loop-again-2
-    returns)
+    (tie.spec Inv-loop μ-loop (λ c κs. search needs) (λ c κs. search needs) loop-holds (λ c. search needs) (λ c. search needs)
+    (λ c. search needs) (λ c κs. search needs) (λ c. omega (arith, room c)) (λ c. omega (arith, room c)) (λ c. omega (arith, room c))
+    (λ c. search needs) loop-again (λ c. search needs) loop-again-2 returns)

@@ -1,4 +1,4 @@
--- `Register::wide` meets its contract, by that of `trail`. Assumes nothing.
+-- `Register::wide` meets its contract, by that of `trail`.
 use mathlib.Core.Path.{_≡_, ap}
 use mathlib.Core.List.{[]}
 use lib.ListN.{length}
@@ -21,7 +21,4 @@ returns c = c .trail .ensures [] (c .before .new .ensures)
 pub wide-spec : {M : Type 1} → statement M
 wide-spec =
     tie.close
-    (tie.spec
-    (λ c κs. search needs)
-    trail-requires
-    returns)
+    (tie.spec (λ c κs. search needs) trail-requires returns)

@@ -1,4 +1,4 @@
--- `Value::yields` meets its contract, by that of `compare`. Assumes nothing.
+-- `Value::yields` meets its contract, by that of `compare`.
 use Rattle.register.specs.Values.{yields}
 use borrow.Author.Needs.{needs}
 use Rattle.register.proofs.Value.yields.Statement.{statement}
@@ -23,13 +23,5 @@ returns-4 c = rw (← c .before .before .compare .ensures, c .enum-told4 .given 
 pub yields-spec : {M : Type 1} → statement M
 yields-spec =
     tie.close
-    (tie.spec
-    (λ c κs. search needs)
-    (λ c. search needs)
-    (λ c. search needs)
-    (λ c. search needs)
-    (λ c. search needs)
-    returns
-    returns-2
-    returns-3
-    returns-4)
+    (tie.spec (λ c κs. search needs) (λ c. search needs) (λ c. search needs) (λ c. search needs) (λ c. search needs) returns returns-2
+    returns-3 returns-4)

@@ -1,4 +1,4 @@
--- `Wide::narrow` meets its contract: the loop adds one value after the other. Assumes nothing.
+-- `Wide::narrow` meets its contract: the loop adds one value after the other.
 use mathlib.Core.Path.{ap, sym}
 use mathlib.Core.List.{[], map-id}
 use Prim.Native.Nat.{_-_, _≤_, _<_}
@@ -34,18 +34,6 @@ returns c = trailing-end (c .before .loop .inv .1) (omega arith)
 pub narrow-spec : {M : Type 1} → statement M
 narrow-spec =
     tie.close
-    (tie.spec
-    Inv-loop
-    μ-loop
-    (λ c κs. search needs)
-    (λ c κs. search needs)
-    loop-holds
-    (λ c. search needs)
-    (λ c. search needs)
-    (λ c. search needs)
-    (λ c. omega (arith, room c))
-    (λ c. omega (arith, room c))
-    (λ c. omega (arith, room c))
-    (λ c. search needs)
-    loop-again
-    returns)
+    (tie.spec Inv-loop μ-loop (λ c κs. search needs) (λ c κs. search needs) loop-holds (λ c. search needs) (λ c. search needs)
+    (λ c. search needs) (λ c. omega (arith, room c)) (λ c. omega (arith, room c)) (λ c. omega (arith, room c)) (λ c. search needs)
+    loop-again returns)

@@ -1,4 +1,4 @@
--- `Wide::new` meets its contract. Assumes nothing.
+-- `Wide::new` meets its contract.
 use Rattle.lists.specs.Pad.{pad}
 use borrow.Author.Needs.{needs}
 use Rattle.register.proofs.Wide.new.Statement.{statement}
@@ -11,6 +11,4 @@ returns c = rw (c .new .ensures)
 pub new-spec : {M : Type 1} → statement M
 new-spec =
     tie.close
-    (tie.spec
-    (λ c κs. search needs)
-    returns)
+    (tie.spec (λ c κs. search needs) returns)

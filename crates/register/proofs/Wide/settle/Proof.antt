@@ -1,4 +1,4 @@
--- `Wide::settle` meets its contract, by that of `narrow`. Assumes nothing.
+-- `Wide::settle` meets its contract, by that of `narrow`.
 use mathlib.Core.Path.{sym}
 use Rattle.register.proofs.Packs.{fits, exceeds}
 use borrow.Author.Needs.{needs}
@@ -15,9 +15,4 @@ returns-2 c = rw (c .new .ensures) (sym (exceeds _ (omega arith)))
 pub settle-spec : {M : Type 1} → statement M
 settle-spec =
     tie.close
-    (tie.spec
-    (λ c κs. search needs)
-    (λ c κs. search needs)
-    returns
-    (λ c κs. search needs)
-    returns-2)
+    (tie.spec (λ c κs. search needs) (λ c κs. search needs) returns (λ c κs. search needs) returns-2)

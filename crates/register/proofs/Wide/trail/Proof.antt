@@ -1,4 +1,4 @@
--- `Wide::trail` meets its contract: the loop adds one value after the other. Assumes nothing.
+-- `Wide::trail` meets its contract: the loop adds one value after the other.
 use mathlib.Core.Path.{_≡_, ap, sym}
 use mathlib.Core.List.{List, _++_, map-id}
 use Prim.Native.Nat.{_+_, _-_, _≤_}
@@ -32,17 +32,5 @@ returns c = λ l e. trailing-end (c .before .loop .inv .2 l e) (omega arith)
 pub trail-spec : {M : Type 1} → statement M
 trail-spec =
     tie.close
-    (tie.spec
-    Inv-loop
-    μ-loop
-    (λ c κs. search needs)
-    loop-holds
-    (λ c. search needs)
-    (λ c. search needs)
-    (λ c. search needs)
-    (λ c. search needs)
-    (λ c. search needs)
-    (λ c. search needs)
-    (λ c. search needs)
-    loop-again
-    returns)
+    (tie.spec Inv-loop μ-loop (λ c κs. search needs) loop-holds (λ c. search needs) (λ c. search needs) (λ c. search needs)
+    (λ c. search needs) (λ c. search needs) (λ c. search needs) (λ c. search needs) loop-again returns)

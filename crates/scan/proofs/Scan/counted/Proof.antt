@@ -1,4 +1,4 @@
--- `Scan::counted` meets its contract. Assumes nothing.
+-- `Scan::counted` meets its contract.
 use borrow.Author.Tests.{eq-eqb, ne-eqb}
 use borrow.Author.Needs.{needs}
 use Rattle.scan.proofs.Scan.counted.Statement.{statement}
@@ -13,8 +13,4 @@ returns-2 c = rw (ne-eqb _ _ (c .if1 .left))
 pub counted-spec : {M : Type 1} → statement M
 counted-spec =
     tie.close
-    (tie.spec
-    (λ c κs. search needs)
-    (λ c κs. search needs)
-    returns
-    returns-2)
+    (tie.spec (λ c κs. search needs) (λ c κs. search needs) returns returns-2)

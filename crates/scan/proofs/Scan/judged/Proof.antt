@@ -1,4 +1,4 @@
--- `Scan::judged` meets its contract. Assumes nothing.
+-- `Scan::judged` meets its contract.
 use borrow.Author.Needs.{needs}
 use Rattle.scan.proofs.Scan.judged.Statement.{statement}
 use Rattle.scan.proofs.Scan.judged.Tie as tie
@@ -12,7 +12,4 @@ returns-2 c = rw (← c .before .within .ensures, c .if1 .left)
 pub judged-spec : {M : Type 1} → statement M
 judged-spec =
     tie.close
-    (tie.spec
-    (λ c κs. search needs)
-    returns
-    returns-2)
+    (tie.spec (λ c κs. search needs) returns returns-2)

@@ -1,4 +1,4 @@
--- `Scan::next` meets its contract. Assumes nothing.
+-- `Scan::next` meets its contract.
 use borrow.Author.Tests.{eq-eqb, ne-eqb}
 use borrow.Author.Needs.{needs}
 use Rattle.scan.specs.Scanned.{scanOn}
@@ -20,9 +20,4 @@ returns-3 c = rw (ne-eqb _ _ (c .before .before .if1 .left), ← c .before .foll
 pub next-spec : {M : Type 1} → statement M
 next-spec =
     tie.close
-    (tie.spec
-    returns
-    (λ c κs. search needs)
-    (λ c κs. search needs)
-    returns-2
-    returns-3)
+    (tie.spec returns (λ c κs. search needs) (λ c κs. search needs) returns-2 returns-3)

@@ -1,4 +1,4 @@
--- `Scan::tallied` meets its contract. Assumes nothing.
+-- `Scan::tallied` meets its contract.
 use borrow.Author.Tests.{eq-eqb, ne-eqb}
 use borrow.Author.Needs.{needs}
 use Rattle.scan.proofs.Scan.tallied.Statement.{statement}
@@ -13,8 +13,4 @@ returns-2 c = rw (ne-eqb _ _ (c .before .if1 .left)) (c .by-key .ensures)
 pub tallied-spec : {M : Type 1} → statement M
 tallied-spec =
     tie.close
-    (tie.spec
-    (λ c κs. search needs)
-    (λ c κs. search needs)
-    returns
-    returns-2)
+    (tie.spec (λ c κs. search needs) (λ c κs. search needs) returns returns-2)

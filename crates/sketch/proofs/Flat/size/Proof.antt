@@ -1,4 +1,4 @@
--- `Flat::size` meets its contract: the count, and the room where the count is larger. Assumes nothing.
+-- `Flat::size` meets its contract: the count, and the room where the count is larger.
 use mathlib.Core.Path.{_≡_}
 use lib.ListN.{length, length-take}
 use borrow.Author.Needs.{needs}

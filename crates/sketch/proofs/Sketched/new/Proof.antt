@@ -1,4 +1,4 @@
--- `Sketched::new` meets its contract. Assumes nothing.
+-- `Sketched::new` meets its contract.
 use mathlib.Core.Path.{refl, _∙_}
 use mathlib.Core.List.{List·Memᴰ·not-nil}
 use borrow.Author.Needs.{needs}

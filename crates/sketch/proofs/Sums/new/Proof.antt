@@ -1,4 +1,4 @@
--- `Sums::new` meets its contract. Assumes nothing.
+-- `Sums::new` meets its contract.
 use mathlib.Core.Path.{refl}
 use native.Mathlib.Omega.{arith}
 use Rattle.lists.specs.First.{firstIn}

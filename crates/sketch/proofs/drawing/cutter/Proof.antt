@@ -1,4 +1,4 @@
--- `cutter` meets its contract. Assumes nothing.
+-- `cutter` meets its contract.
 use borrow.Author.Needs.{needs}
 use Rattle.sketch.proofs.drawing.cutter.Statement.{statement}
 use Rattle.sketch.proofs.drawing.cutter.Tie as tie

@@ -1,4 +1,4 @@
--- `draw_cut` meets its contract: one entry after the other. Assumes nothing.
+-- `draw_cut` meets its contract: one entry after the other.
 use mathlib.Core.Path.{_≡_, refl, ap, sym, _∙_}
 use mathlib.Core.Bool.{true, false, not, cond, _||_}
 use mathlib.Core.List.{[]}
@@ -158,26 +158,6 @@ returns c =
 pub draw-cut-spec : {M : Type 1} → statement M
 draw-cut-spec =
     tie.close
-    (tie.spec
-    Inv-loop
-    μ-loop
-    (λ c κs. search needs)
-    (λ c κs. search needs)
-    (λ c κs. search needs)
-    loop-holds
-    entry-at-requires
-    (λ c κs. search needs)
-    own-left-requires
-    (λ c κs. search needs)
-    (λ c κs. search needs)
-    draw-values-requires
-    with-requires
-    (λ c. search needs)
-    (λ c. search needs)
-    loop-less
-    loop-again
-    loop-less-2
-    loop-again-2
-    loop-less-3
-    loop-again-3
-    returns)
+    (tie.spec Inv-loop μ-loop (λ c κs. search needs) (λ c κs. search needs) (λ c κs. search needs) loop-holds entry-at-requires
+    (λ c κs. search needs) own-left-requires (λ c κs. search needs) (λ c κs. search needs) draw-values-requires with-requires
+    (λ c. search needs) (λ c. search needs) loop-less loop-again loop-less-2 loop-again-2 loop-less-3 loop-again-3 returns)

@@ -1,4 +1,4 @@
--- `draw_removed` meets its contract. Assumes nothing.
+-- `draw_removed` meets its contract.
 use borrow.Author.Needs.{needs}
 use Rattle.parts.specs.Entries.{removeFrom, removeEntries}
 use Rattle.sketch.proofs.drawing.draw_removed.Statement.{statement}

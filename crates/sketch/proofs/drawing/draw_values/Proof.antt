@@ -1,4 +1,4 @@
--- `draw_values` meets its contract: one value after the other. Assumes nothing.
+-- `draw_values` meets its contract: one value after the other.
 use mathlib.Core.Path.{_≡_, refl, ap, sym, _∙_}
 use mathlib.Core.Bool.{cond}
 use mathlib.Core.List.{List}
@@ -161,32 +161,7 @@ returns c =
 pub draw-values-spec : {M : Type 1} → statement M
 draw-values-spec =
     tie.close
-    (tie.spec
-    Inv-loop
-    μ-loop
-    sub-n
-    loop-holds
-    (λ c. search needs)
-    (λ c. search needs)
-    (λ c. search needs)
-    (λ c. search needs)
-    (λ c. search needs)
-    (λ c. search needs)
-    (λ c. search needs)
-    (λ c. search needs)
-    source-of-requires
-    sub-many
-    (λ c. search needs)
-    some-marks-requires
-    (λ c. search needs)
-    (λ c. search needs)
-    element-set-from-x
-    (λ c. search needs)
-    loop-again
-    (λ c. search needs)
-    loop-again-2
-    (λ c. search needs)
-    loop-again-3
-    (λ c. search needs)
-    loop-again-4
-    returns)
+    (tie.spec Inv-loop μ-loop sub-n loop-holds (λ c. search needs) (λ c. search needs) (λ c. search needs) (λ c. search needs)
+    (λ c. search needs) (λ c. search needs) (λ c. search needs) (λ c. search needs) source-of-requires sub-many (λ c. search needs)
+    some-marks-requires (λ c. search needs) (λ c. search needs) element-set-from-x (λ c. search needs) loop-again (λ c. search needs)
+    loop-again-2 (λ c. search needs) loop-again-3 (λ c. search needs) loop-again-4 returns)

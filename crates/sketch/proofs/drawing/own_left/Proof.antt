@@ -1,4 +1,4 @@
--- `own_left` meets its contract. Assumes nothing.
+-- `own_left` meets its contract.
 use mathlib.Core.Path.{ap, _∙_}
 use borrow.Author.Needs.{needs}
 use Rattle.clock.specs.Dots.{clockOf}
@@ -21,15 +21,5 @@ returns c = λ x h. c .pick-clock .ensures ∙ ap clockOf (cut-of-run _ _ (own-s
 pub own-left-spec : {M : Type 1} → statement M
 own-left-spec =
     tie.close
-    (tie.spec
-    (λ c. search needs)
-    (λ c. search needs)
-    (λ c. search needs)
-    (λ c. search needs)
-    (λ c. search needs)
-    cut-marks-requires
-    (λ c. search needs)
-    (λ c. search needs)
-    (λ c. search needs)
-    pick-clock-requires
-    returns)
+    (tie.spec (λ c. search needs) (λ c. search needs) (λ c. search needs) (λ c. search needs) (λ c. search needs) cut-marks-requires
+    (λ c. search needs) (λ c. search needs) (λ c. search needs) pick-clock-requires returns)

@@ -1,4 +1,4 @@
--- `entry_at` meets its contract: each section is searched for what stands behind the first key. Assumes nothing.
+-- `entry_at` meets its contract: each section is searched for what stands behind the first key.
 use borrow.Author.Needs.{needs}
 use Rattle.sketch.proofs.Stepping.{stepping}
 use Rattle.sketch.proofs.walking.entry_at.Statement.{statement}
@@ -26,14 +26,5 @@ returns c =
 pub entry-at-spec : {M : Type 1} → statement M
 entry-at-spec =
     tie.close
-    (tie.spec
-    (λ c. search needs)
-    (λ c κs. search needs)
-    (λ c. search needs)
-    (λ c. search needs)
-    (λ c κs. search needs)
-    (λ c κs. search needs)
-    (λ c κs. search needs)
-    (λ c. search needs)
-    starts-of-requires
-    returns)
+    (tie.spec (λ c. search needs) (λ c κs. search needs) (λ c. search needs) (λ c. search needs) (λ c κs. search needs)
+    (λ c κs. search needs) (λ c κs. search needs) (λ c. search needs) starts-of-requires returns)

@@ -1,4 +1,4 @@
--- `starts_of` meets its contract: the run of one value a turn. Assumes nothing.
+-- `starts_of` meets its contract: the run of one value a turn.
 use mathlib.Core.Path.{_≡_, refl}
 use mathlib.Core.List.{List}
 use Prim.Native.Nat.{ℕ, _*_, _≤_, _-_}
@@ -38,15 +38,5 @@ returns c = λ key l e p. started-all (c .before .loop .inv .1 key l e p) (omega
 pub starts-of-spec : {M : Type 1} → statement M
 starts-of-spec =
     tie.close
-    (tie.spec
-    Inv-loop
-    μ-loop
-    loop-holds
-    (λ c. search needs)
-    (λ c κs. search needs)
-    (λ c. search needs)
-    (λ c. search needs)
-    (λ c. search needs)
-    (λ c. search needs)
-    loop-again
-    returns)
+    (tie.spec Inv-loop μ-loop loop-holds (λ c. search needs) (λ c κs. search needs) (λ c. search needs) (λ c. search needs)
+    (λ c. search needs) (λ c. search needs) loop-again returns)

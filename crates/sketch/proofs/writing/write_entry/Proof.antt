@@ -1,4 +1,4 @@
--- `write_entry` meets its contract. Assumes nothing.
+-- `write_entry` meets its contract.
 use mathlib.Core.Path.{ap, sym, _∙_}
 use lib.ListN.{length, length-map}
 use native.Mathlib.Omega.{arith}
@@ -45,11 +45,4 @@ returns-2 c =
 pub write-entry-spec : {M : Type 1} → statement M
 write-entry-spec =
     tie.close
-    (tie.spec
-    (λ c κs. search needs)
-    write-dots-requires
-    (λ c. search needs)
-    returns
-    write-sources-requires
-    (λ c. search needs)
-    returns-2)
+    (tie.spec (λ c κs. search needs) write-dots-requires (λ c. search needs) returns write-sources-requires (λ c. search needs) returns-2)

@@ -1,4 +1,4 @@
--- `write_sketch` meets its contract: one entry after the other, and one section behind the other. Assumes nothing.
+-- `write_sketch` meets its contract: one entry after the other, and one section behind the other.
 use mathlib.Core.Path.{refl, _∙_}
 use mathlib.Core.List.{List, [], _++_}
 use Prim.Native.Nat.{_≤_, _<_, _-_, _+_, _*_}
@@ -129,20 +129,6 @@ returns c =
 pub write-sketch-spec : {M : Type 1} → statement M
 write-sketch-spec =
     tie.close
-    (tie.spec
-    Inv-loop
-    μ-loop
-    (λ c κs. search needs)
-    write-dots-requires
-    loop-holds
-    (λ c. search needs)
-    (λ c. search needs)
-    (λ c. search needs)
-    write-entry-requires
-    (λ c. search needs)
-    loop-again
-    (λ c. search needs)
-    (λ c. search needs)
-    loop-again-2
-    same-length
+    (tie.spec Inv-loop μ-loop (λ c κs. search needs) write-dots-requires loop-holds (λ c. search needs) (λ c. search needs)
+    (λ c. search needs) write-entry-requires (λ c. search needs) loop-again (λ c. search needs) (λ c. search needs) loop-again-2 same-length
     returns)

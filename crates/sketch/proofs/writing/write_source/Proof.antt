@@ -1,4 +1,4 @@
--- `write_source` meets its contract. Assumes nothing.
+-- `write_source` meets its contract.
 use mathlib.Core.List.{List}
 use Prim.Native.Nat.{ℕ, _+_, _*_, _≤_}
 use lib.ListN.{length}
@@ -46,10 +46,4 @@ returns-2 c =
 pub write-source-spec : {M : Type 1} → statement M
 write-source-spec =
     tie.close
-    (tie.spec
-    write-in-requires
-    (λ c. search needs)
-    returns
-    write-in-requires-2
-    (λ c. search needs)
-    returns-2)
+    (tie.spec write-in-requires (λ c. search needs) returns write-in-requires-2 (λ c. search needs) returns-2)

@@ -1,4 +1,4 @@
--- `write_sources` meets its contract: one value after the other. Assumes nothing.
+-- `write_sources` meets its contract: one value after the other.
 use mathlib.Core.Path.{refl}
 use mathlib.Core.List.{List, []}
 use Prim.Native.Nat.{ℕ, _≤_, _<_, _-_}
@@ -71,17 +71,5 @@ returns c =
 pub write-sources-spec : {M : Type 1} → statement M
 write-sources-spec =
     tie.close
-    (tie.spec
-    Inv-loop
-    μ-loop
-    (λ c κs. search needs)
-    loop-holds
-    (λ c. search needs)
-    (λ c. search needs)
-    (λ c. search needs)
-    (λ c. search needs)
-    write-source-requires
-    (λ c. search needs)
-    loop-again
-    same-length
-    returns)
+    (tie.spec Inv-loop μ-loop (λ c κs. search needs) loop-holds (λ c. search needs) (λ c. search needs) (λ c. search needs)
+    (λ c. search needs) write-source-requires (λ c. search needs) loop-again same-length returns)

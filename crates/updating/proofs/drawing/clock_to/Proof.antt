@@ -1,4 +1,4 @@
--- `clock_to` meets its contract: the dot is added where the put goes. Assumes nothing.
+-- `clock_to` meets its contract: the dot is added where the put goes.
 use mathlib.Core.Path.{ap, ap₂, sym, subst, _∙_}
 use Prim.Native.Nat.{_≤_}
 use lib.ListN.{length}

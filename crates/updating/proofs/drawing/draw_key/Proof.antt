@@ -1,4 +1,4 @@
--- `draw_key` meets its contract: the values are drawn where something is left of the clock. Assumes nothing.
+-- `draw_key` meets its contract: the values are drawn where something is left of the clock.
 use mathlib.Core.Path.{_≡_, ap, sym, subst, _∙_}
 use mathlib.Core.List.{List, []}
 use Prim.Native.Nat.{ℕ, _≤_}
@@ -70,13 +70,5 @@ returns-3 c = λ u e w q h l few k m.
 pub draw-key-spec : {M : Type 1} → statement M
 draw-key-spec =
     tie.close
-    (tie.spec
-    (λ c κs. search needs)
-    (λ c κs. search needs)
-    (λ c κs. search needs)
-    (λ c κs. search needs)
-    returns
-    (λ c κs. search needs)
-    returns-2
-    (λ c κs. search needs)
-    returns-3)
+    (tie.spec (λ c κs. search needs) (λ c κs. search needs) (λ c κs. search needs) (λ c κs. search needs) returns (λ c κs. search needs)
+    returns-2 (λ c κs. search needs) returns-3)

@@ -1,4 +1,4 @@
--- `draw_keys` meets its contract: the loop draws the next key, and the next, until neither an entry nor the put is left. Assumes nothing.
+-- `draw_keys` meets its contract: the loop draws the next key, and the next, until neither an entry nor the put is left.
 use mathlib.Core.Path.{_≡_, refl, ap, sym, subst, _∙_}
 use mathlib.Core.Bool.{Bool, true, false, not, _||_}
 use mathlib.Core.List.{List}
@@ -163,24 +163,6 @@ loop-again-3 c =
 pub draw-keys-spec : {M : Type 1} → statement M
 draw-keys-spec =
     tie.close
-    (tie.spec
-    Inv-loop
-    μ-loop
-    (λ c κs. search needs)
-    (λ c κs. search needs)
-    (λ c κs. search needs)
-    loop-holds
-    next-requires
-    listers-requires
-    draw-key-requires
-    (λ c κs. search needs)
-    with-requires
-    (λ c. search needs)
-    (λ c. search needs)
-    loop-less
-    loop-again
-    loop-less-2
-    loop-again-2
-    loop-less-3
-    loop-again-3
-    returns)
+    (tie.spec Inv-loop μ-loop (λ c κs. search needs) (λ c κs. search needs) (λ c κs. search needs) loop-holds next-requires listers-requires
+    draw-key-requires (λ c κs. search needs) with-requires (λ c. search needs) (λ c. search needs) loop-less loop-again loop-less-2
+    loop-again-2 loop-less-3 loop-again-3 returns)

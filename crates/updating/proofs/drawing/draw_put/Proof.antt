@@ -1,4 +1,4 @@
--- `draw_put` meets its contract: a put with no clock does nothing, one that yields is not drawn, any other stands last. Assumes nothing.
+-- `draw_put` meets its contract: a put with no clock does nothing, one that yields is not drawn, any other stands last.
 use mathlib.Core.Path.{_≡_, ap, sym, subst, _∙_}
 use mathlib.Core.Bool.{cond}
 use mathlib.Core.List.{[]}
@@ -67,17 +67,5 @@ returns-3 c =
 pub draw-put-spec : {M : Type 1} → statement M
 draw-put-spec =
     tie.close
-    (tie.spec
-    (λ c κs. search needs)
-    returns
-    (λ c. search needs)
-    (λ c. search needs)
-    (λ c. search needs)
-    (λ c. search needs)
-    (λ c. search needs)
-    put-stands-requires
-    (λ c κs. search needs)
-    returns-2
-    put-source-requires
-    add-requires
-    returns-3)
+    (tie.spec (λ c κs. search needs) returns (λ c. search needs) (λ c. search needs) (λ c. search needs) (λ c. search needs)
+    (λ c. search needs) put-stands-requires (λ c κs. search needs) returns-2 put-source-requires add-requires returns-3)

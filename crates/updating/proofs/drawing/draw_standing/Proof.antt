@@ -1,4 +1,4 @@
--- `draw_standing` meets its contract: nothing else is cut, and no other removals. Assumes nothing.
+-- `draw_standing` meets its contract: nothing else is cut, and no other removals.
 use mathlib.Core.Path.{refl, subst}
 use mathlib.Core.List.{[]}
 use native.Mathlib.Omega.{arith}

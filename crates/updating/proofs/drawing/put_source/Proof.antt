@@ -1,4 +1,4 @@
--- `put_source` meets its contract: the run of the put's dots, cut. Assumes nothing.
+-- `put_source` meets its contract: the run of the put's dots, cut.
 use mathlib.Core.Path.{refl, ap, sym, _∙_}
 use native.Mathlib.Omega.{arith}
 use borrow.Author.Needs.{needs}
@@ -33,11 +33,5 @@ returns c =
 pub put-source-spec : {M : Type 1} → statement M
 put-source-spec =
     tie.close
-    (tie.spec
-    (λ c. search needs)
-    (λ c. search needs)
-    (λ c. search needs)
-    (λ c. search needs)
-    cut-listed-marks-requires
-    (λ c. search needs)
+    (tie.spec (λ c. search needs) (λ c. search needs) (λ c. search needs) (λ c. search needs) cut-listed-marks-requires (λ c. search needs)
     returns)

@@ -1,4 +1,4 @@
--- `next` meets its contract: the entries come in their order, and the put at its key. Assumes nothing.
+-- `next` meets its contract: the entries come in their order, and the put at its key.
 use mathlib.Core.Path.{_≡_, refl, subst}
 use mathlib.Core.Bool.{Bool, true, false, not, _||_}
 use mathlib.Core.List.{[]}
@@ -62,12 +62,4 @@ returns-4 c =
 pub next-spec : {M : Type 1} → statement M
 next-spec =
     tie.close
-    (tie.spec
-    entry-at-requires
-    returns
-    (λ c κs. search needs)
-    (λ c κs. search needs)
-    returns-2
-    entry-at-requires-2
-    returns-3
-    returns-4)
+    (tie.spec entry-at-requires returns (λ c κs. search needs) (λ c κs. search needs) returns-2 entry-at-requires-2 returns-3 returns-4)
