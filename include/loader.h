@@ -10,7 +10,7 @@
  * A bay without an entry, or without a value, has eleven zeros.
  *
  * Maps travel as images (docs/FORMAT.md), and a call answers a word. The archive is x86-64 System V code,
- * reentrant, and needs `memcpy` alone: castribba_common.h has that in full, and the numbers. Refusals, in
+ * reentrant, and needs `memcpy` at most: castribba_common.h has that in full, and the numbers. Refusals, in
  * this order: 1, 2 and 3 for the image, 14 for a bay outside 1 to 24, 10 for a buffer shorter than the
  * answer.
  */
