@@ -7,13 +7,14 @@ use native.Mathlib.Omega.{arith}
 use lib.Dec.{leb, ltb}
 use lib.ListN.{length, length-take}
 use borrow.Author.Tests.{ne-eqb, lt-ltb, le-ltb, leb-true, leb-false, ltb-false}
-use Rattle.lists.proofs.Orders.{apart}
-use Rattle.lists.proofs.Limits.{within-fits, within-exceeds}
+use Rattle.listlaws.proofs.Orders.{apart}
+use Rattle.listlaws.proofs.Limits.{within-fits, within-exceeds}
 use Rattle.scan.proofs.Eachs.{decide}
 use Rattle.clock.specs.declared.Dot.{Dot}
 use Rattle.clock.specs.declared.Clock.{Clock}
 use Rattle.clock.specs.declared.Joined.{Joined}
-use Rattle.clock.specs.Dots.{dotLimit, dotsOf, clockOf, fitted, counterIn, addDot}
+use Rattle.limits.specs.Limits.{dotLimit}
+use Rattle.clock.specs.Dots.{dotsOf, clockOf, fitted, counterIn, addDot}
 use Rattle.answers.specs.Answer.{numberOf, wordOf}
 use Rattle.answers.proofs.Answers.{number-first, number-own, number-done, bare}
 use Rattle.advance.specs.declared.Advanced.{Advanced}
@@ -21,19 +22,24 @@ use Rattle.advance.specs.Advancing.{lentNumber, dotGiven, advanceAnswer,
 use Rattle.advance.proofs.Risings.{none-added}
 
 over-long : (l : List Dot) → fitted l .over ≡ true → dotLimit < length l
-over-long l h = decide (leb (length l) dotLimit) (λ t. apart (sym h ∙ ap (λ (j : Joined). j .over) (within-fits dotLimit _ _ l (leb-true (length l) dotLimit t)))) (λ f. omega (arith, leb-false (length l) dotLimit f))
+over-long l h = decide (leb (length l) dotLimit)
+    (λ t. apart (sym h ∙ ap (λ (j : Joined). j .over) (within-fits dotLimit _ _ l (leb-true (length l) dotLimit t))))
+    (λ f. omega (arith, leb-false (length l) dotLimit f))
 
 within-long : (l : List Dot) → fitted l .over ≡ false → length l ≤ dotLimit
-within-long l h = decide (leb (length l) dotLimit) (λ t. leb-true (length l) dotLimit t) (λ f. apart (sym (ap (λ (j : Joined). j .over) (within-exceeds dotLimit _ _ l (omega (arith, leb-false (length l) dotLimit f)))) ∙ h))
+within-long l h = decide (leb (length l) dotLimit) (λ t. leb-true (length l) dotLimit t)
+    (λ f. apart (sym (ap (λ (j : Joined). j .over) (within-exceeds dotLimit _ _ l (omega (arith, leb-false (length l) dotLimit f)))) ∙ h))
 
 module _ (c : Clock) (actor counter : ℕ) where
   -- where the dot takes no effect the clock is the one given
-  effect : {n : ℕ} → n ≡ wordOf (advanceAnswer c actor counter) [] → false ≡ takesEffect c actor counter → record { word = n; grew = false; clock = c } ≡ advancedOf c actor counter
+  effect : {n : ℕ} → n ≡ wordOf (advanceAnswer c actor counter) [] → false ≡ takesEffect c actor counter
+      → record { word = n; grew = false; clock = c } ≡ advancedOf c actor counter
   effect w g =
       let k : c ≡ advancedClock c actor counter = rw (← g) in
       λ i. record { word = w i; grew = g i; clock = k i }
 
-  stays : {n : ℕ} → numberOf (advanceAnswer c actor counter) [] ≡ n → (n ≡ 0 → ⊥) → record { word = n * 2 ^ 32; grew = false; clock = c } ≡ advancedOf c actor counter
+  stays : {n : ℕ} → numberOf (advanceAnswer c actor counter) [] ≡ n → (n ≡ 0 → ⊥)
+      → record { word = n * 2 ^ 32; grew = false; clock = c } ≡ advancedOf c actor counter
   unfolding takesEffect
   stays {n} e h =
       let w = bare (advanceAnswer c actor counter) n e refl in
@@ -50,7 +56,8 @@ module _ (c : Clock) (actor counter : ℕ) where
       (λ f. let h = ltb-false dotLimit (c .len) f in omega (arith, length-take (c .len) (c .dots)))
 
   module _ (good : lentNumber c ≡ 0) where
-    pub full-stays : fitted (addDot (dotsOf c) (dotGiven c actor counter)) .over ≡ true → record { word = 4 * 2 ^ 32; grew = false; clock = c } ≡ advancedOf c actor counter
+    pub full-stays : fitted (addDot (dotsOf c) (dotGiven c actor counter)) .over ≡ true
+        → record { word = 4 * 2 ^ 32; grew = false; clock = c } ≡ advancedOf c actor counter
     full-stays o =
         let l = over-long (addDot (dotsOf c) (dotGiven c actor counter)) o in
         stays {n = 4} (number-own (advanceAnswer c actor counter) [] good refl (rw (lt-ltb _ _ l)) (omega arith)) (omega arith)
@@ -64,7 +71,8 @@ module _ (c : Clock) (actor counter : ℕ) where
     grows b {j} e o =
         let l = within-long (addDot (dotsOf c) (dotGiven c actor counter)) (sym (ap (λ (x : Joined). x .over) e) ∙ o) in
         let w = bare (advanceAnswer c actor counter) 0 (done l) refl in
-        let f : j .clock ≡ clockOf (addDot (dotsOf c) (dotGiven c actor counter)) = ap (λ (x : Joined). x .clock) (e ∙ within-fits dotLimit _ _ _ l) in
+        let f : j .clock ≡ clockOf (addDot (dotsOf c) (dotGiven c actor counter)) = ap (λ (x : Joined). x .clock)
+        (e ∙ within-fits dotLimit _ _ _ l) in
         let g : true ≡ takesEffect c actor counter = rw (done l, lt-ltb _ _ b) in
         let k : j .clock ≡ advancedClock c actor counter = rw (← g) f in
         λ i. record { word = w i; grew = g i; clock = k i }

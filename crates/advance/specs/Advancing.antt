@@ -6,18 +6,19 @@ use lib.Dec.{eqb, ltb, leb}
 use lib.ListN.{length}
 use Rattle.clock.specs.declared.Dot.{Dot}
 use Rattle.clock.specs.declared.Clock.{Clock}
-use Rattle.clock.specs.Dots.{dotLimit, dotsOf, clockOf, beyond, addDot}
+use Rattle.limits.specs.Limits.{dotLimit}
+use Rattle.clock.specs.Dots.{dotsOf, clockOf, beyond, addDot}
 use Rattle.answers.specs.Answer.{Answer, numberOf, wordOf}
 use Rattle.advance.specs.declared.Advanced.{Advanced}
 
 -- actors strictly ascending, from `low` on, and no zero counter
-unfoldable pub rising : ℕ → List Dot → Bool
-rising low [] = true
-rising low (d ∷ l) = (leb low (d .actor) && ltb 0 (d .counter)) && rising (d .actor + 1) l
+unfoldable pub risingDots : ℕ → List Dot → Bool
+risingDots low [] = true
+risingDots low (d ∷ l) = (leb low (d .actor) && ltb 0 (d .counter)) && risingDots (d .actor + 1) l
 
 -- "a lent clock of more than 8 dots: 2; out of order or with a zero counter: 1"
 unfoldable pub lentNumber : Clock → ℕ
-lentNumber c = cond (ltb dotLimit (c .len)) 2 (cond (rising 0 (dotsOf c)) 0 1)
+lentNumber c = cond (ltb dotLimit (c .len)) 2 (cond (risingDots 0 (dotsOf c)) 0 1)
 
 -- "a ninth dot: 4"
 abbrev pub grownNumber : List Dot → ℕ

@@ -2,10 +2,10 @@
 ghost use mathlib.Core.Path.{_≡_};
 ghost use Prim.Native.Nat.{_≤_};
 ghost use Rattle.clock.specs.Dots.{dotsOf};
-ghost use Rattle.advance.specs.Advancing.{rising, lentNumber, advancedOf};
+ghost use Rattle.advance.specs.Advancing.{risingDots, lentNumber, advancedOf};
 use clock::Clock;
-use clock::DOTS;
 use clock::Dot;
+use limits::DOTS;
 
 // The word, whether the dot took effect, and the clock, which is the one given where it did not.
 pub struct Advanced {
@@ -16,7 +16,7 @@ pub struct Advanced {
 
 // Whether actors ascend strictly and no counter is zero.
 fn rises(clock: Clock) -> bool
-    ensures { λ r. ⌜ r ≡ rising 0 (dotsOf clock) ⌝ }
+    ensures { λ r. ⌜ r ≡ risingDots 0 (dotsOf clock) ⌝ }
 {
     let n = clock.size();
     let mut low: u32 = 0;

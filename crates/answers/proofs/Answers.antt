@@ -8,7 +8,7 @@ use lib.Dec.{eqb}
 use lib.ListN.{length, replicate, length-replicate}
 use borrow.Author.Tests.{ne-eqb, lt-ltb, le-ltb}
 use Rattle.scan.proofs.Eachs.{decide}
-use Rattle.records.specs.Records.{Wrote}
+use Rattle.records.specs.Writing.{Wrote}
 use Rattle.records.proofs.Placing.{placed-first}
 use Rattle.answers.specs.Answer.{Answer, firstOf, numberOf, wordOf, outOf, Answered, Counted}
 
@@ -75,6 +75,10 @@ pub record Same (d e : List ℕ) (r s : ℕ) : Type 0 where
   pub words : r ≡ s
   pub outputs : d ≡ e
 
+-- so are those of a call with an output
+abbrev pub Written : (List ℕ → List ℕ → ℕ → Type 0) → Type 0
+Written Promise = (out d e : List ℕ) (r s : ℕ) → Promise out d r → Promise out e s → Same d e r s
+
 pub same-answer : {a : Answer} {o d e : List ℕ} {r s : ℕ} → Answered a o d r → Answered a o e s → Same d e r s
 same-answer p q = record { words = same (p .packed) (q .packed); outputs = same (p .left) (q .left) }
 
@@ -85,6 +89,3 @@ same-count {room = room} p q = same (p .counts (replicate room 0) (length-replic
 module _ {a : Answer} {n r : ℕ} (out : List ℕ) (p : Counted a (length out) n r) where
   pub count-done : numberOf a out ≡ 0 → r ≡ n
   count-done z = p .counts out refl ∙ rw z refl
-
-  pub count-refused : (numberOf a out ≡ 0 → ⊥) → r ≡ 0
-  count-refused h = p .counts out refl ∙ rw (ne-eqb (numberOf a out) 0 h) refl

@@ -1,6 +1,6 @@
 -- Numbers of which none comes twice: putting them in order loses none. The keys of waiting removals are such numbers.
 use mathlib.Core.Path.{_≡_, refl, ap, _∙_}
-use mathlib.Core.Logic.{_⊎_, inl, inr, ⊎-elim}
+use mathlib.Core.Logic.{⊎-elim}
 use mathlib.Core.List.{List, [], _∷_, _++_, map, List·Memᴰ·head, List·Memᴰ·tail, List·Memᴰ·not-nil, List·Memᴰ·cases-cons, List·Memᴰ·append-cases}
 use Prim.Native.Nat.{ℕ, suc, _+_, _*_, _%_, _≤_}
 use native.Mathlib.Nat.{zero-add}
@@ -8,13 +8,14 @@ use native.Mathlib.Omega.{arith}
 use lib.Dec.{eqb, ltb}
 use lib.ListN.{length}
 use borrow.Author.Tests.{ltb-true, eqb-true}
-use Rattle.lists.specs.Order.{_∈_, Ascending, next, by}
-use Rattle.lists.specs.Fold.{fold}
+use Rattle.listlaws.specs.Order.{_∈_, Ascending, next, by}
+use Rattle.listlaws.specs.Fold.{fold}
 use Rattle.scan.proofs.Eachs.{decide}
-use Rattle.parts.specs.declared.Removal.{Removal}
-use Rattle.parts.specs.Model.{listedIn}
+use Rattle.removals.specs.declared.Removal.{Removal}
+use Rattle.removals.specs.Model.{listedIn}
 use Rattle.mapimage.specs.Sorted.{insert, inOrder}
 use Rattle.mapimage.specs.MapImage.{flatFrom, keyNumber, keyNumbers}
+use Rattle.mapimage.proofs.Sorts.{inserted}
 
 pub data Distinct : List ℕ → Type 0 where
   no-number : Distinct []
@@ -24,17 +25,8 @@ length-insert : (x : ℕ) (l : List ℕ) → (x ∈ l → ⊥) → length (inser
 unfolding insert
 length-insert x [] h = refl
 length-insert x (y ∷ l) h =
-    decide (ltb x y) (λ a. rw a) (λ a. decide (eqb x y) (λ b. absurd (h (List·Memᴰ·head (eqb-true x y b)))) (λ b. rw (a, b) (ap suc (length-insert x l (λ i. h (List·Memᴰ·tail i))))))
-
-inserted : (x : ℕ) (l : List ℕ) (z : ℕ) → z ∈ insert x l → (z ≡ x) ⊎ (z ∈ l)
-unfolding insert
-inserted x [] z i = List·Memᴰ·cases-cons i
-inserted x (y ∷ l) z i =
-    decide (ltb x y)
-    (λ a. List·Memᴰ·cases-cons (rw a at i))
-    (λ a. decide (eqb x y)
-    (λ b. inr (rw (a, b) at i))
-    (λ b. ⊎-elim (λ (q : z ≡ y). inr (List·Memᴰ·head q)) (λ j. ⊎-elim (λ q. inl q) (λ k. inr (List·Memᴰ·tail k)) (inserted x l z j)) (List·Memᴰ·cases-cons (rw (a, b) at i))))
+    decide (ltb x y) (λ a. rw a) (λ a. decide (eqb x y) (λ b. absurd (h (List·Memᴰ·head (eqb-true x y b))))
+    (λ b. rw (a, b) (ap suc (length-insert x l (λ i. h (List·Memᴰ·tail i))))))
 
 from : (s l : List ℕ) → Distinct l → ((x : ℕ) → x ∈ l → x ∈ s → ⊥) → length (fold (λ s x. insert x s) s l) ≡ length s + length l
 unfolding fold
@@ -51,14 +43,16 @@ length-order l d = from [] l d (λ x i j. absurd (List·Memᴰ·not-nil j)) ∙ 
 append-distinct : (l : List ℕ) {m : List ℕ} → Distinct l → Distinct m → ((x : ℕ) → x ∈ l → x ∈ m → ⊥) → Distinct (l ++ m)
 append-distinct [] c d h = d
 append-distinct (x ∷ l) (one-more n c) d h =
-    one-more (λ i. ⊎-elim n (λ j. h x (List·Memᴰ·head refl) j) (List·Memᴰ·append-cases l i)) (append-distinct l c d (λ z i j. h z (List·Memᴰ·tail i) j))
+    one-more (λ i. ⊎-elim n (λ j. h x (List·Memᴰ·head refl) j) (List·Memᴰ·append-cases l i))
+    (append-distinct l c d (λ z i j. h z (List·Memᴰ·tail i) j))
 
 -- a key's number tells its index
 module _ (index : ℕ) where
   number-has : (keys : List ℕ) (z : ℕ) → z ∈ map (keyNumber index) keys → (k : ℕ) × (k ∈ keys) × (z ≡ k * 256 + index)
   number-has [] z i = absurd (List·Memᴰ·not-nil i)
   number-has (k ∷ l) z i =
-      ⊎-elim (λ (q : z ≡ k * 256 + index). (k, List·Memᴰ·head refl, q)) (λ j. let (h, m, q) = number-has l z j in (h, List·Memᴰ·tail m, q)) (List·Memᴰ·cases-cons i)
+      ⊎-elim (λ (q : z ≡ k * 256 + index). (k, List·Memᴰ·head refl, q)) (λ j. let (h, m, q) = number-has l z j in (h, List·Memᴰ·tail m, q))
+      (List·Memᴰ·cases-cons i)
 
   numbers-distinct : (keys : List ℕ) → Ascending (by (λ k. k)) keys → Distinct (map (keyNumber index) keys)
   numbers-distinct [] a = no-number
@@ -69,11 +63,14 @@ later-index : (i : ℕ) (l : List Removal) (z : ℕ) → i + length l ≤ 256 �
 unfolding flatFrom
 later-index i [] z f m = absurd (List·Memᴰ·not-nil m)
 later-index i (r ∷ l) z f m =
-    ⊎-elim (λ j. let (k, n, q) = number-has i (listedIn r) z j in omega arith) (λ j. let h = later-index (i + 1) l z (omega arith) j in omega arith) (List·Memᴰ·append-cases (keyNumbers i r) m)
+    ⊎-elim (λ j. let (k, n, q) = number-has i (listedIn r) z j in omega arith) (λ j. let h = later-index (i + 1) l z (omega arith) j in omega arith)
+    (List·Memᴰ·append-cases (keyNumbers i r) m)
 
-pub keys-distinct : (i : ℕ) (l : List Removal) → i + length l ≤ 256 → ((r : Removal) → r ∈ l → Ascending (by (λ k. k)) (listedIn r)) → Distinct (flatFrom keyNumbers i l)
+pub keys-distinct : (i : ℕ) (l : List Removal) → i + length l ≤ 256 → ((r : Removal) → r ∈ l → Ascending (by (λ k. k)) (listedIn r))
+    → Distinct (flatFrom keyNumbers i l)
 unfolding flatFrom
 keys-distinct i [] f a = no-number
 keys-distinct i (r ∷ l) f a =
-    append-distinct (keyNumbers i r) (numbers-distinct i (listedIn r) (a r (List·Memᴰ·head refl))) (keys-distinct (i + 1) l (omega arith) (λ w m. a w (List·Memᴰ·tail m)))
+    append-distinct (keyNumbers i r) (numbers-distinct i (listedIn r) (a r (List·Memᴰ·head refl)))
+    (keys-distinct (i + 1) l (omega arith) (λ w m. a w (List·Memᴰ·tail m)))
     (λ z m n. let (k, j, q) = number-has i (listedIn r) z m in let h = later-index (i + 1) l z (omega arith) n in omega arith)

@@ -6,9 +6,11 @@ use native.Mathlib.Omega.{arith}
 use lib.ListN.{length, length-append, length-map}
 use Rattle.clock.specs.Dots.{dotsOf}
 use Rattle.register.specs.declared.Value.{Value}
-use Rattle.parts.specs.declared.Entry.{Entry}
-use Rattle.parts.specs.declared.Removal.{Removal}
-use Rattle.parts.specs.Model.{waitingLimit, dotsIn, valuesIn, underOf, listedIn}
+use Rattle.entries.specs.declared.Entry.{Entry}
+use Rattle.removals.specs.declared.Removal.{Removal}
+use Rattle.limits.specs.Limits.{waitingLimit}
+use Rattle.removals.specs.Model.{underOf, listedIn}
+use Rattle.entries.specs.Model.{dotsIn, valuesIn}
 use Rattle.map.specs.declared.Map.{Map}
 use Rattle.map.specs.Model.{seenBy, entriesIn, waitingIn}
 use Rattle.map.specs.Valid.{Valid}
@@ -16,7 +18,8 @@ use Rattle.records.proofs.RoundTrips.{length-bytes}
 use Rattle.clockimage.specs.Image.{dotRecord}
 use Rattle.mapimage.specs.Sorted.{inOrder}
 use Rattle.mapimage.specs.MapImage.{flatFrom, valueRecords, entryRecords, waitingDots, keyNumbers, numberRecord, waitingKeys, mapRecords, mapImage}
-use Rattle.answers.specs.Sizes.{totalOf, valueSize, entrySize, removalSize, mapSize}
+use Rattle.listlaws.specs.Fold.{totalOf}
+use Rattle.answers.specs.Sizes.{valueSize, entrySize, removalSize, mapSize}
 use Rattle.answers.proofs.Totals.{length-flat, total-sum, total-same}
 use Rattle.answers.proofs.Distinct.{length-order, keys-distinct}
 
@@ -29,12 +32,15 @@ module _ (e : List Entry) where
   entry-values = length-flat _ (entryRecords 3) (λ i x. length-flat _ (valueRecords 3 (x .key)) (λ j v. refl) 0 (valuesIn x)) 0 e
 
   value-dots : length (flatFrom (entryRecords 4) 0 e) ≡ totalOf (λ x. totalOf (λ (v : Value). length (dotsOf (v .clock))) (valuesIn x)) e
-  value-dots = length-flat _ (entryRecords 4) (λ i x. length-flat _ (valueRecords 4 (x .key)) (λ j v. length-map (dotsOf (v .clock)) _) 0 (valuesIn x)) 0 e
+  value-dots = length-flat _ (entryRecords 4) (λ i x. length-flat _ (valueRecords 4 (x .key)) (λ j v. length-map (dotsOf (v .clock)) _) 0
+      (valuesIn x)) 0 e
 
-  pub in-entries : length (flatFrom (entryRecords 2) 0 e) + (length (flatFrom (entryRecords 3) 0 e) + length (flatFrom (entryRecords 4) 0 e)) ≡ totalOf entrySize e
+  pub in-entries : length (flatFrom (entryRecords 2) 0 e) + (length (flatFrom (entryRecords 3) 0 e) + length (flatFrom (entryRecords 4) 0 e))
+      ≡ totalOf entrySize e
   in-entries =
       let p = total-sum (λ (x : Entry). totalOf (λ v. 1) (valuesIn x)) (λ x. totalOf (λ (v : Value). length (dotsOf (v .clock))) (valuesIn x)) e in
-      let q = total-same _ (λ (x : Entry). totalOf valueSize (valuesIn x)) (λ x. total-sum (λ v. 1) (λ (v : Value). length (dotsOf (v .clock))) (valuesIn x)) e in
+      let q = total-same _ (λ (x : Entry). totalOf valueSize (valuesIn x))
+      (λ x. total-sum (λ v. 1) (λ (v : Value). length (dotsOf (v .clock))) (valuesIn x)) e in
       let r = total-sum (λ (x : Entry). length (dotsIn x)) (λ x. totalOf valueSize (valuesIn x)) e in
       omega (arith, entry-dots, entry-values, value-dots)
 
@@ -52,4 +58,5 @@ module _ {m : Map} (v : Valid m) (few : length (waitingIn m) ≤ waitingLimit) w
   pub length-image : length (mapImage m) ≡ mapSize m * 16
   unfolding mapSize
   length-image =
-      length-bytes (mapRecords m) ∙ ap (λ n. n * 16) (simp length-append (omega (arith, length-map (seenBy m) (dotRecord 1 0 0), in-entries (entriesIn m), in-waiting)))
+      length-bytes (mapRecords m) ∙ ap (λ n. n * 16) (simp length-append
+      (omega (arith, length-map (seenBy m) (dotRecord 1 0 0), in-entries (entriesIn m), in-waiting)))

@@ -4,10 +4,10 @@ use mathlib.Core.List.{List, [], _∷_, List·Memᴰ·head, List·Memᴰ·tail}
 use Prim.Native.Nat.{ℕ, _+_, _≤_, _<_}
 use native.Mathlib.Omega.{arith}
 use lib.ListN.{length, take, drop, getD, length-append}
-use Rattle.lists.specs.Order.{_∈_}
-use Rattle.lists.proofs.Rests.{drop-step, drop-end}
+use Rattle.listlaws.specs.Order.{_∈_}
+use Rattle.listlaws.proofs.Rests.{drop-step, drop-end}
 use Rattle.mapimage.specs.MapImage.{flatFrom}
-use Rattle.answers.specs.Sizes.{totalOf}
+use Rattle.listlaws.specs.Fold.{totalOf}
 
 module _ {A : Type 0} (size : A → ℕ) where
   pub total-on : (xs : List A) (n i : ℕ) (d : A) → i < length (take n xs)
@@ -20,7 +20,8 @@ module _ {A : Type 0} (size : A → ℕ) where
   total-end l i h = ap (totalOf size) (drop-end l i h)
 
   -- how many each gives
-  pub length-flat : {B : Type 0} (f : ℕ → A → List B) → ((i : ℕ) (x : A) → length (f i x) ≡ size x) → (i : ℕ) (l : List A) → length (flatFrom f i l) ≡ totalOf size l
+  pub length-flat : {B : Type 0} (f : ℕ → A → List B) → ((i : ℕ) (x : A) → length (f i x) ≡ size x) → (i : ℕ) (l : List A)
+      → length (flatFrom f i l) ≡ totalOf size l
   unfolding flatFrom totalOf
   length-flat f e i [] = refl
   length-flat f e i (x ∷ l) = length-append (f i x) (flatFrom f (i + 1) l) ∙ (let p = e i x in let q = length-flat f e (i + 1) l in omega arith)

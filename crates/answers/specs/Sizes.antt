@@ -1,19 +1,16 @@
 -- How many records the image of a map has.
 use Prim.Native.Nat.{_*_, ℕ, _+_}
-use mathlib.Core.List.{List, [], _∷_}
 use lib.ListN.{length}
-use Rattle.clock.specs.Dots.{dotLimit, dotsOf}
-use Rattle.register.specs.Values.{valueLimit}
+use Rattle.limits.specs.Limits.{dotLimit, valueLimit, entryLimit, waitingLimit, keyLimit}
+use Rattle.clock.specs.Dots.{dotsOf}
 use Rattle.register.specs.declared.Value.{Value}
-use Rattle.parts.specs.declared.Entry.{Entry}
-use Rattle.parts.specs.declared.Removal.{Removal}
-use Rattle.parts.specs.Model.{entryLimit, waitingLimit, keyLimit, dotsIn, valuesIn, underOf, listedIn}
+use Rattle.entries.specs.declared.Entry.{Entry}
+use Rattle.removals.specs.declared.Removal.{Removal}
+use Rattle.entries.specs.Model.{dotsIn, valuesIn}
+use Rattle.removals.specs.Model.{underOf, listedIn}
 use Rattle.map.specs.declared.Map.{Map}
 use Rattle.map.specs.Model.{seenBy, entriesIn, waitingIn}
-
-unfoldable pub totalOf : {A : Type 0} → (A → ℕ) → List A → ℕ
-totalOf size [] = 0
-totalOf size (x ∷ l) = size x + totalOf size l
+use Rattle.listlaws.specs.Fold.{totalOf}
 
 -- a value and its dots; an entry's dots and values; a removal's dots and keys
 abbrev pub valueSize : Value → ℕ

@@ -1,20 +1,23 @@
 // What the calls of castribba.h share: refusing, and writing an image where it fits.
 ghost use mathlib.Core.Path.{_≡_};
-ghost use Prim.Native.Nat.{_+_, _*_, _^_, _≤_, _<_};
+ghost use Prim.Native.Nat.{_+_, _*_, _^_, _≤_};
 ghost use lib.ListN.{length};
 ghost use Rattle.register.specs.Values.{valuesOf};
-ghost use Rattle.parts.specs.Model.{waitingLimit, entriesOf, waitingOf};
+ghost use Rattle.limits.specs.Limits.{waitingLimit};
+ghost use Rattle.removals.specs.Model.{waitingOf};
+ghost use Rattle.entries.specs.Model.{entriesOf};
 ghost use Rattle.map.specs.Model.{waitingIn};
 ghost use Rattle.map.specs.Valid.{Valid};
 ghost use Rattle.opimage.specs.OpImage.{opLongest, opImage};
 ghost use Rattle.mapimage.specs.MapImage.{mapLongest, mapImage};
 ghost use Rattle.answers.specs.Answer.{Answered};
-ghost use Rattle.answers.specs.Sizes.{totalOf, valueSize, entrySize, removalSize, registerMost, entriesMost, waitingMost, mapSize};
+ghost use Rattle.listlaws.specs.Fold.{totalOf};
+ghost use Rattle.answers.specs.Sizes.{valueSize, entrySize, removalSize, registerMost, entriesMost, waitingMost, mapSize};
+use entries::Entries;
 use map::Map;
 use map::Op;
-use parts::Entries;
-use parts::Waiting;
 use register::Register;
+use removals::Waiting;
 
 // The word of a refusal, and of an answer with no bytes.
 pub fn word(number: u8) -> u64
@@ -97,29 +100,28 @@ pub fn op_length(op: Op) -> usize
 }
 
 // Answers a map, or the number of what is wrong with it.
-pub fn give_map(number: u64, map: Map, out: &mut [u8]) -> u64
-    requires { ⌜ Valid map × (number < 2 ^ 32) ⌝ }
+pub fn give_map(number: u8, map: Map, out: &mut [u8]) -> u64
+    requires { ⌜ Valid map ⌝ }
     ensures { λ r. ⌜ Answered (record { first = 0; second = 0; own = number; bytes = mapImage map }) (now (out .entry)) (now (out .exit)) r ⌝ }
 {
     if number != 0 {
-        return number * 0x1_0000_0000;
+        return word(number);
     }
     if out.len() < map_length(map) {
-        return 10 * 0x1_0000_0000;
+        return word(10);
     }
     mapimage::write_map(map, out) as u64
 }
 
 // Answers an operation, or the number of why it can't be made.
-pub fn give_op(number: u64, op: Op, out: &mut [u8]) -> u64
-    requires { ⌜ number < 2 ^ 32 ⌝ }
+pub fn give_op(number: u8, op: Op, out: &mut [u8]) -> u64
     ensures { λ r. ⌜ Answered (record { first = 0; second = 0; own = number; bytes = opImage op }) (now (out .entry)) (now (out .exit)) r ⌝ }
 {
     if number != 0 {
-        return number * 0x1_0000_0000;
+        return word(number);
     }
     if out.len() < op_length(op) {
-        return 10 * 0x1_0000_0000;
+        return word(10);
     }
     opimage::write_op(op, out) as u64
 }

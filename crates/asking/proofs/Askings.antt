@@ -5,19 +5,20 @@ use mathlib.Core.List.{List, [], _∷_, List·Memᴰ·not-nil}
 use Prim.Native.Nat.{ℕ, _+_, _≤_, _<_}
 use lib.Dec.{eqb}
 use lib.ListN.{length, take, drop, getD}
-use Rattle.lists.specs.First.{firstIn}
-use Rattle.lists.specs.Sift.{those}
-use Rattle.lists.proofs.Orders.{apart}
-use Rattle.lists.proofs.Rests.{drop-step, drop-end}
-use Rattle.lists.proofs.Those.{those-means}
+use Rattle.listlaws.specs.First.{firstIn}
+use Rattle.listlaws.specs.Sift.{those}
+use Rattle.listlaws.proofs.Orders.{apart}
+use Rattle.listlaws.proofs.Rests.{drop-step, drop-end}
+use Rattle.listlaws.proofs.Those.{those-means}
 use Rattle.clock.specs.declared.Dot.{Dot}
-use Rattle.parts.specs.declared.Entry.{Entry}
-use Rattle.parts.specs.declared.Removal.{Removal}
-use Rattle.parts.specs.Model.{dotsIn, entryAs, entriesAs, waitingAs}
-use Rattle.parts.specs.Entries.{entryAt}
-use Rattle.parts.proofs.Pieces.{dots-in, entries-of}
-use Rattle.parts.proofs.Listed
-use Rattle.parts.proofs.Held.{valid-none}
+use Rattle.entries.specs.declared.Entry.{Entry}
+use Rattle.removals.specs.declared.Removal.{Removal}
+use Rattle.entries.specs.Model.{dotsIn, entryAs, entriesAs}
+use Rattle.removals.specs.Model.{waitingAs}
+use Rattle.entries.specs.Entries.{entryAt}
+use Rattle.entries.proofs.Packs.{dots-in, entries-of}
+use Rattle.entries.proofs.EntriesValid
+use Rattle.removals.proofs.WaitingValid.{valid-none}
 use Rattle.map.specs.declared.Map.{Map}
 use Rattle.asking.specs.declared.CvRDTValidation.{CvRDTValidation}
 use Rattle.asking.specs.declared.CvRDTValidation.the-variants.{Once, Twice}
@@ -32,14 +33,16 @@ unfolding firstIn
 first-give test give z [] = refl
 first-give test give z (x ∷ l) = go (test x) (first-give test give z l)
   where
-    go : (b : Bool) → give (firstIn test (λ y. y) z l) ≡ firstIn test give (give z) l → give (cond b x (firstIn test (λ y. y) z l)) ≡ cond b (give x) (firstIn test give (give z) l)
+    go : (b : Bool) → give (firstIn test (λ y. y) z l) ≡ firstIn test give (give z) l
+        → give (cond b x (firstIn test (λ y. y) z l)) ≡ cond b (give x) (firstIn test give (give z) l)
     go true e = refl
     go false e = e
 
 -- the clock of a key's entry
 pub clock-at : (m : Map) (k : ℕ) → dotsIn (entryAt k (entriesIn m)) ≡ clockAt m k
 unfolding entryAt clockAt
-clock-at m k = first-give (λ e. eqb (e .key) k) dotsIn (entryAs k [] []) (entriesIn m) ∙ ap (λ z. firstIn (λ e. eqb (e .key) k) dotsIn z (entriesIn m)) (dots-in k [] [])
+clock-at m k = first-give (λ e. eqb (e .key) k) dotsIn (entryAs k [] []) (entriesIn m)
+    ∙ ap (λ z. firstIn (λ e. eqb (e .key) k) dotsIn z (entriesIn m)) (dots-in k [] [])
 
 pub or-this : (p q : CvRDTValidation) → isTwice p ≡ true → orElse p q ≡ p
 or-this Once q t = apart (sym t)
@@ -76,7 +79,7 @@ unfolding readKey
 valid-read {m} v k =
     let l = those (λ e. eqb (e .key) k) (entriesIn m) in
     let e : readKey m k ≡ mapAs (seenBy m) l [] = λ i. record { clock = v .laid i .clock; entries = entriesAs l; waiting = waitingAs [] } in
-    rw e (valid-as (v .clock) (Listed.valid-those (v .entries) (λ e. eqb (e .key) k)) valid-none)
+    rw e (valid-as (v .clock) (EntriesValid.valid-those (v .entries) (λ e. eqb (e .key) k)) valid-none)
 
 pub each-read : {C : List Dot → Type 0} {E : Entry → Type 0} {R : Removal → Type 0} {m : Map} → Each C E R m → (k : ℕ) → Each C E R (readKey m k)
 unfolding readKey

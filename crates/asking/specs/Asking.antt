@@ -4,22 +4,23 @@ use mathlib.Core.List.{List, [], _∷_}
 use Prim.Native.Nat.{ℕ, _+_}
 use lib.Dec.{ltb, eqb}
 use lib.ListN.{length}
-use Rattle.lists.specs.Sift.{those}
-use Rattle.lists.specs.First.{firstIn}
+use Rattle.listlaws.specs.Sift.{those}
+use Rattle.listlaws.specs.First.{firstIn}
 use Rattle.clock.specs.declared.Dot.{Dot}
 use Rattle.clock.specs.Dots.{counterIn, shared}
 use Rattle.register.specs.declared.Content.{Content}
-use Rattle.parts.specs.declared.Entry.{Entry}
+use Rattle.entries.specs.declared.Entry.{Entry}
 use Rattle.map.specs.declared.Map.{Map}
 use Rattle.map.specs.declared.Op.{Op}
-use Rattle.parts.specs.declared.Update.{Update}
+use Rattle.entries.specs.declared.Update.{Update}
 use Rattle.asking.specs.declared.Made.{Made}
 use Rattle.asking.specs.declared.AddCtx.{AddCtx}
 use Rattle.asking.specs.declared.CmRDTValidation.{CmRDTValidation}
 use Rattle.asking.specs.declared.CmRDTValidation.the-variants.{Fits, Missing}
 use Rattle.asking.specs.declared.CvRDTValidation.{CvRDTValidation}
 use Rattle.asking.specs.declared.CvRDTValidation.the-variants.{Once, Twice}
-use Rattle.parts.specs.Model.{dotsIn, entriesAs, removalAs, noRemoval, noUpdate, waitingAs}
+use Rattle.entries.specs.Model.{dotsIn, entriesAs, noUpdate}
+use Rattle.removals.specs.Model.{removalAs, noRemoval, waitingAs}
 use Rattle.map.specs.Model.{seenBy, entriesIn}
 use Rattle.asking.specs.Contexts.{addContext}
 
@@ -86,7 +87,15 @@ noOp = record { up = false; removal = noRemoval; update = noUpdate }
 
 -- an update under a context, or the number of a context that was not had
 abbrev pub updateOp : AddCtx → ℕ → Content → Op
-updateOp c k value = record { up = true; removal = noRemoval; update = record { dot = c .dot; key = k; put = record { clock = c .clock; value = value } } }
+updateOp c k value = record {
+  up = true;
+  removal = noRemoval;
+  update = record {
+    dot = c .dot;
+    key = k;
+    put = record { clock = c .clock; value = value };
+  };
+}
 
 unfoldable pub updateUnder : AddCtx → ℕ → Content → Made
 updateUnder c k value = cond (eqb (c .number) 0) (record { number = 0; op = updateOp c k value }) (record { number = c .number; op = noOp })

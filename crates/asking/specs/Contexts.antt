@@ -4,7 +4,8 @@ use mathlib.Core.List.{List, []}
 use Prim.Native.Nat.{ℕ, _+_, _-_, _^_}
 use lib.Dec.{leb}
 use Rattle.clock.specs.declared.Dot.{Dot}
-use Rattle.clock.specs.Dots.{dotLimit, noDot, clockOf, counterIn, addDot}
+use Rattle.limits.specs.Limits.{dotLimit}
+use Rattle.clock.specs.Dots.{noDot, clockOf, counterIn, addDot}
 use Rattle.asking.specs.declared.AddCtx.{AddCtx}
 use Rattle.map.specs.Judging.{exceeding}
 
@@ -19,4 +20,5 @@ dotAfter c actor = record { actor = actor; counter = counterIn c actor + 1 }
 unfoldable pub addContext : List Dot → ℕ → AddCtx
 addContext c actor =
     cond (leb (2 ^ 64 - 1) (counterIn c actor)) (noAdd 9)
-    (cond (exceeding dotLimit (addDot c (dotAfter c actor))) (noAdd 4) (record { number = 0; clock = clockOf (addDot c (dotAfter c actor)); dot = dotAfter c actor }))
+    (cond (exceeding dotLimit (addDot c (dotAfter c actor))) (noAdd 4)
+    (record { number = 0; clock = clockOf (addDot c (dotAfter c actor)); dot = dotAfter c actor }))

@@ -1,7 +1,7 @@
 // Contexts, as values: the Rust's ctx.rs, with `read_ctx` and the context that `get` gives.
 ghost use mathlib.Core.Path.{_≡_};
 ghost use Rattle.clock.specs.Dots.{dotsOf};
-ghost use Rattle.parts.specs.Entries.{entryAt};
+ghost use Rattle.entries.specs.Entries.{entryAt};
 ghost use Rattle.map.specs.Model.{entriesIn};
 ghost use Rattle.asking.specs.Asking.{updateUnder};
 ghost use Rattle.asking.specs.Contexts.{addContext, noAdd};
@@ -10,12 +10,12 @@ use crate::Made;
 use crate::ReadCtx;
 use clock::Clock;
 use clock::Dot;
+use entries::Update;
 use map::Map;
 use map::Op;
-use parts::Removal;
-use parts::Update;
 use register::Content;
 use register::Value;
+use removals::Removal;
 
 // The map clock, to add and to remove under.
 pub fn read_ctx(map: Map) -> ReadCtx
@@ -96,7 +96,7 @@ impl AddCtx {
         }
     }
 
-    fn refused(number: u64) -> AddCtx
+    fn refused(number: u8) -> AddCtx
         ensures { λ r. ⌜ r ≡ noAdd number ⌝ }
     {
         let clock = Clock::new();

@@ -7,8 +7,11 @@ ghost use Prim.Native.Nat.{_≤_, _<_, _+_};
 ghost use Rattle.asking.specs.declared.CmRDTValidation.the-variants.{Fits, Missing};
 ghost use lib.Dec.{eqb, ltb};
 ghost use Rattle.clock.specs.Dots.{dotsOf};
-ghost use Rattle.parts.specs.Model.{entryLimit, entriesOf, noUpdate, keysAs};
-ghost use Rattle.asking.specs.Asking.{following, validateUpdate, validateOp, spentUnder, spentBy, firstSpent, validateMerge, isTwice, makeUpdate, noOp, removalOp, clockAt, readKey, count};
+ghost use Rattle.limits.specs.Limits.{entryLimit};
+ghost use Rattle.entries.specs.Model.{entriesOf, noUpdate};
+ghost use Rattle.removals.specs.Model.{keysAs};
+ghost use Rattle.asking.specs.Asking.{following, validateUpdate, validateOp, spentUnder, spentBy, firstSpent, validateMerge, isTwice};
+ghost use Rattle.asking.specs.Asking.{makeUpdate, noOp, removalOp, clockAt, readKey, count};
 ghost use Rattle.map.specs.Model.{seenBy};
 ghost use Rattle.map.specs.Valid.{Within};
 
@@ -16,16 +19,16 @@ pub mod contexts;
 
 use clock::Clock;
 use clock::Dot;
+use entries::Entries;
+use entries::Entry;
+use entries::Update;
 use map::Map;
 use map::Op;
-use parts::Entries;
-use parts::Entry;
-use parts::Keys;
-use parts::Removal;
-use parts::Update;
-use parts::Waiting;
 use register::Content;
 use register::Value;
+use removals::Keys;
+use removals::Removal;
+use removals::Waiting;
 
 // What `validate_op` says: the update fits, or counters are missing before it.
 pub enum CmRDTValidation {
@@ -41,7 +44,7 @@ pub enum CvRDTValidation {
 
 // An operation made of a map, or why it can't be made, with a zero operation.
 pub struct Made {
-    pub number: u64,
+    pub number: u8,
     pub op: Op,
 }
 
@@ -53,7 +56,7 @@ pub struct ReadCtx {
 
 // What an update is made with: the next dot of an actor and the clock with it, or why it can't be made, with zeros.
 pub struct AddCtx {
-    pub number: u64,
+    pub number: u8,
     pub clock: Clock,
     pub dot: Dot,
 }
@@ -275,7 +278,7 @@ fn no_op() -> Op
 }
 
 impl Made {
-    fn refused(number: u64) -> Made
+    fn refused(number: u8) -> Made
         ensures { λ r. ⌜ r ≡ record { number = number; op = noOp } ⌝ }
     {
         let op = no_op();

@@ -1,8 +1,8 @@
 -- What the images that were read allow: the map's calls may be made, and their results answered.
 use mathlib.Core.Path.{_≡_, ap, ap₂, sym, _∙_}
-use mathlib.Core.Bool.{Bool, true, false, cond}
+use mathlib.Core.Bool.{false}
 use mathlib.Core.List.{List}
-use Prim.Native.Nat.{ℕ, _+_, _^_, _≤_, _<_}
+use Prim.Native.Nat.{ℕ, _+_, _≤_}
 use native.Mathlib.Omega.{arith}
 use lib.Dec.{eqb}
 use Rattle.scan.proofs.Eachs.{decide}
@@ -13,19 +13,19 @@ use Rattle.clockimage.specs.ClockImage.{readClock}
 use Rattle.map.specs.declared.Map.{Map}
 use Rattle.map.specs.declared.Op.{Op}
 use Rattle.map.specs.declared.Judged.{Judged}
-use Rattle.map.specs.Judging.{overDots, overEntries, overValues, overWaiting, overKeys, overNumber, judged}
+use Rattle.map.specs.Judging.{overNumber, judged}
 use Rattle.map.specs.Valid.{Valid, ValidOp, Within, OpWithin}
 use Rattle.map.specs.Applying.{apply}
 use Rattle.map.specs.Resetting.{reset}
+use Rattle.map.proofs.Verdicts.{judged-map}
 use Rattle.opimage.specs.declared.ReadOp.{ReadOp}
 use Rattle.opimage.specs.OpImage.{readOp}
 use Rattle.maprecords.specs.declared.ReadMap.{ReadMap}
 use Rattle.maprecords.specs.Related.{readMap}
 use Rattle.promises.specs.Deleted.{entryDots, applyDeletes, resetDeletes, applyDeleted, resetDeleted}
-use Rattle.promises.proofs.Ways.{judged-map}
 use Rattle.promises.proofs.Deletes.{apply-deletes, reset-counts}
-use Rattle.accepted.proofs.Maps.{map-within, no-map-within}
-use Rattle.accepted.proofs.Ops.{op-within}
+use Rattle.acceptancelaws.proofs.Maps.{map-within, no-map-within}
+use Rattle.acceptancelaws.proofs.Ops.{op-within}
 
 -- what was read
 pub read-within : (s : List ℕ) {m : ReadMap} → m ≡ readMap s → Within (m .map)
@@ -38,25 +38,11 @@ pub op-valid : {op : Op} → OpWithin op → ValidOp op
 op-valid w = record { removal = w .removal .valid; update = λ e. w .update e .valid }
 
 -- a judged map may be answered
-over-small : (m : Map) → overNumber m ≤ 8
-unfolding overNumber
-over-small m = go (overDots m) (overEntries m) (overValues m) (overWaiting m) (overKeys m)
-  where
-    go : (a b c d e : Bool) → cond a 4 (cond b 5 (cond c 6 (cond d 7 (cond e 8 0)))) ≤ 8
-    go true b c d e = omega arith
-    go false true c d e = omega arith
-    go false false true d e = omega arith
-    go false false false true e = omega arith
-    go false false false false true = omega arith
-    go false false false false false = omega arith
-
-judged-allowed : (m : Map) → Valid m → Valid (judged m .map) × (judged m .number < 2 ^ 32)
+judged-allowed : (m : Map) → Valid m → Valid (judged m .map)
 unfolding judged
-judged-allowed m v =
-    let h = over-small m in
-    decide (eqb (overNumber m) 0) (λ t. rw t (v, omega arith)) (λ f. rw f (no-map-within .valid, omega arith))
+judged-allowed m v = decide (eqb (overNumber m) 0) (λ t. rw t v) (λ f. rw f (no-map-within .valid))
 
-pub judged-out : {m : Map} {j : Judged} → Valid m → j ≡ judged m → Valid (j .map) × (j .number < 2 ^ 32)
+pub judged-out : {m : Map} {j : Judged} → Valid m → j ≡ judged m → Valid (j .map)
 judged-out {m} v e = rw e (judged-allowed m v)
 
 -- a judged map that is not refused has the dots that are left

@@ -1,15 +1,15 @@
 // How many dots a removal and a reset delete from entry clocks, on maps by value.
 ghost use mathlib.Core.Path.{_≡_};
 ghost use Prim.Native.Nat.{ℕ, _+_, _*_, _≤_};
-ghost use Rattle.clock.specs.Dots.{dotLimit};
-ghost use Rattle.parts.specs.Model.{entryLimit, entriesOf};
+ghost use Rattle.limits.specs.Limits.{dotLimit, entryLimit};
+ghost use Rattle.entries.specs.Model.{entriesOf};
 ghost use Rattle.map.specs.Valid.{Valid};
 ghost use Rattle.answers.specs.Answer.{Counted};
 ghost use Rattle.promises.specs.Calls.{mapAnswer};
 ghost use Rattle.promises.specs.Deleted.{dotsAmong, entryDots};
 ghost use Rattle.promises.specs.Promises.{ApplyDeletedPromise, ResetRemoveDeletedPromise};
+use entries::Entries;
 use map::Judged;
-use parts::Entries;
 
 // The dots in all entry clocks.
 fn count_dots(entries: Entries) -> usize
@@ -45,7 +45,7 @@ fn fewer(before: Entries, j: Judged, room: usize) -> u64
 pub fn apply_deleted(map: &[u8], op: &[u8], room: usize) -> u64
     ensures { λ r. ⌜ ApplyDeletedPromise (now (map .entry)) (now (op .entry)) room r ⌝ }
 {
-    let m = mapreader::read_map(map);
+    let m = crate::reading::read_map(map);
     if m.number != 0 {
         return 0;
     }
@@ -65,7 +65,7 @@ pub fn apply_deleted(map: &[u8], op: &[u8], room: usize) -> u64
 pub fn reset_remove_deleted(map: &[u8], clock: &[u8], room: usize) -> u64
     ensures { λ r. ⌜ ResetRemoveDeletedPromise (now (map .entry)) (now (clock .entry)) room r ⌝ }
 {
-    let m = mapreader::read_map(map);
+    let m = crate::reading::read_map(map);
     if m.number != 0 {
         return 0;
     }

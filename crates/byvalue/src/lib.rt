@@ -2,11 +2,12 @@
 ghost use Rattle.promises.specs.Promises.{ApplyPromise, MergePromise, ResetRemovePromise};
 
 pub mod counting;
+pub mod reading;
 
 pub fn apply(map: &[u8], op: &[u8], out: &mut [u8]) -> u64
     ensures { λ r. ⌜ ApplyPromise (now (map .entry)) (now (op .entry)) (now (out .entry)) (now (out .exit)) r ⌝ }
 {
-    let m = mapreader::read_map(map);
+    let m = reading::read_map(map);
     if m.number != 0 {
         return answers::word(m.number);
     }
@@ -21,11 +22,11 @@ pub fn apply(map: &[u8], op: &[u8], out: &mut [u8]) -> u64
 pub fn merge(map: &[u8], other: &[u8], out: &mut [u8]) -> u64
     ensures { λ r. ⌜ MergePromise (now (map .entry)) (now (other .entry)) (now (out .entry)) (now (out .exit)) r ⌝ }
 {
-    let m = mapreader::read_map(map);
+    let m = reading::read_map(map);
     if m.number != 0 {
         return answers::word(m.number);
     }
-    let o = mapreader::read_map(other);
+    let o = reading::read_map(other);
     if o.number != 0 {
         return answers::word(o.number);
     }
@@ -36,7 +37,7 @@ pub fn merge(map: &[u8], other: &[u8], out: &mut [u8]) -> u64
 pub fn reset_remove(map: &[u8], clock: &[u8], out: &mut [u8]) -> u64
     ensures { λ r. ⌜ ResetRemovePromise (now (map .entry)) (now (clock .entry)) (now (out .entry)) (now (out .exit)) r ⌝ }
 {
-    let m = mapreader::read_map(map);
+    let m = reading::read_map(map);
     if m.number != 0 {
         return answers::word(m.number);
     }

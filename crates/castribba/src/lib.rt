@@ -1,5 +1,9 @@
 // The calls of castribba.h, on images and numbers.
-ghost use Rattle.promises.specs.Promises.{ApplyPromise, ApplyDeletedPromise, MergePromise, ResetRemovePromise, ResetRemoveDeletedPromise, UpdatePromise, RmGetPromise, RmReadCtxPromise, GetPromise, LenPromise, LenCountPromise, ValidateOpPromise, ValidateOpStartPromise, ValidateOpEndPromise, ValidateMergePromise, ValidateMergeActorPromise, ValidateMergeCounterPromise, ValidateMergeOurKeyPromise, ValidateMergeTheirKeyPromise, ClockAdvancePromise, PiecesBeginPromise, PiecesTakePromise, PiecesEndPromise};
+ghost use Rattle.promises.specs.Promises.{ApplyPromise, ApplyDeletedPromise, MergePromise, ResetRemovePromise, ResetRemoveDeletedPromise};
+ghost use Rattle.promises.specs.Promises.{UpdatePromise, RmGetPromise, RmReadCtxPromise, GetPromise, LenPromise, LenCountPromise, ValidateOpPromise};
+ghost use Rattle.promises.specs.Promises.{ValidateOpStartPromise, ValidateOpEndPromise, ValidateMergePromise, ValidateMergeActorPromise};
+ghost use Rattle.promises.specs.Promises.{ValidateMergeCounterPromise, ValidateMergeOurKeyPromise, ValidateMergeTheirKeyPromise, ClockAdvancePromise};
+ghost use Rattle.promises.specs.Promises.{PiecesBeginPromise, PiecesTakePromise, PiecesEndPromise};
 use clock::Clock;
 use memory::READER;
 

@@ -1,14 +1,9 @@
 // The three calls that change a map, on images where they lie.
 ghost use mathlib.Core.Path.{_≡_};
-ghost use mathlib.Core.List.{List};
 ghost use Prim.Native.Nat.{_≤_};
 ghost use lib.ListN.{length};
-ghost use Rattle.clock.specs.declared.Dot.{Dot};
 ghost use Rattle.clock.specs.Dots.{dotsOf};
 ghost use Rattle.clock.specs.Lawful.{Lawful};
-ghost use Rattle.parts.specs.declared.Removal.{Removal};
-ghost use Rattle.parts.specs.Waits.{waits};
-ghost use Rattle.map.specs.Model.{seenBy};
 ghost use Rattle.map.specs.Judging.{judged};
 ghost use Rattle.map.specs.Merging.{merge};
 ghost use Rattle.map.specs.Removing.{remove};
@@ -22,94 +17,43 @@ ghost use Rattle.maprecords.specs.Related.{readMap};
 ghost use Rattle.answers.specs.Answer.{Answered};
 ghost use Rattle.promises.specs.Calls.{mapAnswer};
 ghost use Rattle.promises.specs.Promises.{ApplyPromise, MergePromise, ResetRemovePromise};
-ghost use Rattle.layout.specs.Whole.{Lies, LaidOut};
-ghost use Rattle.queued.specs.Queue.{Keyed, Queued};
-ghost use Rattle.changing.specs.Drafted.{held, RemovalLies};
+ghost use Rattle.layout.specs.Whole.{LaidOut};
 use clock::Clock;
-use clock::Order;
+use entries::Update;
 use layout::Laid;
-use parts::Removal;
-use parts::Update;
 use queued::Queue;
-use queued::STARTS;
-use walks::Layout;
+use removals::Removal;
 use walks::Span;
-
-mod finishing;
-pub mod waiting;
-
-// Whether a removal waits: the map's clock is less than its own or concurrent with it, by their records where they lie.
-pub fn removal_waits(map: &[u8], l: Layout, op: &[u8], dots: usize) -> bool
-    requires { ⌜ Lies (now map) (readMap (now map) .map) l × ((r : Removal) × RemovalLies (now op) dots r) ⌝ }
-    ensures { λ b. ⌜ ((r : Removal) → RemovalLies (now (op .entry)) dots r → b ≡ waits (seenBy (readMap (now (map .entry)) .map)) r) ⌝ }
-{
-    let seen = l.second * 16;
-    let end = (1 + dots) * 16;
-    let o = comparing::compare_runs(&map[0..seen], &op[16..end]);
-    match o {
-        Order::Less => true,
-        Order::Concurrent => true,
-        Order::Equal => false,
-        Order::Greater => false,
-    }
-}
-
-// Where the dots of a removal stand in its image, where it waits.
-pub fn held_queue(op: &[u8], dots: usize, waiting: bool) -> Queue
-    requires { ⌜ ((r : Removal) × RemovalLies (now op) dots r) ⌝ }
-    ensures { λ k. ⌜ ((r : Removal) (seen : List Dot) → RemovalLies (now (op .entry)) dots r → waiting ≡ waits seen r
-        → Queued (now (op .entry)) k (held seen r)) ⌝ }
-{
-    if waiting {
-        let mut starts: [usize; STARTS] = [1; STARTS];
-        starts[1] = 1 + dots;
-        return Queue { starts, len: 1 };
-    }
-    Queue::none()
-}
-
-// Where the keys of a removal stand in its image, where it waits.
-pub fn held_keys(op: &[u8], dots: usize, waiting: bool) -> Span
-    requires { ⌜ ((r : Removal) × RemovalLies (now op) dots r) ⌝ }
-    ensures { λ k. ⌜ ((r : Removal) (seen : List Dot) → RemovalLies (now (op .entry)) dots r → waiting ≡ waits seen r
-        → Keyed (now (op .entry)) (k .from) (k .to) 0 (held seen r)) ⌝ }
-{
-    if waiting {
-        return Span {
-            from: 1 + dots,
-            to: op.len() / 16,
-        };
-    }
-    Span { from: 0, to: 0 }
-}
 
 // A map that was read, with a removal.
 fn remove_by(map: &[u8], a: Laid, r: Removal, op: &[u8], out: &mut [u8]) -> u64
-    requires { ⌜ (LaidOut (now map) (readMap (now map) .map) a × (readMap (now map) .number ≡ 0)) × (RemovalWithin r × (removalRecords r ≡ recordsOf (now op))) ⌝ }
+    requires { ⌜ (LaidOut (now map) (readMap (now map) .map) a × (readMap (now map) .number ≡ 0))
+        × (RemovalWithin r × (removalRecords r ≡ recordsOf (now op))) ⌝ }
     ensures { λ w. ⌜ Answered (mapAnswer 0 0 (judged (remove (readMap (now (map .entry)) .map) r))) (now (out .entry)) (now (out .exit)) w ⌝ }
 {
     let clock = a.clock;
     let l = a.layout;
     let under = r.clock;
     let dots = under.size();
-    let waiting = removal_waits(map, l, op, dots);
+    let waiting = drafting::held::removal_waits(map, l, op, dots);
     let q = queued::queue_of(map, l, a.waits);
-    let p = held_queue(op, dots, waiting);
-    let theirs = held_keys(op, dots, waiting);
+    let p = drafting::held::held_queue(op, dots, waiting);
+    let theirs = drafting::held::held_keys(op, dots, waiting);
     let none = Clock::new();
     let plan = planned::join_plan(map, q, op, p, none);
-    let sk = sketch::drawing::draw_removed(map, l, r);
+    let sk = cutting::draw_removed(map, l, r);
     let ours = Span {
         from: l.sixth,
         to: l.end,
     };
-    finishing::finish(clock, sk, plan, map, ours, op, theirs, out)
+    drafting::finish(clock, sk, plan, map, ours, op, theirs, out)
 }
 
 // A map as it was read.
 fn same(map: &[u8], out: &mut [u8]) -> u64
     requires { ⌜ readMap (now map) .number ≡ 0 ⌝ }
-    ensures { λ r. ⌜ Answered (mapAnswer 0 0 (record { number = 0; map = readMap (now (map .entry)) .map })) (now (out .entry)) (now (out .exit)) r ⌝ }
+    ensures { λ r. ⌜ Answered (mapAnswer 0 0 (record { number = 0; map = readMap (now (map .entry)) .map })) (now (out .entry))
+        (now (out .exit)) r ⌝ }
 {
     if out.len() < map.len() {
         return answers::word(10);
@@ -119,7 +63,8 @@ fn same(map: &[u8], out: &mut [u8]) -> u64
 
 // A map that was read, with an update.
 fn update_by(map: &[u8], a: Laid, u: Update, op: &[u8], out: &mut [u8]) -> u64
-    requires { ⌜ (LaidOut (now map) (readMap (now map) .map) a × (readMap (now map) .number ≡ 0)) × ((UpdateWithin u × (updateRecords u ≡ recordsOf (now op))) × (length (now op) ≤ mapLongest)) ⌝ }
+    requires { ⌜ (LaidOut (now map) (readMap (now map) .map) a × (readMap (now map) .number ≡ 0))
+        × ((UpdateWithin u × (updateRecords u ≡ recordsOf (now op))) × (length (now op) ≤ mapLongest)) ⌝ }
     ensures { λ r. ⌜ Answered (mapAnswer 0 0 (judged (update (readMap (now (map .entry)) .map) u))) (now (out .entry)) (now (out .exit)) r ⌝ }
 {
     let d = u.dot;
@@ -142,7 +87,7 @@ fn update_by(map: &[u8], a: Laid, u: Update, op: &[u8], out: &mut [u8]) -> u64
         to: l.end,
     };
     let theirs = Span { from: 0, to: 0 };
-    finishing::finish(clock, sk, plan, map, ours, op, theirs, out)
+    drafting::finish(clock, sk, plan, map, ours, op, theirs, out)
 }
 
 pub fn apply(map: &[u8], op: &[u8], out: &mut [u8]) -> u64
@@ -165,8 +110,10 @@ pub fn apply(map: &[u8], op: &[u8], out: &mut [u8]) -> u64
 
 // Two maps that were read, merged.
 fn merge_with(map: &[u8], a: Laid, other: &[u8], b: Laid, out: &mut [u8]) -> u64
-    requires { ⌜ (LaidOut (now map) (readMap (now map) .map) a × LaidOut (now other) (readMap (now other) .map) b) × ((readMap (now map) .number ≡ 0) × (readMap (now other) .number ≡ 0)) ⌝ }
-    ensures { λ r. ⌜ Answered (mapAnswer 0 0 (judged (merge (readMap (now (map .entry)) .map) (readMap (now (other .entry)) .map)))) (now (out .entry)) (now (out .exit)) r ⌝ }
+    requires { ⌜ (LaidOut (now map) (readMap (now map) .map) a × LaidOut (now other) (readMap (now other) .map) b)
+        × ((readMap (now map) .number ≡ 0) × (readMap (now other) .number ≡ 0)) ⌝ }
+    ensures { λ r. ⌜ Answered (mapAnswer 0 0 (judged (merge (readMap (now (map .entry)) .map) (readMap (now (other .entry)) .map))))
+        (now (out .entry)) (now (out .exit)) r ⌝ }
 {
     let mine = a.clock;
     let yours = b.clock;
@@ -189,7 +136,7 @@ fn merge_with(map: &[u8], a: Laid, other: &[u8], b: Laid, out: &mut [u8]) -> u64
         from: m.sixth,
         to: m.end,
     };
-    finishing::finish(clock, sk, plan, map, ours, other, theirs, out)
+    drafting::finish(clock, sk, plan, map, ours, other, theirs, out)
 }
 
 pub fn merge(map: &[u8], other: &[u8], out: &mut [u8]) -> u64
@@ -209,20 +156,21 @@ pub fn merge(map: &[u8], other: &[u8], out: &mut [u8]) -> u64
 // A map that was read, reset by a clock.
 fn reset_by(map: &[u8], a: Laid, by: Clock, out: &mut [u8]) -> u64
     requires { ⌜ (LaidOut (now map) (readMap (now map) .map) a × (readMap (now map) .number ≡ 0)) × Lawful (dotsOf by) ⌝ }
-    ensures { λ r. ⌜ Answered (mapAnswer 0 0 (judged (reset (readMap (now (map .entry)) .map) (dotsOf by)))) (now (out .entry)) (now (out .exit)) r ⌝ }
+    ensures { λ r. ⌜ Answered (mapAnswer 0 0 (judged (reset (readMap (now (map .entry)) .map) (dotsOf by)))) (now (out .entry))
+        (now (out .exit)) r ⌝ }
 {
     let seen = a.clock;
     let l = a.layout;
     let clock = seen.cut(by).clock;
     let q = queued::queue_of(map, l, a.waits);
     let plan = planned::reset_plan(map, q, by);
-    let sk = sketch::drawing::draw_reset(map, l, by);
+    let sk = cutting::draw_reset(map, l, by);
     let ours = Span {
         from: l.sixth,
         to: l.end,
     };
     let theirs = Span { from: 0, to: 0 };
-    finishing::finish(clock, sk, plan, map, ours, map, theirs, out)
+    drafting::finish(clock, sk, plan, map, ours, map, theirs, out)
 }
 
 pub fn reset_remove(map: &[u8], clock: &[u8], out: &mut [u8]) -> u64

@@ -8,11 +8,11 @@ use native.Mathlib.Omega.{arith}
 use borrow.Author.Tests.{eqb-true, eqb-false, ne-eqb}
 use lib.Dec.{eqb}
 use lib.ListN.{length}
-use Rattle.lists.specs.First.{firstIn}
-use Rattle.lists.specs.Order.{_∈_}
-use Rattle.lists.proofs.Orders.{by-strict, same-members}
-use Rattle.lists.proofs.Firsts.{first-cases, first-none}
-use Rattle.lists.proofs.Ranks.{first-member, no-longer-by}
+use Rattle.listlaws.specs.First.{firstIn}
+use Rattle.listlaws.specs.Order.{_∈_}
+use Rattle.listlaws.proofs.Orders.{by-strict, same-members}
+use Rattle.listlaws.proofs.Firsts.{first-cases, first-none}
+use Rattle.listlaws.proofs.Ranks.{first-member, no-longer-by}
 use Rattle.clock.specs.declared.Dot.{Dot}
 use Rattle.clock.specs.Dots.{counterIn}
 use Rattle.clock.specs.Lawful.{Lawful}
@@ -71,4 +71,5 @@ same-clock {a} {b} h k e =
 pub among : {a b : List Dot} → Lawful a → Lawful b → ((x : ℕ) → counterIn b x ≡ 0 → counterIn a x ≡ 0) → length a ≤ length b
 among {a} {b} h k e =
     no-longer-by (λ d. d .actor) (h .rising) (k .rising)
-    (λ d i. ⊎-elim (λ j. (dotIn b (d .actor), j, refl)) (λ f. absurd (absent-counter h (e (d .actor) (counter-absent b (d .actor) f)) d i refl)) (counter-cases b (d .actor)))
+    (λ d i. ⊎-elim (λ j. (dotIn b (d .actor), j, refl)) (λ f. absurd (absent-counter h (e (d .actor) (counter-absent b (d .actor) f)) d i refl))
+    (counter-cases b (d .actor)))

@@ -6,7 +6,7 @@ use mathlib.Core.List.{List}
 use Prim.Native.Nat.{ℕ, _≤_}
 use native.Mathlib.Omega.{arith}
 use borrow.Author.Tests.{ltb-false, le-ltb}
-use Rattle.lists.proofs.Firsts.{none-means, none-holds, none-those}
+use Rattle.listlaws.proofs.Firsts.{none-means, none-holds, none-those}
 use Rattle.clock.specs.declared.Dot.{Dot}
 use Rattle.clock.specs.declared.Order.the-variants.{Equal}
 use Rattle.clock.specs.Dots.{isEmpty, counterIn, beyond, covers, outcome, orderOf, cutDots, joinDots, addDot}
@@ -31,8 +31,16 @@ covers-holds a {b} f h =
 pub covers-refl : {a : List Dot} → Lawful a → covers a a ≡ true
 covers-refl {a} h = covers-holds a (λ x. omega arith) h
 
-pub covers-trans : (a b : List Dot) {c : List Dot} → Lawful c → covers a b ≡ true → covers b c ≡ true → covers a c ≡ true
-covers-trans a b {c} h t u = covers-holds a (λ x. omega (arith, covers-means a b t x, covers-means b c u x)) h
+-- of any lists of dots, lawful or not
+pub covers-trans : (a b c : List Dot) → covers a b ≡ true → covers b c ≡ true → covers a c ≡ true
+unfolding covers
+covers-trans a b c t u =
+    none-holds (beyond a) c
+    (λ d i. le-ltb (counterIn a (d .actor)) (d .counter) (omega (
+      arith,
+      covers-means a b t (d .actor),
+      ltb-false (counterIn b (d .actor)) (d .counter) (none-means (beyond b) c u d i),
+    )))
 
 -- two clocks that cover each other are one
 pub covers-both : {a b : List Dot} → Lawful a → Lawful b → covers a b ≡ true → covers b a ≡ true → a ≡ b

@@ -7,10 +7,10 @@ use Prim.Native.Nat.{ℕ, _<_}
 use native.Mathlib.Omega.{arith}
 use borrow.Author.Tests.{ltb-true, lt-ltb}
 use lib.Dec.{ltb, eqb}
-use Rattle.lists.specs.Sift.{those}
-use Rattle.lists.specs.Order.{_∈_}
-use Rattle.lists.proofs.Orders.{apart}
-use Rattle.lists.proofs.Those.{those-means, those-holds, those-ascends, those-all, those-again, those-trade}
+use Rattle.listlaws.specs.Sift.{those}
+use Rattle.listlaws.specs.Order.{_∈_}
+use Rattle.listlaws.proofs.Orders.{apart}
+use Rattle.listlaws.proofs.Those.{those-means, those-holds, those-ascends, those-all, those-trade}
 use Rattle.clock.specs.declared.Dot.{Dot}
 use Rattle.clock.specs.Dots.{counterIn, beyond, cutDots, shared, commonDots}
 use Rattle.clock.specs.Lawful.{Lawful}
@@ -24,7 +24,8 @@ module _ (p : Dot → Bool) {l : List Dot} (h : Lawful l) where
   counter-those : (a : ℕ) → counterIn (those p l) a ≡ cond (p (dotIn l a)) (counterIn l a) 0
   counter-those a = go (p (dotIn l a)) refl (counter-cases l a)
     where
-      go : (b : Bool) → p (dotIn l a) ≡ b → (dotIn l a ∈ l) ⊎ ((d : Dot) → d ∈ l → d .actor ≡ a → ⊥) → counterIn (those p l) a ≡ cond b (counterIn l a) 0
+      go : (b : Bool) → p (dotIn l a) ≡ b → (dotIn l a ∈ l) ⊎ ((d : Dot) → d ∈ l → d .actor ≡ a → ⊥)
+          → counterIn (those p l) a ≡ cond b (counterIn l a) 0
       go true t (inl i) = counter-member lawful-those (those-holds p i t)
       go true t (inr f) = counter-absent (those p l) a (λ d i. f d (those-means p l i .0)) ∙ sym (counter-absent l a f)
       go false t r = counter-absent (those p l) a (λ d i e. let k = those-means p l i in
@@ -38,11 +39,13 @@ pub lawful-common : {a : List Dot} (b : List Dot) → Lawful a → Lawful (commo
 unfolding commonDots
 lawful-common b h = lawful-those (shared b) h
 
-pub counter-cut : (c : List Dot) {x : List Dot} → Lawful x → (a : ℕ) → counterIn (cutDots c x) a ≡ cond (ltb (counterIn c a) (counterIn x a)) (counterIn x a) 0
+pub counter-cut : (c : List Dot) {x : List Dot} → Lawful x → (a : ℕ) → counterIn (cutDots c x) a ≡ cond (ltb (counterIn c a) (counterIn x a))
+    (counterIn x a) 0
 unfolding cutDots
 counter-cut c h a = counter-those (beyond c) h a
 
-pub counter-common : {a : List Dot} (b : List Dot) → Lawful a → (x : ℕ) → counterIn (commonDots a b) x ≡ cond (eqb (counterIn b x) (counterIn a x)) (counterIn a x) 0
+pub counter-common : {a : List Dot} (b : List Dot) → Lawful a → (x : ℕ)
+    → counterIn (commonDots a b) x ≡ cond (eqb (counterIn b x) (counterIn a x)) (counterIn a x) 0
 unfolding commonDots
 counter-common b h x = counter-those (shared b) h x
 
@@ -51,19 +54,12 @@ pub cut-keeps : (c x : List Dot) {d : Dot} → d ∈ cutDots c x → (d ∈ x) �
 unfolding cutDots
 cut-keeps c x {d} i = let r = those-means (beyond c) x i in (r .0, ltb-true _ _ (r .1))
 
-pub cut-holds : (c : List Dot) {x : List Dot} {d : Dot} → d ∈ x → counterIn c (d .actor) < d .counter → d ∈ cutDots c x
-unfolding cutDots
-cut-holds c {d = d} i h = those-holds (beyond c) i (lt-ltb _ _ h)
-
 pub cut-trade : (c d x : List Dot) → cutDots c (cutDots d x) ≡ cutDots d (cutDots c x)
 unfolding cutDots
 cut-trade c d x = those-trade (beyond c) (beyond d) x
 
-pub cut-again : (c x : List Dot) → cutDots c (cutDots c x) ≡ cutDots c x
-unfolding cutDots
-cut-again c x = those-again (beyond c) x
-
 -- the empty clock cuts nothing
 pub cut-none : {x : List Dot} → Lawful x → cutDots [] x ≡ x
 unfolding cutDots
-cut-none {x} h = those-all (beyond []) x (λ d i. lt-ltb (counterIn [] (d .actor)) (d .counter) (omega (arith, counter-nil (d .actor), h .positive d i)))
+cut-none {x} h = those-all (beyond []) x (λ d i. lt-ltb (counterIn [] (d .actor)) (d .counter)
+    (omega (arith, counter-nil (d .actor), h .positive d i)))

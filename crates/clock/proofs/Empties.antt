@@ -1,15 +1,14 @@
--- Laws of the clock without dots.
-use mathlib.Core.Path.{_≡_, refl, ap}
+-- The clock without dots: there is one (`empty-means`), and a cut leaves it so (`empty-cut`).
+use mathlib.Core.Path.{_≡_, refl}
 use mathlib.Core.Bool.{true, false}
 use mathlib.Core.List.{List, [], _∷_}
 use Prim.Native.Nat.{ℕ, _<_}
 use native.Mathlib.Omega.{arith}
 use borrow.Author.Tests.{eqb-true, ne-eqb}
 use lib.ListN.{length}
-use Rattle.lists.specs.Sift.{sift}
-use Rattle.lists.specs.First.{firstIn}
+use Rattle.listlaws.specs.Sift.{sift}
 use Rattle.clock.specs.declared.Dot.{Dot}
-use Rattle.clock.specs.Dots.{isEmpty, counterIn, covers, cutDots}
+use Rattle.clock.specs.Dots.{isEmpty, counterIn, cutDots}
 use Rattle.clock.proofs.Counters.{counter-nil}
 
 pub empty-means : (l : List Dot) → isEmpty l ≡ true → l ≡ []
@@ -27,8 +26,3 @@ pub counter-some : (l : List Dot) (a : ℕ) → 0 < counterIn l a → isEmpty l 
 unfolding isEmpty
 counter-some [] a h = absurd (omega (arith, counter-nil a))
 counter-some (x ∷ l) a h = ne-eqb (length (x ∷ l)) 0 (λ e. omega arith)
-
--- every clock covers the empty one
-pub covers-empty : (a b : List Dot) → isEmpty b ≡ true → covers a b ≡ true
-unfolding covers firstIn
-covers-empty a b t = ap (covers a) (empty-means b t)

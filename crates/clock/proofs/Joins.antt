@@ -3,20 +3,19 @@ use mathlib.Core.Path.{_≡_, refl, ap, sym, _∙_}
 use mathlib.Core.Bool.{Bool, true, false, cond, _&&_}
 use mathlib.Core.Logic.{_⊎_, inl, inr}
 use mathlib.Core.List.{List, [], _∷_, List·Memᴰ·not-nil, List·Memᴰ·eq-of-singleton}
-use Prim.Native.Nat.{ℕ, _≤_, _<_, max}
+use Prim.Native.Nat.{ℕ, _<_, max}
 use native.Mathlib.Omega.{arith}
 use borrow.Author.Tests.{ltb-true, ltb-false, lt-ltb, le-ltb, eqb-true}
 use lib.Dec.{ltb, eqb}
-use lib.ListN.{length}
-use Rattle.lists.specs.Order.{_∈_, nil, next, by}
-use Rattle.lists.proofs.Orders.{by-strict}
-use Rattle.lists.proofs.Those.{those-same, those-those}
-use Rattle.lists.proofs.Ranks.{by-steady, by-level, level-by}
-use Rattle.lists.proofs.Woven.{weave-ascends, weave-every, weave-has-first, weave-has-second, weave-has-both}
+use Rattle.listlaws.specs.Order.{_∈_, nil, next, by}
+use Rattle.listlaws.proofs.Orders.{by-strict}
+use Rattle.listlaws.proofs.Those.{those-same, those-those}
+use Rattle.listlaws.proofs.Ranks.{by-steady, by-level, level-by}
+use Rattle.listlaws.proofs.Woven.{weave-ascends, weave-every, weave-has-first, weave-has-second, weave-has-both}
 use Rattle.clock.specs.declared.Dot.{Dot}
 use Rattle.clock.specs.Dots.{counterIn, beyond, cutDots, largerDot, joinDots, addDot}
 use Rattle.clock.specs.Lawful.{Lawful}
-use Rattle.clock.proofs.Counters.{dotIn, counter-member, counter-cases, counter-absent, counter-nil, counter-one, same-clock, among}
+use Rattle.clock.proofs.Counters.{dotIn, counter-member, counter-cases, counter-absent, counter-nil, counter-one, same-clock}
 
 pub lawful-nil : Lawful []
 lawful-nil = record { rising = nil; positive = λ d i. absurd (List·Memᴰ·not-nil i) }
@@ -57,7 +56,8 @@ whose d = d .actor
 
 module _ {a b : List Dot} (h : Lawful a) (k : Lawful b) where
   -- what holds of the dots of both clocks, and of the larger of two of one actor, holds of the joined clock's
-  pub join-every : (P : Dot → Type 0) → ((x : Dot) → x ∈ a → P x) → ((y : Dot) → y ∈ b → P y) → ((x y : Dot) → x ∈ a → y ∈ b → x .actor ≡ y .actor → P (largerDot x y)) → (z : Dot) → z ∈ joinDots a b → P z
+  pub join-every : (P : Dot → Type 0) → ((x : Dot) → x ∈ a → P x) → ((y : Dot) → y ∈ b → P y)
+      → ((x y : Dot) → x ∈ a → y ∈ b → x .actor ≡ y .actor → P (largerDot x y)) → (z : Dot) → z ∈ joinDots a b → P z
   unfolding joinDots
   join-every P f g e =
       weave-every (by whose) (λ d. d) (λ d. d) largerDot (by-strict whose) (by-steady whose) P (h .rising) (k .rising)
@@ -68,7 +68,8 @@ module _ {a b : List Dot} (h : Lawful a) (k : Lawful b) where
   lawful-join = record {
     rising =
         weave-ascends (by whose) (λ d. d) (λ d. d) largerDot (by-strict whose) (by-steady whose)
-        (λ d. level-by whose d d refl) (λ d. level-by whose d d refl) (λ x y e. level-by whose x (largerDot x y) (larger-actor x y (by-level whose x y e)))
+        (λ d. level-by whose d d refl) (λ d. level-by whose d d refl) (λ x y e. level-by whose x (largerDot x y)
+        (larger-actor x y (by-level whose x y e)))
         (h .rising) (k .rising);
     positive = join-every (λ d. 0 < d .counter) (h .positive) (k .positive) (λ x y i j e. omega (arith, larger-counter x y, h .positive x i));
   }
@@ -78,11 +79,13 @@ module _ {a b : List Dot} (h : Lawful a) (k : Lawful b) where
   unfolding joinDots
   counter-join x = go (counter-cases a x) (counter-cases b x)
     where
-      go : (dotIn a x ∈ a) ⊎ ((d : Dot) → d ∈ a → d .actor ≡ x → ⊥) → (dotIn b x ∈ b) ⊎ ((d : Dot) → d ∈ b → d .actor ≡ x → ⊥) → counterIn (joinDots a b) x ≡ max (counterIn a x) (counterIn b x)
+      go : (dotIn a x ∈ a) ⊎ ((d : Dot) → d ∈ a → d .actor ≡ x → ⊥) → (dotIn b x ∈ b) ⊎ ((d : Dot) → d ∈ b → d .actor ≡ x → ⊥)
+          → counterIn (joinDots a b) x ≡ max (counterIn a x) (counterIn b x)
       go (inl i) (inl j) =
           let p = dotIn a x in
           let q = dotIn b x in
-          let r = weave-has-both (by whose) (λ d. d) (λ d. d) largerDot (by-strict whose) (by-steady whose) (h .rising) (k .rising) i j (level-by whose p q refl) in
+          let r = weave-has-both (by whose) (λ d. d) (λ d. d) largerDot (by-strict whose) (by-steady whose) (h .rising) (k .rising) i j
+          (level-by whose p q refl) in
           ap (counterIn (joinDots a b)) (larger-actor p q refl) ∙ counter-member lawful-join r ∙ larger-counter p q
       go (inl i) (inr g) =
           let r = weave-has-first (by whose) (λ d. d) (λ d. d) largerDot i (λ y j e. g y j (sym (by-level whose (dotIn a x) y e))) in
@@ -97,19 +100,8 @@ module _ {a b : List Dot} (h : Lawful a) (k : Lawful b) where
   -- a cut by two clocks is a cut by both joined
   pub cut-cut : (x : List Dot) → cutDots b (cutDots a x) ≡ cutDots (joinDots a b) x
   unfolding cutDots
-  cut-cut x = those-those (beyond b) (beyond a) x ∙ those-same _ _ x (λ d i. rw (counter-join (d .actor)) (ltb-max (counterIn a (d .actor)) (counterIn b (d .actor)) (d .counter)))
-
-  -- a joined clock is no longer than one that has the actors of both
-  pub among-join : {c : List Dot} → Lawful c → ((x : ℕ) → counterIn c x ≡ 0 → counterIn a x ≡ 0) → ((x : ℕ) → counterIn c x ≡ 0 → counterIn b x ≡ 0) → length (joinDots a b) ≤ length c
-  among-join q f g = among lawful-join q (λ x e. omega (arith, counter-join x, f x e, g x e))
-
-pub join-comm : {a b : List Dot} → Lawful a → Lawful b → joinDots a b ≡ joinDots b a
-join-comm h k = same-clock (lawful-join h k) (lawful-join k h) (λ x. omega (arith, counter-join h k x, counter-join k h x))
-
-pub join-assoc : {a b c : List Dot} → Lawful a → Lawful b → Lawful c → joinDots (joinDots a b) c ≡ joinDots a (joinDots b c)
-join-assoc h k q =
-    same-clock (lawful-join (lawful-join h k) q) (lawful-join h (lawful-join k q))
-    (λ x. omega (arith, counter-join (lawful-join h k) q x, counter-join h k x, counter-join h (lawful-join k q) x, counter-join k q x))
+  cut-cut x = those-those (beyond b) (beyond a) x ∙ those-same _ _ x (λ d i. rw (counter-join (d .actor))
+      (ltb-max (counterIn a (d .actor)) (counterIn b (d .actor)) (d .counter)))
 
 pub join-again : {a : List Dot} → Lawful a → joinDots a a ≡ a
 join-again h = same-clock (lawful-join h h) h (λ x. omega (arith, counter-join h h x))
@@ -126,21 +118,25 @@ pub lawful-add : {l : List Dot} → Lawful l → (d : Dot) → Lawful (addDot l 
 unfolding addDot
 lawful-add {l} h d = lawful-join h (lawful-beyond l d)
 
-pub counter-add : {l : List Dot} → Lawful l → (d : Dot) (x : ℕ) → counterIn (addDot l d) x ≡ cond (eqb (d .actor) x) (max (counterIn l x) (d .counter)) (counterIn l x)
+pub counter-add : {l : List Dot} → Lawful l → (d : Dot) (x : ℕ) → counterIn (addDot l d) x ≡ cond (eqb (d .actor) x)
+    (max (counterIn l x) (d .counter)) (counterIn l x)
 unfolding addDot
 counter-add {l} h d x = counter-join h (lawful-beyond l d) x ∙ go (beyond l d) (eqb (d .actor) x) refl refl
   where
-    go : (b c : Bool) → beyond l d ≡ b → eqb (d .actor) x ≡ c → max (counterIn l x) (counterIn (cond b (d ∷ []) []) x) ≡ cond c (max (counterIn l x) (d .counter)) (counterIn l x)
+    go : (b c : Bool) → beyond l d ≡ b → eqb (d .actor) x ≡ c → max (counterIn l x) (counterIn (cond b (d ∷ []) []) x) ≡ cond c
+        (max (counterIn l x) (d .counter)) (counterIn l x)
     go true true t u = ap (max (counterIn l x)) (rw u at (counter-one d x))
     go true false t u = omega (arith, rw u at (counter-one d x))
     go false true t u =
         omega (arith, counter-nil x, ltb-false (counterIn l (d .actor)) (d .counter) t, ap (counterIn l) (eqb-true (d .actor) x u))
     go false false t u = omega (arith, counter-nil x)
 
--- adding a dot is joining its clock
+-- an end theorem, which nothing here uses: adding a dot is joining its clock
 pub add-join : {l : List Dot} → Lawful l → (d : Dot) → 0 < d .counter → addDot l d ≡ joinDots l (d ∷ [])
-add-join {l} h d p = same-clock (lawful-add h d) (lawful-join h (lawful-one d p)) (λ x. counter-add h d x ∙ go x (eqb (d .actor) x) refl ∙ sym (counter-join h (lawful-one d p) x))
+add-join {l} h d p = same-clock (lawful-add h d) (lawful-join h (lawful-one d p))
+    (λ x. counter-add h d x ∙ go x (eqb (d .actor) x) refl ∙ sym (counter-join h (lawful-one d p) x))
   where
-    go : (x : ℕ) (c : Bool) → eqb (d .actor) x ≡ c → cond c (max (counterIn l x) (d .counter)) (counterIn l x) ≡ max (counterIn l x) (counterIn (d ∷ []) x)
+    go : (x : ℕ) (c : Bool) → eqb (d .actor) x ≡ c → cond c (max (counterIn l x) (d .counter)) (counterIn l x) ≡ max (counterIn l x)
+        (counterIn (d ∷ []) x)
     go x true t = ap (max (counterIn l x)) (sym (rw t at (counter-one d x)))
     go x false t = omega (arith, rw t at (counter-one d x))

@@ -6,3 +6,4 @@ pub mod Joins
 pub mod Covers
 pub mod Within
 pub mod Empties
+pub mod Examples

@@ -1,29 +1,35 @@
--- Laws of a clock as a pack of its dots, and of the limit.
+-- A clock as the pack of its dots: it gives them back (`dots-of`), takes one more (`pushed`), and is refused over the limit (`fits`, `exceeds`).
 use mathlib.Core.Path.{_≡_, refl, ap, _∙_}
 use mathlib.Core.Bool.{true, false}
 use mathlib.Core.List.{List, [], _∷_, _++_, map-id}
 use Prim.Native.Nat.{_+_, _≤_, _<_}
 use native.Mathlib.Omega.{arith}
 use lib.ListN.{length, set}
-use Rattle.lists.specs.Order.{by}
-use Rattle.lists.proofs.Pads.{take-pad, push-pad, length-snoc}
-use Rattle.lists.proofs.Sifts.{length-sift}
-use Rattle.lists.proofs.Rests.{weave-first-left}
-use Rattle.lists.proofs.Limits.{within-fits, within-exceeds, flag-set, flag-clear}
-use Rattle.lists.proofs.Weaves.{weave-longer}
+use Rattle.listlaws.specs.Order.{by}
+use Rattle.listlaws.proofs.Pads.{take-pad, push-pad, length-snoc, length-pad}
+use Rattle.listlaws.proofs.Sifts.{length-sift}
+use Rattle.listlaws.proofs.Rests.{weave-first-left}
+use Rattle.listlaws.proofs.Limits.{within-fits, within-exceeds, flag-set, flag-clear}
+use Rattle.listlaws.proofs.Weaves.{weave-longer}
 use Rattle.clock.specs.declared.Dot.{Dot}
 use Rattle.clock.specs.declared.Clock.{Clock}
 use Rattle.clock.specs.declared.Cut.{Cut}
 use Rattle.clock.specs.declared.Joined.{Joined}
-use Rattle.clock.specs.Dots.{dotLimit, noDot, dotsOf, clockOf, fitted, beyond, cutDots, cutOf, largerDot, joinDots}
+use Rattle.limits.specs.Limits.{dotLimit}
+use Rattle.clock.specs.Dots.{noDot, dotsOf, clockOf, fitted, beyond, cutDots, cutOf, largerDot, joinDots}
 
 -- the dots of the clock of a list are the list
 pub dots-of : {c : Clock} (l : List Dot) → c ≡ clockOf l → dotsOf c ≡ l
 dots-of l e = rw e (take-pad noDot dotLimit l)
 
 -- a dot stored behind the last
-pub pushed : {c : Clock} (l : List Dot) (d : Dot) → c ≡ clockOf l → length l < dotLimit → _≡_ {A = Clock} (record { dots = set (c .dots) (c .len) d; len = c .len + 1 }) (clockOf (l ++ (d ∷ [])))
+pub pushed : {c : Clock} (l : List Dot) (d : Dot) → c ≡ clockOf l → length l < dotLimit
+    → _≡_ {A = Clock} (record { dots = set (c .dots) (c .len) d; len = c .len + 1 }) (clockOf (l ++ (d ∷ [])))
 pushed l d e h = rw (e, push-pad noDot dotLimit l d h, length-snoc l d)
+
+-- room for one more in a clock that a loop builds in place
+pub dot-room : {c : Clock} (l : List Dot) → c ≡ clockOf l → length l < dotLimit → (c .len < dotLimit) × (length (c .dots) ≡ dotLimit)
+dot-room l e h = (omega (arith, ap (λ (x : Clock). x .len) e), ap (λ (x : Clock). length (x .dots)) e ∙ length-pad noDot dotLimit l (omega arith))
 
 -- the two answers of what can grow
 abbrev good : List Dot → Joined

@@ -8,17 +8,18 @@ use native.Mathlib.Omega.{arith}
 use borrow.Author.Tests.{ltb-true, leb-true, leb-false, lt-ltb, le-ltb}
 use lib.Dec.{leb, ltb}
 use lib.ListN.{length, take, getD}
-use Rattle.lists.specs.Order.{Ascending, by}
-use Rattle.lists.proofs.Orders.{apart}
-use Rattle.lists.proofs.Rests.{in-list}
-use Rattle.lists.proofs.Rising.{rising-good, rising-ascends}
-use Rattle.lists.proofs.Beside.{Beside, beside-start, beside-next, beside-past, beside-both, beside-found, beside-missed, beside-end}
-use Rattle.lists.proofs.Checking.{Checking, checking-start, checking-fails, checking-on, checking-end, checking-all, checking-gone}
+use Rattle.listlaws.specs.Order.{Ascending, by}
+use Rattle.listlaws.proofs.Orders.{apart}
+use Rattle.listlaws.proofs.Rests.{in-list}
+use Rattle.listlaws.proofs.Rising.{rising-good, rising-ascends}
+use Rattle.listlaws.proofs.Beside.{Beside, beside-start, beside-next, beside-past, beside-both, beside-found, beside-missed, beside-end}
+use Rattle.listlaws.proofs.Checking.{Checking, checking-start, checking-fails, checking-on, checking-end, checking-all, checking-gone}
 use Rattle.clock.specs.declared.Dot.{Dot}
 use Rattle.clock.specs.declared.Order.{Order}
 use Rattle.clock.specs.declared.Order.the-variants.{Equal, Greater, Less, Concurrent}
 use Rattle.clock.specs.Dots.{noDot, counterIn, beyond, covers, outcome, orderOf}
-use Rattle.clock.specs.Lawful.{Lawful, isLawful}
+use Rattle.clock.specs.Lawful.{Lawful}
+use Rattle.clock.specs.Walking.{isLawful}
 
 -- what the test of a clock tells
 pub lawful-told : {l : List Dot} → isLawful l ≡ true → Lawful l
@@ -35,7 +36,8 @@ Walk xs n i ys m j = Beside (λ d. d .actor) (λ d. d .counter) 0 xs n i ys m j
 module _ {xs : List Dot} {n : ℕ} {ys : List Dot} {m : ℕ} where
   module _ {i j : ℕ} (g : Walk xs n i ys m j) (k : j < length (take m ys)) where
     -- what the first clock has for the second's actor, where its own dot is of that actor, of a later one, or none is left
-    pub walk-found : i < length (take n xs) → getD xs i noDot .actor ≡ getD ys j noDot .actor → counterIn (take n xs) (getD ys j noDot .actor) ≡ getD xs i noDot .counter
+    pub walk-found : i < length (take n xs) → getD xs i noDot .actor ≡ getD ys j noDot .actor
+        → counterIn (take n xs) (getD ys j noDot .actor) ≡ getD xs i noDot .counter
     unfolding counterIn
     walk-found h e = beside-found noDot g k h e
 
@@ -71,7 +73,8 @@ module _ {xs : List Dot} {n : ℕ} {ys : List Dot} {m : ℕ} where
       covering-past e = record { walk = beside-past noDot (g .walk) k h e; checking = g .checking }
 
       -- an actor that both have
-      pub covering-both : getD xs i noDot .actor ≡ getD ys j noDot .actor → Covering xs n (i + 1) ys m (j + 1) (flag && leb (getD ys j noDot .counter) (getD xs i noDot .counter))
+      pub covering-both : getD xs i noDot .actor ≡ getD ys j noDot .actor
+          → Covering xs n (i + 1) ys m (j + 1) (flag && leb (getD ys j noDot .counter) (getD xs i noDot .counter))
       covering-both e = record {
         walk = beside-both noDot (g .walk) k h e;
         checking =
@@ -80,11 +83,13 @@ module _ {xs : List Dot} {n : ℕ} {ys : List Dot} {m : ℕ} where
       }
 
     module _ (p : Lawful (take m ys)) where
-      missed : (k : j < length (take m ys)) → (i < length (take n xs) → getD ys j noDot .actor < getD xs i noDot .actor) → beyond (take n xs) (getD ys j noDot) ≡ true
+      missed : (k : j < length (take m ys)) → (i < length (take n xs) → getD ys j noDot .actor < getD xs i noDot .actor)
+          → beyond (take n xs) (getD ys j noDot) ≡ true
       missed k f = rw (walk-missed (g .walk) k f) (lt-ltb 0 _ (p .positive (getD ys j noDot) (in-list ys m j noDot k)))
 
       -- an actor that only the second clock has
-      pub covering-missed : (h : i < length (take n xs)) (k : j < length (take m ys)) → getD ys j noDot .actor < getD xs i noDot .actor → Covering xs n i ys m (j + 1) false
+      pub covering-missed : (h : i < length (take n xs)) (k : j < length (take m ys)) → getD ys j noDot .actor < getD xs i noDot .actor
+          → Covering xs n i ys m (j + 1) false
       covering-missed h k e = record { walk = beside-next noDot (g .walk) k; checking = checking-fails noDot (g .checking) k (missed k (λ q. e)) }
 
       -- one of the two is used up

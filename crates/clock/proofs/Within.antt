@@ -2,14 +2,14 @@
 use mathlib.Core.Path.{_≡_, refl, ap, sym, _∙_}
 use mathlib.Core.Bool.{Bool, true, false}
 use mathlib.Core.List.{List, []}
-use Prim.Native.Nat.{ℕ, _≤_, _<_, max}
+use Prim.Native.Nat.{ℕ, _≤_}
 use native.Mathlib.Omega.{arith}
-use borrow.Author.Tests.{ltb-true, ltb-false, le-ltb, eq-eqb}
+use borrow.Author.Tests.{ltb-true, ltb-false, le-ltb}
 use lib.Dec.{ltb, eqb}
 use lib.ListN.{length}
-use Rattle.lists.proofs.Orders.{apart}
-use Rattle.lists.proofs.Those.{those-means}
-use Rattle.lists.proofs.Firsts.{none-holds}
+use Rattle.listlaws.proofs.Orders.{apart}
+use Rattle.listlaws.proofs.Those.{those-means}
+use Rattle.listlaws.proofs.Firsts.{none-holds}
 use Rattle.clock.specs.declared.Dot.{Dot}
 use Rattle.clock.specs.Dots.{isEmpty, counterIn, beyond, covers, cutDots, shared, commonDots, joinDots, addDot}
 use Rattle.clock.specs.Lawful.{Lawful}
@@ -17,7 +17,7 @@ use Rattle.clock.proofs.Counters.{counter-member, counter-nil, among}
 use Rattle.clock.proofs.Cuts.{lawful-cut, counter-cut}
 use Rattle.clock.proofs.Joins.{lawful-nil, lawful-join, counter-join, lawful-add, counter-add}
 use Rattle.clock.proofs.Covers.{covers-means, covers-holds}
-use Rattle.clock.proofs.Empties.{empty-means, counter-some}
+use Rattle.clock.proofs.Empties.{empty-means}
 
 -- a clock is no longer than one that covers it
 pub covered-length : {a b : List Dot} → Lawful a → Lawful b → covers b a ≡ true → length a ≤ length b
@@ -30,7 +30,8 @@ covers-nil c = covers-holds c (λ x. omega (arith, counter-nil x)) lawful-nil
 pub covers-common : {a : List Dot} (b : List Dot) → Lawful a → covers a (commonDots a b) ≡ true
 unfolding covers commonDots
 covers-common {a} b h =
-    none-holds (beyond a) (commonDots a b) (λ d i. le-ltb (counterIn a (d .actor)) (d .counter) (omega (arith, counter-member h (those-means (shared b) a i .0))))
+    none-holds (beyond a) (commonDots a b) (λ d i. le-ltb (counterIn a (d .actor)) (d .counter)
+    (omega (arith, counter-member h (those-means (shared b) a i .0))))
 
 pub nil-empty : isEmpty [] ≡ true
 unfolding isEmpty
@@ -54,9 +55,11 @@ module _ {a b c d : List Dot} (h : Lawful a) (k : Lawful b) (q : Lawful c) (r : 
 module _ {a b : List Dot} (h : Lawful a) (k : Lawful b) (t : covers a b ≡ true) where
   -- what is left of a covered clock is covered by what is left
   pub covers-cuts : (c : List Dot) → covers (cutDots c a) (cutDots c b) ≡ true
-  covers-cuts c = covers-holds (cutDots c a) (λ x. below x (ltb (counterIn c x) (counterIn a x)) (ltb (counterIn c x) (counterIn b x)) refl refl) (lawful-cut c k)
+  covers-cuts c = covers-holds (cutDots c a) (λ x. below x (ltb (counterIn c x) (counterIn a x)) (ltb (counterIn c x) (counterIn b x)) refl refl)
+      (lawful-cut c k)
     where
-      below : (x : ℕ) (p q : Bool) → ltb (counterIn c x) (counterIn a x) ≡ p → ltb (counterIn c x) (counterIn b x) ≡ q → counterIn (cutDots c b) x ≤ counterIn (cutDots c a) x
+      below : (x : ℕ) (p q : Bool) → ltb (counterIn c x) (counterIn a x) ≡ p → ltb (counterIn c x) (counterIn b x) ≡ q
+          → counterIn (cutDots c b) x ≤ counterIn (cutDots c a) x
       below x true true e f =
           omega (arith, rw e at (counter-cut c h x), rw f at (counter-cut c k x), covers-means a b t x)
       below x false true e f =
@@ -70,10 +73,3 @@ module _ {a b : List Dot} (h : Lawful a) (k : Lawful b) (t : covers a b ≡ true
       below : (x : ℕ) (p : Bool) → eqb (d .actor) x ≡ p → counterIn (addDot b d) x ≤ counterIn (addDot a d) x
       below x true e = omega (arith, rw e at (counter-add h d x), rw e at (counter-add k d x), covers-means a b t x)
       below x false e = omega (arith, rw e at (counter-add h d x), rw e at (counter-add k d x), covers-means a b t x)
-
--- the added dot's actor has its counter, or a larger one
-pub counter-added : {l : List Dot} → Lawful l → (d : Dot) → counterIn (addDot l d) (d .actor) ≡ max (counterIn l (d .actor)) (d .counter)
-counter-added {l} h d = rw (eq-eqb (d .actor) (d .actor) refl) at (counter-add h d (d .actor))
-
-pub some-added : {l : List Dot} → Lawful l → (d : Dot) → 0 < d .counter → isEmpty (addDot l d) ≡ false
-some-added {l} h d p = counter-some (addDot l d) (d .actor) (omega (arith, counter-added h d))

@@ -4,22 +4,19 @@ use mathlib.Core.List.{List, [], _∷_}
 use Prim.Native.Nat.{ℕ, _-_}
 use lib.Dec.{ltb, eqb}
 use lib.ListN.{length, take}
-use Rattle.lists.specs.Pad.{pad}
-use Rattle.lists.specs.Sift.{those}
-use Rattle.lists.specs.First.{firstIn, none}
-use Rattle.lists.specs.Weave.{weave}
-use Rattle.lists.specs.Order.{by}
-use Rattle.lists.specs.Limit.{within}
+use Rattle.listlaws.specs.Pad.{pad}
+use Rattle.listlaws.specs.Sift.{those}
+use Rattle.listlaws.specs.First.{firstIn, none}
+use Rattle.listlaws.specs.Weave.{weave}
+use Rattle.listlaws.specs.Order.{by}
+use Rattle.listlaws.specs.Limit.{ifWithin}
 use Rattle.clock.specs.declared.Dot.{Dot}
 use Rattle.clock.specs.declared.Clock.{Clock}
 use Rattle.clock.specs.declared.Cut.{Cut}
 use Rattle.clock.specs.declared.Joined.{Joined}
 use Rattle.clock.specs.declared.Order.{Order}
 use Rattle.clock.specs.declared.Order.the-variants.{Equal, Greater, Less, Concurrent}
-
--- the limit: so many dots in any clock
-abbrev pub dotLimit : ℕ
-dotLimit = 8
+use Rattle.limits.specs.Limits.{dotLimit}
 
 abbrev pub noDot : Dot
 noDot = record { actor = 0; counter = 0 }
@@ -34,7 +31,7 @@ clockOf l = record { dots = pad noDot dotLimit l; len = length l }
 
 -- the answer of an operation that can grow: the clock, or that it is over the limit
 abbrev pub fitted : List Dot → Joined
-fitted l = within dotLimit (λ d. record { over = false; clock = clockOf d }) (record { over = true; clock = clockOf [] }) l
+fitted l = ifWithin dotLimit (λ d. record { over = false; clock = clockOf d }) (record { over = true; clock = clockOf [] }) l
 
 unfoldable pub isEmpty : List Dot → Bool
 isEmpty l = eqb (length l) 0
@@ -84,15 +81,6 @@ shared l d = eqb (counterIn l (d .actor)) (d .counter)
 -- "Common dots are those with equal counters in both."
 unfoldable pub commonDots : List Dot → List Dot → List Dot
 commonDots a b = those (shared b) a
-
--- a counter beside one that was seen: the same, or larger
-abbrev pub staysAt : Bool → ℕ → ℕ → Bool
-staysAt true seen counter = eqb seen counter
-staysAt false seen counter = ltb seen counter
-
--- which dots stay beside these: those that they share, or those beyond them
-abbrev pub kept : Bool → List Dot → Dot → Bool
-kept same l d = staysAt same (counterIn l (d .actor)) (d .counter)
 
 -- "Adding a dot takes effect only if its counter is larger."
 unfoldable pub addDot : List Dot → Dot → List Dot

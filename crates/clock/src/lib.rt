@@ -5,12 +5,13 @@ ghost use mathlib.Core.List.{List, [], _∷_, _++_, map};
 ghost use Prim.Native.Nat.{_≤_, _<_};
 ghost use lib.ListN.{length, drop};
 ghost use Rattle.clock.specs.declared.Dot.{Dot};
-ghost use Rattle.lists.specs.Sift.{those};
-ghost use Rattle.clock.specs.Dots.{dotLimit, dotsOf, clockOf, fitted, counterIn, isEmpty, covers, outcome, orderOf, staysAt, kept, cutDots, cutOf, commonDots, largerDot, joinDots, addDot};
-ghost use Rattle.clock.specs.Lawful.{Lawful, isLawful, sameActors};
-
-// The most dots that a clock can hold.
-pub const DOTS: usize = 8;
+ghost use Rattle.listlaws.specs.Sift.{those};
+ghost use Rattle.limits.specs.Limits.{dotLimit};
+ghost use Rattle.clock.specs.Dots.{dotsOf, clockOf, fitted, counterIn, isEmpty, covers, outcome, orderOf, cutDots, cutOf, commonDots};
+ghost use Rattle.clock.specs.Dots.{largerDot, joinDots, addDot};
+ghost use Rattle.clock.specs.Walking.{staysAt, kept, isLawful, sameActors};
+ghost use Rattle.clock.specs.Lawful.{Lawful};
+use limits::DOTS;
 
 #[repr(C)]
 pub struct Dot {
@@ -45,7 +46,7 @@ pub struct Cut {
 }
 
 // What two coverings say together.
-fn outcome(over: bool, under: bool) -> Order
+pub fn outcome(over: bool, under: bool) -> Order
     ensures { λ r. ⌜ r ≡ outcome over under ⌝ }
 {
     if over {

@@ -3,7 +3,7 @@ use mathlib.Core.Path.{_≡_}
 use mathlib.Core.List.{List, [], _∷_, _++_}
 use native.Mathlib.Omega.{arith}
 use Rattle.records.specs.declared.Record.{Record}
-use Rattle.scan.specs.Scanned.{scanNumber}
+use Rattle.scan.specs.Numbers.{scanNumber}
 use Rattle.scan.proofs.Scanning.{scan-last}
 use Rattle.scan.proofs.Rooms.{kind-range}
 

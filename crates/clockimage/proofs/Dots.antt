@@ -6,36 +6,38 @@ use Prim.Native.Nat.{ℕ, _<_}
 use lib.Dec.{eqb}
 use lib.ListN.{length, length-map}
 use borrow.Author.Tests.{eqb-true}
-use Rattle.lists.specs.Order.{_∈_}
-use Rattle.lists.specs.Sift.{those}
-use Rattle.lists.proofs.Those.{those-same}
+use Rattle.listlaws.specs.Order.{_∈_}
+use Rattle.listlaws.specs.Sift.{those}
+use Rattle.listlaws.proofs.Those.{those-same}
 use Rattle.records.specs.declared.Record.{Record}
 use Rattle.records.specs.Kinds.{recordOk}
 use Rattle.scan.specs.Limits.{innerLimits, limitAt, sameMiddle}
-use Rattle.scan.specs.Scanned.{scanNumber}
+use Rattle.scan.specs.Numbers.{scanNumber}
 use Rattle.scan.proofs.Eachs.{decide}
 use Rattle.scan.proofs.Scans.{alike-middle}
 use Rattle.scan.proofs.Scanning.{scan-good}
 use Rattle.records.proofs.Rule.{usesIndex, usesKey}
 use Rattle.scan.proofs.Rooms.{those-yes, those-no, good-at, no-index, no-key, inner-room}
-use Rattle.clockimage.specs.Image.{isKind, dotOf, dotsIn}
+use Rattle.clockimage.specs.Image.{isKind, dotOf, dotsFrom}
 
 pub map-snoc : {A B : Type 0} (f : A → B) (l : List A) (x : A) → map f (l ++ (x ∷ [])) ≡ map f l ++ (f x ∷ [])
 map-snoc f [] x = refl
 map-snoc f (y ∷ l) x = ap (λ m. f y ∷ m) (map-snoc f l x)
 
-pub dots-more : (test : Record → Bool) (l : List Record) (r : Record) → test r ≡ true → dotsIn test (l ++ (r ∷ [])) ≡ dotsIn test l ++ (dotOf r ∷ [])
+pub dots-more : (test : Record → Bool) (l : List Record) (r : Record) → test r ≡ true
+    → dotsFrom test (l ++ (r ∷ [])) ≡ dotsFrom test l ++ (dotOf r ∷ [])
 dots-more test l r t = ap (map dotOf) (those-yes test l r t) ∙ map-snoc dotOf (those test l) r
 
-pub dots-same : (test : Record → Bool) (l : List Record) (r : Record) → test r ≡ false → dotsIn test (l ++ (r ∷ [])) ≡ dotsIn test l
+pub dots-same : (test : Record → Bool) (l : List Record) (r : Record) → test r ≡ false → dotsFrom test (l ++ (r ∷ [])) ≡ dotsFrom test l
 dots-same test l r t = ap (map dotOf) (those-no test l r t)
 
-pub dots-snoc : (test : Record → Bool) (l : List Record) (r : Record) → dotsIn test (l ++ (r ∷ [])) ≡ cond (test r) (dotsIn test l ++ (dotOf r ∷ [])) (dotsIn test l)
+pub dots-snoc : (test : Record → Bool) (l : List Record) (r : Record) → dotsFrom test (l ++ (r ∷ [])) ≡ cond (test r)
+    (dotsFrom test l ++ (dotOf r ∷ [])) (dotsFrom test l)
 dots-snoc test l r = decide (test r) (λ t. dots-more test l r t ∙ rw t) (λ f. dots-same test l r f ∙ rw f)
 
 module _ (low high : ℕ) (l : List Record) (r : Record) (n : scanNumber low high (l ++ (r ∷ [])) ≡ 0) where
   pub dots-room : (kind : ℕ) → r .kind ≡ kind → (kind ≡ 6 → ⊥) → usesIndex kind ≡ false → usesKey kind ≡ false
-      → length (dotsIn (isKind kind) l) < limitAt innerLimits kind
+      → length (dotsFrom (isKind kind) l) < limitAt innerLimits kind
   dots-room kind k plain i y =
       let g = scan-good low high (l ++ (r ∷ [])) n in
       rw (length-map (those (isKind kind) l) dotOf, those-same (isKind kind) (sameMiddle r) l same, ← k)

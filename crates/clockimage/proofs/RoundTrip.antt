@@ -7,12 +7,13 @@ use native.Mathlib.Omega.{arith}
 use lib.Dec.{eqb, ltb}
 use lib.ListN.{length, length-map}
 use borrow.Author.Tests.{eq-eqb, le-ltb, lt-ltb, ltb-true, ltb-false, eqb-true}
-use Rattle.lists.specs.Order.{_∈_, Ascending, nil, next, by}
-use Rattle.lists.specs.Sift.{those}
-use Rattle.lists.proofs.Orders.{head-before, tail-ascends}
-use Rattle.lists.proofs.Those.{those-all}
+use Rattle.listlaws.specs.Order.{_∈_, Ascending, nil, next, by}
+use Rattle.listlaws.specs.Sift.{those}
+use Rattle.listlaws.proofs.Orders.{head-before, tail-ascends}
+use Rattle.listlaws.proofs.Those.{those-all}
 use Rattle.clock.specs.declared.Dot.{Dot}
-use Rattle.clock.specs.Dots.{dotLimit, clockOf}
+use Rattle.limits.specs.Limits.{dotLimit}
+use Rattle.clock.specs.Dots.{clockOf}
 use Rattle.clock.specs.Lawful.{Lawful}
 use Rattle.records.specs.declared.Record.{Record}
 use Rattle.records.specs.Bytes.{Bytes}
@@ -20,7 +21,7 @@ use Rattle.records.specs.Kinds.{before, recordOk}
 use Rattle.records.specs.Records.{recordsOf, bytesOf}
 use Rattle.records.proofs.RoundTrips.{Fitting, by-fields, length-bytes, read-written, written-read, read-all-fit}
 use Rattle.scan.proofs.Eachs.{decide}
-use Rattle.scan.specs.Scanned.{scanNumber}
+use Rattle.scan.specs.Numbers.{scanNumber}
 use Rattle.records.proofs.Rule.{isValue}
 use Rattle.scan.proofs.Befores.{fields-before, before-fields, before-actor}
 use Rattle.scan.proofs.Rooms.{good-at, kind-range, no-index, no-key, counter-from-one}
@@ -83,7 +84,8 @@ module _ (l : List Dot) where
       rw (← m .2) (record { kind = omega arith; index = omega arith; actor = d .actor; key = omega arith; number = d .counter })
 
   -- what was written reads as it was
-  pub read-clock-written : Lawful l → ((d : Dot) → d ∈ l → DotFits d) → length l ≤ dotLimit → readClock (bytesOf (clockRecords l)) ≡ record { number = 0; clock = clockOf l }
+  pub read-clock-written : Lawful l → ((d : Dot) → d ∈ l → DotFits d) → length l ≤ dotLimit
+      → readClock (bytesOf (clockRecords l)) ≡ record { number = 0; clock = clockOf l }
   unfolding readClock
   read-clock-written w f h =
       let n = length-bytes (clockRecords l) ∙ ap (λ k. k * 16) (length-map l (dotRecord 1 0 0)) in
@@ -106,7 +108,8 @@ pub record Accepted {R : Type 0} (longest : ℕ) (judged : List Record → R) (r
   pub same : read ≡ judged (recordsOf s)
 
 pub accepted : {R : Type 0} (number : R → ℕ) (longest : ℕ) (refused : ℕ → R) (judged : List Record → R) (s : List ℕ)
-    → ((n : ℕ) → number (refused n) ≡ n) → number (imageOf longest refused judged s) ≡ 0 → Accepted longest judged (imageOf longest refused judged s) s
+    → ((n : ℕ) → number (refused n) ≡ n) → number (imageOf longest refused judged s) ≡ 0
+    → Accepted longest judged (imageOf longest refused judged s) s
 accepted number longest refused judged s r e =
     decide (ltb longest (length s))
     (λ t. absurd (let z : 2 ≡ 0 = sym (r 2) ∙ rw t at e in omega arith))
@@ -156,7 +159,8 @@ module _ (l : List Record) (n : scanNumber 1 1 l ≡ 0) where
           let p = h x (List·Memᴰ·head refl) in
           let q = h (y .0) (List·Memᴰ·tail (y .1)) in
           let b = before-fields (head-before a (y .0) (y .1)) in
-          rw (← y .2) (lt-ltb (x .actor) (y .0 .actor) (before-actor b (ap isValue (p .kind)) (p .kind ∙ sym (q .kind)) (p .key ∙ sym (q .key)) (p .index ∙ sym (q .index))))
+          rw (← y .2) (lt-ltb (x .actor) (y .0 .actor) (before-actor b (ap isValue (p .kind)) (p .kind ∙ sym (q .kind)) (p .key ∙ sym (q .key))
+          (p .index ∙ sym (q .index))))
 
   pub clock-lawful : Lawful (clockIn l)
   clock-lawful = record {
@@ -187,9 +191,11 @@ clock-accepted s b e =
       read = a .same ∙ rw n;
       lawful = clock-lawful l n;
       few = omega arith;
-      fit = λ d i. let y = Memᴰ·of-map dotOf (those (isKind 1) l) i in let f = read-all-fit s b _ 0 (y .0) (moved (those-first l n) (y .0) (y .1)) in rw (← y .2) (record { actor = f .actor; counter = f .number });
+      fit = λ d i. let y = Memᴰ·of-map dotOf (those (isKind 1) l) i in let f = read-all-fit s b _ 0 (y .0) (moved (those-first l n) (y .0) (y .1)) in
+          rw (← y .2) (record { actor = f .actor; counter = f .number });
       image = image;
     }
   where
-    good : (k : ℕ) → k ≡ scanNumber 1 1 (recordsOf s) → cond (eqb k 0) (record { number = 0; clock = clockOf (clockIn (recordsOf s)) }) (refusedClock k) .number ≡ 0 → scanNumber 1 1 (recordsOf s) ≡ 0
+    good : (k : ℕ) → k ≡ scanNumber 1 1 (recordsOf s) → cond (eqb k 0) (record { number = 0; clock = clockOf (clockIn (recordsOf s)) })
+        (refusedClock k) .number ≡ 0 → scanNumber 1 1 (recordsOf s) ≡ 0
     good k q z = decide (eqb k 0) (λ t. sym q ∙ eqb-true k 0 t) (λ f. sym q ∙ rw f at z)

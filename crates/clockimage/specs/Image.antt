@@ -4,7 +4,7 @@ use mathlib.Core.Bool.{Bool, cond}
 use mathlib.Core.List.{List, map}
 use lib.Dec.{eqb, ltb}
 use lib.ListN.{length}
-use Rattle.lists.specs.Sift.{those}
+use Rattle.listlaws.specs.Sift.{those}
 use Rattle.clock.specs.declared.Dot.{Dot}
 use Rattle.register.specs.declared.Content.{Content}
 use Rattle.records.specs.declared.Record.{Record}
@@ -31,8 +31,8 @@ abbrev pub contentRecord : ℕ → ℕ → ℕ → Content → Record
 contentRecord kind index key x = record { kind = kind; index = index; actor = x .origin; key = key; number = x .number }
 
 -- the dots in those records that pass a test
-abbrev pub dotsIn : (Record → Bool) → List Record → List Dot
-dotsIn test l = map dotOf (those test l)
+abbrev pub dotsFrom : (Record → Bool) → List Record → List Dot
+dotsFrom test l = map dotOf (those test l)
 
 -- a dot's numbers fit their fields in a record
 pub record DotFits (d : Dot) : Type 0 where

@@ -5,14 +5,18 @@ ghost use mathlib.Core.Bool.{true, cond};
 ghost use Prim.Native.Nat.{_+_, _*_, _≤_, _<_};
 ghost use lib.ListN.{length};
 ghost use Rattle.clock.specs.declared.Dot.{Dot};
-ghost use Rattle.clock.specs.Dots.{dotLimit, dotsOf, clockOf};
+ghost use Rattle.limits.specs.Limits.{dotLimit};
+ghost use Rattle.clock.specs.Dots.{dotsOf, clockOf};
 ghost use Rattle.records.specs.declared.Record.{Record};
-ghost use Rattle.records.specs.Records.{bytesOf, Wrote};
+ghost use Rattle.records.specs.Records.{bytesOf};
+ghost use Rattle.records.specs.Writing.{Wrote};
 ghost use Rattle.clockimage.specs.Image.{dotRecords, dotOf};
-ghost use Rattle.clockimage.specs.ClockImage.{clockImage, judgedClock, refusedClock, readClock, ClockSoFar};
+ghost use Rattle.clockimage.specs.ClockImage.{clockImage, judgedClock, refusedClock, readClock};
+ghost use Rattle.clockimage.specs.SoFar.{ClockSoFar};
 use clock::Clock;
-use clock::DOTS;
 use clock::Dot;
+use limits::DOTS;
+use records::CLOCK_DOT;
 use records::Record;
 use scan::Scan;
 
@@ -59,7 +63,7 @@ pub fn write_clock(clock: Clock, out: &mut [u8]) -> usize
     requires { ⌜ length (clockImage clock) ≤ length (now out) ⌝ }
     ensures { λ n. ⌜ Wrote 0 (clockImage clock) (now (out .entry)) (now (out .exit)) n ⌝ }
 {
-    write_dots(out, 0, 1, 0, 0, clock)
+    write_dots(out, 0, CLOCK_DOT, 0, 0, clock)
 }
 
 fn refused(number: u8) -> ReadClock
@@ -86,7 +90,7 @@ impl ClockReader {
         ensures { λ s. ⌜ ((l : List Record) → ClockSoFar l self → ClockSoFar (l ++ (r ∷ [])) s) ⌝ }
     {
         let before = self.scan;
-        let scan = before.take(1, 1, r, 0);
+        let scan = before.take(CLOCK_DOT, CLOCK_DOT, r, 0);
         let old = self.clock;
         let clock = clock_with(old, scan.number == 0, r);
         ClockReader { scan, clock }

@@ -6,7 +6,8 @@ use lib.ListN.{length, getD}
 use Rattle.clock.specs.Dots.{dotsOf}
 use Rattle.clock.specs.Lawful.{Lawful}
 use Rattle.register.specs.declared.Value.{Value}
-use Rattle.register.specs.Values.{valueLimit, noValue}
+use Rattle.limits.specs.Limits.{valueLimit}
+use Rattle.register.specs.Values.{noValue}
 use Rattle.records.specs.Records.{recordsFrom}
 use Rattle.clockimage.specs.Image.{dotOf}
 

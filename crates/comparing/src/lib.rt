@@ -1,22 +1,9 @@
 // How the clocks of two runs of dots stand to each other, where they lie: the comparison that ships.
 ghost use mathlib.Core.Path.{_≡_};
-ghost use Rattle.clock.specs.Dots.{outcome, orderOf};
+ghost use Rattle.clock.specs.Dots.{orderOf};
 ghost use Rattle.clock.specs.Lawful.{Lawful};
 ghost use Rattle.runs.specs.Run.{runDots};
 use clock::Order;
-
-// What two coverings say together.
-fn outcome(over: bool, under: bool) -> Order
-    ensures { λ r. ⌜ r ≡ outcome over under ⌝ }
-{
-    if over {
-        if under { Order::Equal } else { Order::Greater }
-    } else if under {
-        Order::Less
-    } else {
-        Order::Concurrent
-    }
-}
 
 // How the clocks of two runs of dots stand to each other: one walk along both.
 pub fn compare_runs(x: &[u8], y: &[u8]) -> Order
@@ -60,5 +47,5 @@ pub fn compare_runs(x: &[u8], y: &[u8]) -> Order
             }
         }
     }
-    outcome(over & (m <= j), under & (n <= i))
+    clock::outcome(over & (m <= j), under & (n <= i))
 }

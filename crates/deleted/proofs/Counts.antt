@@ -6,14 +6,14 @@ use Prim.Native.Nat.{ℕ, _+_, _-_, _≤_}
 use native.Mathlib.Omega.{arith}
 use borrow.Author.Tests.{ne-eqb}
 use lib.ListN.{length}
-use Rattle.lists.specs.Sift.{sift}
+use Rattle.listlaws.specs.Sift.{sift}
 use Rattle.clock.specs.declared.Dot.{Dot}
 use Rattle.clock.specs.Dots.{dotsOf}
 use Rattle.clockimage.specs.declared.ReadClock.{ReadClock}
 use Rattle.clockimage.specs.ClockImage.{readClock}
-use Rattle.parts.specs.declared.Removal.{Removal}
-use Rattle.parts.specs.Entries.{stays, cutEntry, removeEntries}
-use Rattle.parts.proofs.Pieces.{entries-of}
+use Rattle.removals.specs.declared.Removal.{Removal}
+use Rattle.entries.specs.Entries.{stays, cutEntry, removeEntries}
+use Rattle.entries.proofs.Packs.{entries-of}
 use Rattle.map.specs.declared.Map.{Map}
 use Rattle.map.specs.Model.{entriesIn}
 use Rattle.map.specs.Judging.{judged}
@@ -30,7 +30,7 @@ use Rattle.promises.proofs.Deletes.{removal-leaves, reset-leaves, apply-deletes
 use Rattle.walks.specs.declared.Layout.{Layout}
 use Rattle.walks.proofs.Loops.{length-part}
 use Rattle.layout.specs.Whole.{Lies}
-use Rattle.changing.proofs.Results.{applied-removal}
+use Rattle.drafting.proofs.Results.{applied-removal}
 
 -- the records of kind 2 are the entries' dots
 pub section-dots : {s : List ℕ} {m : Map} {l : Layout} → Lies s m l → l .third - l .second ≡ entryDots m

@@ -5,8 +5,8 @@ ghost use Prim.Native.Nat.{ℕ, _+_, _≤_};
 ghost use Rattle.clock.specs.declared.Dot.{Dot};
 ghost use Rattle.clock.specs.Dots.{dotsOf};
 ghost use Rattle.clock.specs.Lawful.{Lawful};
-ghost use Rattle.parts.specs.declared.Entry.{Entry};
-ghost use Rattle.parts.specs.declared.Removal.{Removal};
+ghost use Rattle.entries.specs.declared.Entry.{Entry};
+ghost use Rattle.removals.specs.declared.Removal.{Removal};
 ghost use Rattle.map.specs.Model.{mapAs};
 ghost use Rattle.map.specs.Judging.{judged};
 ghost use Rattle.map.specs.Removing.{remove};
@@ -21,11 +21,11 @@ ghost use Rattle.promises.specs.Deleted.{dotsAmong, entryDots};
 ghost use Rattle.promises.specs.Promises.{ApplyDeletedPromise, ResetRemoveDeletedPromise};
 ghost use Rattle.layout.specs.Whole.{LaidOut};
 ghost use Rattle.sketch.specs.declared.Sketched.{Sketched};
-ghost use Rattle.changing.specs.Drafted.{Drafted};
+ghost use Rattle.drafting.specs.Drafted.{Drafted};
 use clock::Clock;
 use layout::Laid;
-use parts::Removal;
 use planned::Plan;
+use removals::Removal;
 use sketch::Sums;
 use walks::Span;
 
@@ -47,7 +47,7 @@ fn fewer(
         → Drafted (now (s .entry)) (now (t .entry)) ours theirs clock (record { items = items; sums = sums }) plan c l w → dotsAmong l + n ≡ had
         → Counted (mapAnswer 0 0 (judged (mapAs c l w))) room n r) ⌝ }
 {
-    let waits = changing::waiting::weigh(sums.count, sums.wide, plan, s, ours, t, theirs);
+    let waits = drafting::waiting::weigh(sums.count, sums.wide, plan, s, ours, t, theirs);
     if waits.number != 0 {
         return 0;
     }
@@ -60,7 +60,8 @@ fn fewer(
 
 // Of a map that was read, with a removal.
 fn removal_deleted(map: &[u8], a: Laid, r: Removal, op: &[u8], room: usize) -> u64
-    requires { ⌜ (LaidOut (now map) (readMap (now map) .map) a × (readMap (now map) .number ≡ 0)) × (RemovalWithin r × (removalRecords r ≡ recordsOf (now op))) ⌝ }
+    requires { ⌜ (LaidOut (now map) (readMap (now map) .map) a × (readMap (now map) .number ≡ 0))
+        × (RemovalWithin r × (removalRecords r ≡ recordsOf (now op))) ⌝ }
     ensures { λ w. ⌜ ((n : ℕ) → entryDots (remove (readMap (now (map .entry)) .map) r) + n ≡ entryDots (readMap (now (map .entry)) .map)
         → Counted (mapAnswer 0 0 (judged (remove (readMap (now (map .entry)) .map) r))) room n w) ⌝ }
 {
@@ -68,13 +69,13 @@ fn removal_deleted(map: &[u8], a: Laid, r: Removal, op: &[u8], room: usize) -> u
     let l = a.layout;
     let under = r.clock;
     let dots = under.size();
-    let waiting = changing::removal_waits(map, l, op, dots);
+    let waiting = drafting::held::removal_waits(map, l, op, dots);
     let q = queued::queue_of(map, l, a.waits);
-    let p = changing::held_queue(op, dots, waiting);
-    let theirs = changing::held_keys(op, dots, waiting);
+    let p = drafting::held::held_queue(op, dots, waiting);
+    let theirs = drafting::held::held_keys(op, dots, waiting);
     let none = Clock::new();
     let plan = planned::join_plan(map, q, op, p, none);
-    let sk = sketch::drawing::draw_removed(map, l, r);
+    let sk = cutting::draw_removed(map, l, r);
     let ours = Span {
         from: l.sixth,
         to: l.end,
@@ -113,7 +114,7 @@ fn reset_deleted(map: &[u8], a: Laid, by: Clock, room: usize) -> u64
     let clock = seen.cut(by).clock;
     let q = queued::queue_of(map, l, a.waits);
     let plan = planned::reset_plan(map, q, by);
-    let sk = sketch::drawing::draw_reset(map, l, by);
+    let sk = cutting::draw_reset(map, l, by);
     let ours = Span {
         from: l.sixth,
         to: l.end,

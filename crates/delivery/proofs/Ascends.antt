@@ -8,7 +8,7 @@ use lib.Dec.{ltb}
 use lib.ListN.{drop}
 use borrow.Author.Tests.{ltb-true, ltb-false}
 use Rattle.scan.proofs.Eachs.{decide}
-use Rattle.parts.specs.Waits.{removalBefore}
+use Rattle.removals.specs.Waits.{removalBefore}
 use Rattle.maprecords.specs.Related.{ascend}
 use Rattle.memory.specs.Memory.{removalAt, waitingCountAt, waitingAt}
 use Rattle.delivery.proofs.Views.{waiting-left, waiting-end}

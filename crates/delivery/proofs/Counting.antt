@@ -6,9 +6,10 @@ use Prim.Native.Nat.{ℕ, _+_, _≤_, _<_}
 use native.Mathlib.Omega.{arith}
 use lib.Dec.{leb, ltb}
 use lib.ListN.{length}
-use Rattle.lists.specs.Sift.{those}
+use Rattle.listlaws.specs.Sift.{those}
 use Rattle.scan.specs.Each.{every}
-use Rattle.mapimage.specs.Sorted.{inOrder, leastFrom}
+use Rattle.mapimage.specs.Sorted.{inOrder}
+use Rattle.mapimage.specs.Least.{leastFrom}
 use Rattle.mapimage.proofs.Sorts.{next-least, no-least, from-start, least-above, least-most}
 
 -- those below `low` are counted, and `best` is the least of the others

@@ -9,12 +9,13 @@ use lib.ListN.{length}
 use borrow.Author.Tests.{eqb-true, eqb-false, eq-eqb, ne-eqb, ltb-true, ltb-false}
 use Rattle.scan.proofs.Eachs.{decide}
 use Rattle.records.specs.Bytes.{numAt, numBytes, placed}
-use Rattle.records.specs.Records.{Wrote}
+use Rattle.records.specs.Writing.{Wrote}
 use Rattle.answers.specs.Answer.{firstOf, numberOf}
 use Rattle.answers.proofs.Answers.{number-first, number-second, number-short, number-done, refuses, writes}
 use Rattle.mapimage.specs.MapImage.{mapLongest}
+use Rattle.maprecords.specs.Related.{lengthNumber}
 use Rattle.memory.specs.Memory.{openPlace, lengthPlace}
-use Rattle.delivery.specs.Delivery.{lengthNumber, scannedAt, relatedAt, endNumber, imageAt, closedNumber, endAnswer, endedBy, Ended}
+use Rattle.delivery.specs.Delivery.{scannedAt, relatedAt, endNumber, imageAt, closedNumber, endAnswer, endedBy, Ended}
 
 -- the number, by the first that is not 0
 module _ (w : List ℕ) {n : ℕ} where
@@ -43,7 +44,8 @@ length-most n =
 pub number-most : (w : List ℕ) → endNumber w ≤ 3
 unfolding endNumber
 number-most w =
-    first-most (lengthNumber (numAt 2 lengthPlace w)) (scannedAt w) (cond (relatedAt w) 0 3) (length-most (numAt 2 lengthPlace w)) (omega arith) (decide (relatedAt w) (λ t. rw t (omega arith)) (λ f. rw f (omega arith)))
+    first-most (lengthNumber (numAt 2 lengthPlace w)) (scannedAt w) (cond (relatedAt w) 0 3) (length-most (numAt 2 lengthPlace w)) (omega arith)
+    (decide (relatedAt w) (λ t. rw t (omega arith)) (λ f. rw f (omega arith)))
 
 -- a number of the image ends the reader
 ends : (n : ℕ) (w : List ℕ) → n ≤ 3 → endedBy n w ≡ placed openPlace (numBytes 0 0) w
@@ -76,7 +78,8 @@ module _ (w o : List ℕ) where
         let a : numberOf (endAnswer w) o ≡ 10 = number-short _ _ opened (sym e) refl h in
         record { answered = refuses _ _ a (λ z. absurd (omega arith)); reader = rw a }
 
-    pub end-writes : {p : List ℕ} {r : ℕ} → 0 ≡ endNumber w → length (imageAt w) ≤ length o → Wrote 0 (imageAt w) o p r → Ended w o (placed openPlace (numBytes 0 0) w) p r
+    pub end-writes : {p : List ℕ} {r : ℕ} → 0 ≡ endNumber w → length (imageAt w) ≤ length o → Wrote 0 (imageAt w) o p r
+        → Ended w o (placed openPlace (numBytes 0 0) w) p r
     end-writes e h x =
         let a : numberOf (endAnswer w) o ≡ 0 = number-done _ _ opened (sym e) refl h in
         record { answered = writes _ _ a x; reader = rw a (sym (ends 0 w (omega arith))) }
@@ -93,4 +96,5 @@ module _ (w o : List ℕ) where
             decide (ltb (length o) (length (imageAt w)))
             (λ u. absurd (n (number-short (endAnswer w) o opened z refl (ltb-true _ _ u))))
             (λ u. ap (λ k. endedBy k w) (number-done (endAnswer w) o opened z refl (ltb-false _ _ u)) ∙ ends 0 w (omega arith)))
-            (λ f. ap (λ k. endedBy k w) (number-second (endAnswer w) o opened refl (eqb-false (endNumber w) 0 f)) ∙ ends (endNumber w) w (number-most w))
+            (λ f. ap (λ k. endedBy k w) (number-second (endAnswer w) o opened refl (eqb-false (endNumber w) 0 f))
+            ∙ ends (endNumber w) w (number-most w))

@@ -7,21 +7,24 @@ use native.Mathlib.Omega.{arith}
 use lib.Dec.{eqb, ltb}
 use lib.ListN.{length}
 use borrow.Author.Tests.{ltb-false}
-use Rattle.lists.proofs.Pads.{take-pad}
-use Rattle.clock.specs.Dots.{dotLimit, noDot}
-use Rattle.parts.proofs.Pieces.{entries-of, waiting-of}
+use Rattle.listlaws.proofs.Pads.{take-pad}
+use Rattle.limits.specs.Limits.{dotLimit}
+use Rattle.clock.specs.Dots.{noDot}
+use Rattle.entries.proofs.Packs.{entries-of}
+use Rattle.removals.proofs.Packs.{waiting-of}
+use Rattle.map.specs.Model.{mapAs}
 use Rattle.records.specs.declared.Record.{Record}
 use Rattle.records.specs.Bytes.{numAt}
 use Rattle.records.specs.Records.{recordsOf}
 use Rattle.scan.specs.Formed.{wellFormed}
 use Rattle.scan.specs.Limits.{within}
-use Rattle.scan.specs.Scanned.{scanNumber}
+use Rattle.scan.specs.Numbers.{scanNumber}
 use Rattle.scan.proofs.Eachs.{decide}
 use Rattle.clockimage.proofs.RoundTrip.{accepted}
 use Rattle.mapimage.specs.MapImage.{mapLongest, mapImage}
 use Rattle.maprecords.specs.Related.{refusedMap, judgedMap, readMap}
-use Rattle.mapreader.specs.SoFar.{MapSoFar, relatedSoFar}
-use Rattle.mapreader.proofs.Readers.{judged-number, judged-map}
+use Rattle.maprecords.specs.SoFar.{MapSoFar, relatedSoFar}
+use Rattle.maprecords.proofs.Readers.{judged-number, judged-map}
 use Rattle.answers.specs.Answer.{firstOf}
 use Rattle.memory.specs.Memory.{lengthPlace, lostPlace, clockPlace, dotsAt, entriesAt, waitingAt}
 use Rattle.memory.specs.Reader.{readerAt}
@@ -32,15 +35,12 @@ scan-most : (l : List Record) → scanNumber 1 6 l ≤ 2
 unfolding scanNumber
 scan-most l = decide (wellFormed 1 6 l) (λ t. rw t (decide (within l) (λ u. rw u (omega arith)) (λ u. rw u (omega arith)))) (λ f. rw f (omega arith))
 
--- the parts of the memory as a reader by value are those of the memory
 module _ (w : List ℕ) where
   related-same : relatedSoFar (readerAt w) ≡ relatedAt w
-  related-same =
-      decide (eqb (numAt 0 lostPlace w) 0)
-      (λ t. rw (t, take-pad noDot dotLimit (dotsAt w clockPlace), entries-of (entriesAt w), waiting-of (waitingAt w)))
-      (λ f. rw f)
+  related-same = decide (eqb (numAt 0 lostPlace w) 0) (λ t. rw t) (λ f. rw f)
 
-  image-same : mapImage (record { clock = readerAt w .clock; entries = readerAt w .entries; waiting = readerAt w .waiting }) ≡ imageAt w
+  -- the image of the map that stands in the memory
+  image-same : mapImage (mapAs (dotsAt w clockPlace) (entriesAt w) (waitingAt w)) ≡ imageAt w
   unfolding imageAt
   image-same = rw (take-pad noDot dotLimit (dotsAt w clockPlace), entries-of (entriesAt w), waiting-of (waitingAt w))
 
@@ -54,9 +54,6 @@ module _ (l : List Record) (w : List ℕ) (m : MapSoFar l (readerAt w)) where
   judged-same =
       let n = judged-number l (readerAt w) m in
       decide (relatedAt w) (λ t. rw (scanned-same, t) (rw (related-same w, t) at n)) (λ f. rw (scanned-same, f) (rw (related-same w, f) at n))
-
-  written-same : judgedMap l .number ≡ 0 → imageAt w ≡ mapImage (judgedMap l .map)
-  written-same z = sym (ap (λ r. mapImage (r .map)) (judged-map l (readerAt w) m z) ∙ image-same w)
 
 -- s is all that came
 module _ {s w : List ℕ} (c : Came s w) where
@@ -73,8 +70,12 @@ module _ {s w : List ℕ} (c : Came s w) where
       (λ t. rw (e, f, t) (judged-same (recordsOf s) w (so-far (ltb-false mapLongest (length s) f))))
       (λ g. rw (e, f, g)))
 
-  pub writes-as-read : readMap s .number ≡ 0 → imageAt w ≡ mapImage (readMap s .map)
+  -- the map that stands in the memory
+  pub holds-as-read : readMap s .number ≡ 0 → readMap s ≡ record { number = 0; map = mapAs (dotsAt w clockPlace) (entriesAt w) (waitingAt w) }
   unfolding readMap
-  writes-as-read z =
+  holds-as-read z =
       let a = accepted (λ r. r .number) mapLongest refusedMap judgedMap s (λ n. refl) z in
-      written-same (recordsOf s) w (so-far (a .short)) (ap (λ r. r .number) (sym (a .same)) ∙ z) ∙ ap (λ r. mapImage (r .map)) (sym (a .same))
+      a .same ∙ judged-map (recordsOf s) (readerAt w) (so-far (a .short)) (ap (λ r. r .number) (sym (a .same)) ∙ z)
+
+  pub writes-as-read : readMap s .number ≡ 0 → imageAt w ≡ mapImage (readMap s .map)
+  writes-as-read z = sym (ap (λ r. mapImage (r .map)) (holds-as-read z) ∙ image-same w)

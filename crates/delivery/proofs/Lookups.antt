@@ -5,9 +5,10 @@ use mathlib.Core.List.{List, [], _∷_}
 use Prim.Native.Nat.{ℕ, _+_, _<_, _≤_}
 use lib.ListN.{length}
 use borrow.Author.Tests.{eq-eqb, ne-eqb, lt-ltb, le-ltb}
-use Rattle.lists.specs.First.{firstIn}
+use Rattle.listlaws.specs.First.{firstIn}
 use Rattle.clock.specs.declared.Dot.{Dot}
-use Rattle.clock.specs.Dots.{dotLimit, dotsOf, isEmpty, counterIn, covers}
+use Rattle.limits.specs.Limits.{dotLimit}
+use Rattle.clock.specs.Dots.{dotsOf, isEmpty, counterIn, covers}
 use Rattle.register.specs.declared.Value.{Value}
 use Rattle.scan.specs.Each.{every}
 use Rattle.maprecords.specs.Related.{dotted}

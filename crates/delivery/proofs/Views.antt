@@ -3,12 +3,15 @@ use mathlib.Core.Path.{_≡_, ap}
 use mathlib.Core.List.{List, [], _∷_, map}
 use Prim.Native.Nat.{ℕ, _+_, _*_, _≤_, _<_}
 use lib.ListN.{length, drop}
-use Rattle.lists.proofs.Pads.{take-pad}
-use Rattle.clock.specs.Dots.{dotLimit, noDot, dotsOf}
-use Rattle.register.specs.Values.{valueLimit, noValue}
-use Rattle.parts.specs.Model.{keyLimit, dotsIn, valuesIn, underOf}
+use Rattle.listlaws.proofs.Pads.{take-pad}
+use Rattle.limits.specs.Limits.{dotLimit, valueLimit, keyLimit}
+use Rattle.clock.specs.Dots.{noDot, dotsOf}
+use Rattle.register.specs.Values.{noValue}
+use Rattle.removals.specs.Model.{underOf}
+use Rattle.entries.specs.Model.{dotsIn, valuesIn}
 use Rattle.mapimage.specs.MapImage.{keyNumber, keyNumbers}
-use Rattle.memory.specs.Memory.{dotRoom, ownPlace, valuesPlace, valuePlace, keysPlace, keyPlace, removalPlace, countAt, dotAt, dotsAt, valueAt, valuesAt, entryAt, entryCount, entriesAt, listedAt, removalAt, waitingCountAt, waitingAt}
+use Rattle.memory.specs.Memory.{dotRoom, ownPlace, valuesPlace, valuePlace, keysPlace, keyPlace, removalPlace, countAt, dotAt, dotsAt, valueAt}
+use Rattle.memory.specs.Memory.{valuesAt, entryHeldAt, entryCount, entriesAt, listedAt, removalAt, waitingCountAt, waitingAt}
 use Rattle.records.specs.Bytes.{numAt}
 use Rattle.memory.proofs.Views.{length-of}
 use Rattle.delivery.proofs.Belows.{left-on, left-end}
@@ -27,7 +30,8 @@ module _ (w : List ℕ) where
   dots-end at i h = left-end _ (countAt dotLimit at w) i h
 
   -- the values of an entry, and the dots of one
-  pub values-left : (j i : ℕ) → i < countAt valueLimit (valuesPlace j) w → drop i (valuesAt w j) ≡ valueAt w (valuePlace j i) ∷ drop (i + 1) (valuesAt w j)
+  pub values-left : (j i : ℕ) → i < countAt valueLimit (valuesPlace j) w
+      → drop i (valuesAt w j) ≡ valueAt w (valuePlace j i) ∷ drop (i + 1) (valuesAt w j)
   unfolding valuesAt
   values-left j i h = left-on _ (countAt valueLimit (valuesPlace j) w) i h
 
@@ -39,19 +43,19 @@ module _ (w : List ℕ) where
   value-dots at = take-pad noDot dotLimit (dotsAt w (at + 8))
 
   -- an entry's dots and values
-  pub entry-dots : (j : ℕ) → dotsIn (entryAt w j) ≡ dotsAt w (ownPlace j)
+  pub entry-dots : (j : ℕ) → dotsIn (entryHeldAt w j) ≡ dotsAt w (ownPlace j)
   entry-dots j = take-pad noDot dotLimit (dotsAt w (ownPlace j))
 
-  pub entry-values : (j : ℕ) → valuesIn (entryAt w j) ≡ valuesAt w j
+  pub entry-values : (j : ℕ) → valuesIn (entryHeldAt w j) ≡ valuesAt w j
   entry-values j = take-pad noValue valueLimit (valuesAt w j)
 
-  pub entries-left : (j : ℕ) → j < entryCount w → drop j (entriesAt w) ≡ entryAt w j ∷ drop (j + 1) (entriesAt w)
+  pub entries-left : (j : ℕ) → j < entryCount w → drop j (entriesAt w) ≡ entryHeldAt w j ∷ drop (j + 1) (entriesAt w)
   unfolding entriesAt
-  entries-left j h = left-on (entryAt w) (entryCount w) j h
+  entries-left j h = left-on (entryHeldAt w) (entryCount w) j h
 
   pub entries-end : (j : ℕ) → entryCount w ≤ j → drop j (entriesAt w) ≡ []
   unfolding entriesAt
-  entries-end j h = left-end (entryAt w) (entryCount w) j h
+  entries-end j h = left-end (entryHeldAt w) (entryCount w) j h
 
   pub waiting-left : (k : ℕ) → k < waitingCountAt w → drop k (waitingAt w) ≡ removalAt w k ∷ drop (k + 1) (waitingAt w)
   unfolding waitingAt

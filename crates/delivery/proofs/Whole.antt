@@ -14,7 +14,8 @@ use Rattle.delivery.specs.Delivery.{imageAt, closedNumber, endAnswer, En
 use Rattle.delivery.proofs.Judged.{ends-as-read, writes-as-read}
 
 -- answers with the same number, and the same bytes where it is 0
-alike : (a b : Answer) (o : List ℕ) {p : List ℕ} {r : ℕ} → numberOf a o ≡ numberOf b o → (numberOf b o ≡ 0 → a .bytes ≡ b .bytes) → Answered a o p r → Answered b o p r
+alike : (a b : Answer) (o : List ℕ) {p : List ℕ} {r : ℕ} → numberOf a o ≡ numberOf b o → (numberOf b o ≡ 0 → a .bytes ≡ b .bytes) → Answered a o p r
+    → Answered b o p r
 unfolding wordOf outOf
 alike a b o n e x =
     decide (eqb (numberOf b o) 0)

@@ -2,19 +2,15 @@
 use mathlib.Core.Path.{_≡_}
 use mathlib.Core.Bool.{Bool, cond, _&&_, _||_}
 use mathlib.Core.List.{List, [], _∷_}
-use Prim.Native.Nat.{ℕ, _%_, min}
-use lib.Dec.{eqb, ltb}
+use Prim.Native.Nat.{ℕ, min}
+use lib.Dec.{eqb}
 use Rattle.records.specs.Bytes.{numAt, numBytes, placed}
 use Rattle.records.specs.Records.{bytesOf}
 use Rattle.scan.specs.Each.{every}
-use Rattle.mapimage.specs.MapImage.{mapLongest, recordsIn}
-use Rattle.maprecords.specs.Related.{entryWhole, ascend}
+use Rattle.mapimage.specs.MapImage.{recordsIn}
+use Rattle.maprecords.specs.Related.{entryWhole, ascend, lengthNumber}
 use Rattle.answers.specs.Answer.{Answer, firstOf, numberOf, Answered}
 use Rattle.memory.specs.Memory.{openPlace, lengthPlace, numberPlace, lostPlace, clockPlace, dotsAt, entriesAt, waitingAt}
-
--- "length above longest is 2 at once", then a bad length is 1
-abbrev pub lengthNumber : ℕ → ℕ
-lengthNumber n = cond (ltb mapLongest n) 2 (cond (eqb (n % 16) 0) 0 1)
 
 -- the number of the records one by one: a byte that is more than 2 counts as 2
 abbrev pub scannedAt : List ℕ → ℕ

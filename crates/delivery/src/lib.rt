@@ -4,20 +4,29 @@ ghost use mathlib.Core.Bool.{true};
 ghost use Prim.Native.Nat.{_+_, _*_, _^_, _≤_, _<_, min};
 ghost use lib.Dec.{ltb};
 ghost use lib.ListN.{length};
-ghost use Rattle.clock.specs.Dots.{dotLimit, clockOf, counterIn, covers};
+ghost use Rattle.limits.specs.Limits.{dotLimit, entryLimit, waitingLimit};
+ghost use Rattle.clock.specs.Dots.{clockOf, counterIn, covers};
 ghost use Rattle.register.specs.Values.{registerOf};
-ghost use Rattle.parts.specs.Model.{entryLimit, waitingLimit, underOf};
-ghost use Rattle.records.specs.Records.{bytesOf, Wrote};
+ghost use Rattle.removals.specs.Model.{underOf};
+ghost use Rattle.records.specs.Records.{bytesOf};
+ghost use Rattle.records.specs.Writing.{Wrote};
 ghost use Rattle.scan.specs.Each.{every};
-ghost use Rattle.mapimage.specs.Sorted.{leastFrom};
+ghost use Rattle.mapimage.specs.Least.{leastFrom};
 ghost use Rattle.mapimage.specs.MapImage.{flatFrom, entryRecords, waitingDots, keyNumbers, waitingKeys};
 ghost use Rattle.maprecords.specs.Related.{dotted, entryWhole, ascend};
-ghost use Rattle.answers.specs.Sizes.{registerMost, entriesMost, totalOf, valueSize, entrySize};
-ghost use Rattle.memory.specs.Memory.{readerRoom, dotRoom, clockRoom, valueRoom, clockPlace, dotAt, dotsAt, valueAt, valuesAt, entryAt, entriesAt, removalAt, waitingAt};
+ghost use Rattle.answers.specs.Sizes.{registerMost, entriesMost, valueSize, entrySize};
+ghost use Rattle.listlaws.specs.Fold.{totalOf};
+ghost use Rattle.memory.specs.Memory.{readerRoom, dotRoom, clockRoom, valueRoom, clockPlace, dotAt, dotsAt, valueAt, valuesAt, entryHeldAt};
+ghost use Rattle.memory.specs.Memory.{entriesAt, removalAt, waitingAt};
 ghost use Rattle.delivery.specs.Delivery.{relatedAt, endNumber, imageAt, Ended};
 use clock::Clock;
-use clock::DOTS;
 use clock::Dot;
+use entries::Entry;
+use limits::DOTS;
+use limits::ENTRIES;
+use limits::KEYS;
+use limits::VALUES;
+use limits::WAITING;
 use mapimage::NO_KEY;
 use memory::CLOCK;
 use memory::CLOCK_ROOM;
@@ -34,14 +43,15 @@ use memory::REMOVAL_PLACE;
 use memory::REMOVAL_ROOM;
 use memory::VALUE_ROOM;
 use memory::WAITING_COUNT;
-use parts::ENTRIES;
-use parts::Entry;
-use parts::KEYS;
-use parts::WAITING;
+use records::CLOCK_DOT;
+use records::ENTRY_DOT;
 use records::Record;
+use records::VALUE;
+use records::VALUE_DOT;
+use records::WAITING_DOT;
+use records::WAITING_KEY;
 use register::Content;
 use register::Register;
-use register::VALUES;
 use register::Value;
 
 fn dot_at(mem: &[u8; READER], at: usize) -> Dot
@@ -53,7 +63,7 @@ fn dot_at(mem: &[u8; READER], at: usize) -> Dot
     Dot { actor, counter }
 }
 
-fn clock_at(mem: &[u8; READER], at: usize) -> Clock
+pub fn clock_at(mem: &[u8; READER], at: usize) -> Clock
     requires { ⌜ at + clockRoom ≤ readerRoom ⌝ }
     ensures { λ r. ⌜ r ≡ clockOf (dotsAt (now (mem .entry)) at) ⌝ }
 {
@@ -100,9 +110,9 @@ fn register_at(mem: &[u8; READER], j: usize) -> Register
 }
 
 // An entry, by its place among the entries.
-fn entry_at(mem: &[u8; READER], j: usize) -> Entry
+pub fn entry_at(mem: &[u8; READER], j: usize) -> Entry
     requires { ⌜ j < entryLimit ⌝ }
-    ensures { λ e. ⌜ e ≡ entryAt (now (mem .entry)) j ⌝ }
+    ensures { λ e. ⌜ e ≡ entryHeldAt (now (mem .entry)) j ⌝ }
 {
     let at = ENTRY_PLACE + j * ENTRY_ROOM;
     let key = records::read32(mem, at);
@@ -169,7 +179,7 @@ fn dotted_at(mem: &[u8; READER], j: usize) -> bool
 
 fn whole_at(mem: &[u8; READER], j: usize) -> bool
     requires { ⌜ j < entryLimit ⌝ }
-    ensures { λ b. ⌜ b ≡ entryWhole (dotsAt (now (mem .entry)) clockPlace) (entryAt (now (mem .entry)) j) ⌝ }
+    ensures { λ b. ⌜ b ≡ entryWhole (dotsAt (now (mem .entry)) clockPlace) (entryHeldAt (now (mem .entry)) j) ⌝ }
 {
     let own = ENTRY_PLACE + j * ENTRY_ROOM + 4;
     covers_at(mem, CLOCK, own) & dotted_at(mem, j)
@@ -199,7 +209,7 @@ fn waiting_ascends(mem: &[u8; READER]) -> bool
     while k < n {
         let before = clock_at(mem, REMOVAL_PLACE + (k - 1) * REMOVAL_ROOM);
         let after = clock_at(mem, REMOVAL_PLACE + k * REMOVAL_ROOM);
-        if !parts::queue::clock_before(before, after) {
+        if !removals::clock_before(before, after) {
             return false;
         }
         k += 1;
@@ -221,11 +231,11 @@ fn scanned(number: u8) -> u8
 }
 
 // The first number that applies.
-fn number_of(mem: &[u8; READER]) -> u8
+pub fn number_of(mem: &[u8; READER]) -> u8
     ensures { λ r. ⌜ r ≡ endNumber (now (mem .entry)) ⌝ }
 {
     let len = records::read32(mem, LENGTH) as usize;
-    let length = mapreader::length_number(len);
+    let length = maprecords::length_number(len);
     if length != 0 {
         return length;
     }
@@ -340,7 +350,8 @@ fn image_length(mem: &[u8; READER]) -> usize
 
 fn write_entries(mem: &[u8; READER], kind: u8, out: &mut [u8], at: usize) -> usize
     requires { ⌜ at + length (flatFrom (entryRecords kind) 0 (entriesAt (now mem))) * 16 ≤ length (now out) ⌝ }
-    ensures { λ next. ⌜ Wrote at (bytesOf (flatFrom (entryRecords kind) 0 (entriesAt (now (mem .entry))))) (now (out .entry)) (now (out .exit)) next ⌝ }
+    ensures { λ next. ⌜ Wrote at (bytesOf (flatFrom (entryRecords kind) 0 (entriesAt (now (mem .entry))))) (now (out .entry))
+        (now (out .exit)) next ⌝ }
 {
     let n = memory::count(mem, ENTRY_COUNT, ENTRIES);
     let mut next = at;
@@ -364,7 +375,7 @@ fn write_waiting(mem: &[u8; READER], out: &mut [u8], at: usize) -> usize
         let clock = clock_at(mem, REMOVAL_PLACE + k * REMOVAL_ROOM);
         let index = k as u8;
         k += 1;
-        next = clockimage::write_dots(out, next, 5, index, 0, clock);
+        next = clockimage::write_dots(out, next, WAITING_DOT, index, 0, clock);
     }
     next
 }
@@ -378,7 +389,7 @@ fn write_waiting_keys(mem: &[u8; READER], out: &mut [u8], at: usize) -> usize
     let mut best = least(mem, 0);
     while best < NO_KEY {
         let r = Record {
-            kind: 6,
+            kind: WAITING_KEY,
             index: (best % 256) as u8,
             actor: 0,
             key: (best / 256) as u32,
@@ -396,10 +407,10 @@ fn write_image(mem: &[u8; READER], out: &mut [u8]) -> usize
     ensures { λ n. ⌜ Wrote 0 (imageAt (now (mem .entry))) (now (out .entry)) (now (out .exit)) n ⌝ }
 {
     let clock = clock_at(mem, CLOCK);
-    let first = clockimage::write_dots(out, 0, 1, 0, 0, clock);
-    let second = write_entries(mem, 2, out, first);
-    let third = write_entries(mem, 3, out, second);
-    let fourth = write_entries(mem, 4, out, third);
+    let first = clockimage::write_dots(out, 0, CLOCK_DOT, 0, 0, clock);
+    let second = write_entries(mem, ENTRY_DOT, out, first);
+    let third = write_entries(mem, VALUE, out, second);
+    let fourth = write_entries(mem, VALUE_DOT, out, third);
     let fifth = write_waiting(mem, out, fourth);
     write_waiting_keys(mem, out, fifth)
 }

@@ -4,9 +4,10 @@ use mathlib.Core.List.{List, [], _++_, append-nil}
 use Prim.Native.Nat.{ℕ, _+_, _*_, _-_}
 use native.Mathlib.Omega.{arith}
 use lib.ListN.{length, take, drop, length-append}
-use Rattle.lists.specs.Fold.{fold}
-use Rattle.parts.specs.Entries.{entryAt}
-use Rattle.parts.proofs.Pieces.{entries-of, waiting-of}
+use Rattle.listlaws.specs.Fold.{fold}
+use Rattle.entries.specs.Entries.{entryAt}
+use Rattle.entries.proofs.Packs.{entries-of}
+use Rattle.removals.proofs.Packs.{waiting-of}
 use Rattle.map.specs.declared.Map.{Map}
 use Rattle.map.specs.Model.{seenBy, entriesIn}
 use Rattle.asking.specs.Asking.{readKey}
@@ -21,7 +22,7 @@ use Rattle.walks.specs.declared.Layout.{Layout}
 use Rattle.walks.specs.declared.Span.{Span}
 use Rattle.keyed.specs.declared.Spans.{Spans}
 use Rattle.layout.specs.Whole.{Lies}
-use Rattle.keyed.specs.Keyed.{Holds, EntryLies}
+use Rattle.keyed.specs.Keyed.{RecordsLie, EntryLies}
 use Rattle.walks.proofs.Loops.{length-part, sections-end}
 use Rattle.keyed.proofs.Entry.{heldAt, held-records}
 use Rattle.direct.specs.Reading.{Inside, recordsAt, keyRecords}
@@ -39,13 +40,15 @@ none-waits : flatFrom waitingDots 0 [] ++ waitingKeys [] ≡ []
 unfolding flatFrom inOrder fold
 none-waits = refl
 
-only : (m : Map) (key : ℕ) → mapRecords (readKey m key) ≡ dotRecords 1 0 0 (seenBy m) ++ (flatFrom (entryRecords 2) 0 (heldAt key (entriesIn m)) ++ (flatFrom (entryRecords 3) 0 (heldAt key (entriesIn m)) ++ flatFrom (entryRecords 4) 0 (heldAt key (entriesIn m))))
+only : (m : Map) (key : ℕ) → mapRecords (readKey m key) ≡ dotRecords 1 0 0
+    (seenBy m) ++ (flatFrom (entryRecords 2) 0 (heldAt key (entriesIn m)) ++ (flatFrom (entryRecords 3) 0 (heldAt key (entriesIn m)) ++ flatFrom
+    (entryRecords 4) 0 (heldAt key (entriesIn m))))
 unfolding readKey
 only m key =
     let t = heldAt key (entriesIn m) in
     rw (entries-of t, waiting-of [], none-waits, append-nil (flatFrom (entryRecords 4) 0 t))
 
-inside : {s : List ℕ} {k : List Record} {r : Span} → Holds s k r → Inside s r
+inside : {s : List ℕ} {k : List Record} {r : Span} → RecordsLie s k r → Inside s r
 inside q = record { order = q .order; within = q .within }
 
 -- where the map clock's records stand
@@ -57,11 +60,23 @@ module _ {s : List ℕ} {m : Map} {l : Layout} (key : ℕ) {at : Spans} (h : Lie
   key-is =
       let up = h .within .valid .entries .rising in
       only m key
-      ∙ rw (held-records 2 key up, held-records 3 key up, held-records 4 key up, h .sections .first, e .dots .records, e .register .third .records, e .register .fourth .records, e .key)
+      ∙ rw (
+        held-records 2 key up,
+        held-records 3 key up,
+        held-records 4 key up,
+        h .sections .first,
+        e .dots .records,
+        e .register .third .records,
+        e .register .fourth .records,
+        e .key,
+      )
 
   pub spans-inside : Inside s (clockSpan l) × (Inside s (at .dots) × (Inside s (at .values) × Inside s (at .clocks)))
-  spans-inside =
-      (record { order = omega arith; within = sections-end (h .places) .second }, (inside (e .dots), (inside (e .register .third), inside (e .register .fourth))))
+  spans-inside = (
+    record { order = omega arith; within = sections-end (h .places) .second },
+    (inside (e .dots), (inside (e .register .third), inside (e .register .fourth))),
+  )
 
-  pub key-length : length (keyRecords s (clockSpan l) at) ≡ (l .second - 0) + ((at .dots .to - at .dots .from) + ((at .values .to - at .values .from) + (at .clocks .to - at .clocks .from)))
+  pub key-length : length (keyRecords s (clockSpan l) at)
+      ≡ (l .second - 0) + ((at .dots .to - at .dots .from) + ((at .values .to - at .values .from) + (at .clocks .to - at .clocks .from)))
   key-length = simp (length-append, length-part)

@@ -3,7 +3,7 @@ use mathlib.Core.Path.{_≡_, refl, ap, sym, _∙_}
 use mathlib.Core.Bool.{true, false}
 use mathlib.Core.List.{List}
 use Prim.Native.Nat.{ℕ, _≤_}
-use Rattle.parts.specs.declared.Entry.{Entry}
+use Rattle.entries.specs.declared.Entry.{Entry}
 use Rattle.map.specs.declared.Map.{Map}
 use Rattle.asking.specs.declared.CvRDTValidation.{CvRDTValidation}
 use Rattle.asking.specs.declared.CvRDTValidation.the-variants.{Once}
@@ -27,7 +27,8 @@ module _ {f : Entry → CvRDTValidation} {s : List ℕ} where
   seek-start h = record { rest = _; owned = owned-all h; left = refl }
 
   module _ {all : List Entry} {end at : ℕ} (g : Seeking f all s end at) where
-    module _ {r : Stop} (stops : (l : List Entry) → Owned s at end l → Stops s at end l r) (p : CvRDTValidation) (e : p ≡ f (stops (g .rest) (g .owned) .entry)) where
+    module _ {r : Stop} (stops : (l : List Entry) → Owned s at end l → Stops s at end l r) (p : CvRDTValidation)
+        (e : p ≡ f (stops (g .rest) (g .owned) .entry)) where
       pub seek-here : isTwice p ≡ true → p ≡ firstSpent f all
       unfolding firstSpent
       seek-here t = sym (g .left ∙ ap (firstSpent f) (stops (g .rest) (g .owned) .parts) ∙ rw (← e) (or-this p _ t))

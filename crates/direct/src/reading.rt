@@ -3,7 +3,8 @@ ghost use mathlib.Core.Path.{_≡_};
 ghost use Prim.Native.Nat.{_+_, _*_, _-_, _≤_};
 ghost use lib.ListN.{length};
 ghost use Rattle.asking.specs.Asking.{readKey};
-ghost use Rattle.records.specs.Records.{bytesOf, Wrote};
+ghost use Rattle.records.specs.Records.{bytesOf};
+ghost use Rattle.records.specs.Writing.{Wrote};
 ghost use Rattle.mapimage.specs.MapImage.{mapImage};
 ghost use Rattle.maprecords.specs.Related.{readMap};
 ghost use Rattle.answers.specs.Answer.{Answered};
@@ -45,7 +46,8 @@ fn copy_key(s: &[u8], clock: Span, at: Spans, out: &mut [u8]) -> usize
 // Answers the image of the map clock and the entry of a key alone.
 pub fn give_key(map: &[u8], l: Layout, key: u32, out: &mut [u8]) -> u64
     requires { ⌜ Lies (now map) (readMap (now map) .map) l ⌝ }
-    ensures { λ r. ⌜ Answered (record { first = 0; second = 0; own = 0; bytes = mapImage (readKey (readMap (now (map .entry)) .map) key) }) (now (out .entry)) (now (out .exit)) r ⌝ }
+    ensures { λ r. ⌜ Answered (record { first = 0; second = 0; own = 0; bytes = mapImage (readKey (readMap (now (map .entry)) .map) key) })
+        (now (out .entry)) (now (out .exit)) r ⌝ }
 {
     let at = keyed::spans_of(map, l, key);
     let clock = Span {
@@ -54,7 +56,7 @@ pub fn give_key(map: &[u8], l: Layout, key: u32, out: &mut [u8]) -> u64
     };
     let n = size(clock) + (size(at.dots) + (size(at.values) + size(at.clocks)));
     if out.len() / 16 < n {
-        return 10 * 0x1_0000_0000;
+        return answers::word(10);
     }
     copy_key(map, clock, at, out) as u64
 }

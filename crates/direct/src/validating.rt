@@ -1,7 +1,7 @@
 // Both validations, on images where they lie.
 ghost use mathlib.Core.Path.{_≡_};
 ghost use Rattle.clock.specs.Dots.{dotsOf};
-ghost use Rattle.parts.specs.Model.{dotsIn};
+ghost use Rattle.entries.specs.Model.{dotsIn};
 ghost use Rattle.map.specs.Model.{entriesIn};
 ghost use Rattle.asking.specs.Asking.{validateOp, spentUnder, firstSpent, validateMerge};
 ghost use Rattle.maprecords.specs.Related.{readMap};

@@ -30,10 +30,10 @@ fn print_all(map: &[u8]) {
 }
 
 fn show(map: &[u8]) {
-    let m = mapreader::read_map(map);
-    if m.number != 0 {
+    let laid = layout::lay_out(map);
+    if laid.number != 0 {
         io::write_all(STDOUT_FILENO, b"refused ");
-        print_field(m.number as u64, b"\n");
+        print_field(laid.number as u64, b"\n");
         return;
     }
     print_all(map);

@@ -1,26 +1,26 @@
 -- Two registers are equal exactly where one is the other in another order: equality is an equivalence, and counts.
 use mathlib.Core.Path.{_≡_, refl, ap, sym, _∙_}
 use mathlib.Core.Bool.{Bool, true, false, not, _&&_}
-use mathlib.Core.Logic.{_⊎_, ⊎-elim}
+use mathlib.Core.Logic.{⊎-elim}
 use mathlib.Core.List.{List, [], _∷_, List·Permᴰ, List·Permᴰ·trans, Permᴰ·refl, Permᴰ·symm}
-use Prim.Native.Nat.{ℕ}
 use lib.Dec.{eqb}
 use borrow.Author.Tests.{eqb-true, eq-eqb, not-false}
-use Rattle.lists.specs.Order.{_∈_}
-use Rattle.lists.specs.First.{firstIn}
-use Rattle.lists.specs.Sift.{sift}
-use Rattle.lists.specs.Pad.{pad}
-use Rattle.lists.proofs.Orders.{apart}
-use Rattle.lists.proofs.Firsts.{none-means, none-holds}
-use Rattle.lists.proofs.Often.{perm-times, times-perm}
-use Rattle.clock.specs.declared.Dot.{Dot}
+use Rattle.listlaws.specs.Order.{_∈_}
+use Rattle.listlaws.specs.First.{firstIn}
+use Rattle.listlaws.specs.Sift.{sift}
+use Rattle.listlaws.specs.Pad.{pad}
+use Rattle.listlaws.proofs.Orders.{apart}
+use Rattle.listlaws.proofs.Firsts.{none-means, none-holds}
+use Rattle.listlaws.proofs.Often.{perm-times, times-perm}
 use Rattle.clock.specs.declared.Order.{Order}
 use Rattle.clock.specs.declared.Order.the-variants.{Equal, Greater, Less, Concurrent}
 use Rattle.clock.specs.Dots.{dotsOf, clockOf, isEmpty, counterIn, covers, orderOf, cutDots}
 use Rattle.clock.specs.Lawful.{Lawful}
 use Rattle.clock.proofs.Covers.{order-self, order-equal}
+use Rattle.clock.proofs.Examples.{dot}
 use Rattle.register.specs.declared.Value.{Value}
 use Rattle.register.specs.Values.{cutValues}
+use Rattle.register.proofs.Examples.{value}
 use Rattle.equality.specs.Equality.{sameContent, equalClock, samePair, timesIn, asOften, equalValues}
 
 -- a value under a clock that is one, laid down with zeros behind its dots
@@ -65,7 +65,8 @@ module _ {l m : List Value} where
   perm-equal d = rw (often l, often m) refl
     where
       often : (here : List Value) → asOften l m here ≡ true
-      often here = none-holds (λ u. not (eqb (timesIn l u) (timesIn m u))) here (λ v i. ap not (eq-eqb _ _ (perm-times samePair Plain pair-self pair-exact d v)))
+      often here = none-holds (λ u. not (eqb (timesIn l u) (timesIn m u))) here
+          (λ v i. ap not (eq-eqb _ _ (perm-times samePair Plain pair-self pair-exact d v)))
 
   module _ (f : (v : Value) → v ∈ l → Plain v) (g : (v : Value) → v ∈ m → Plain v) where
     pub equal-perm : equalValues l m ≡ true → List·Permᴰ l m
@@ -74,7 +75,7 @@ module _ {l m : List Value} where
         let b = both (asOften l m l) (asOften l m m) t in
         times-perm samePair Plain pair-self pair-exact l m f g (λ v i. ⊎-elim (often-means l m l (b .0) v) (often-means l m m (b .1) v) i)
 
--- an equivalence
+-- end theorems from here on: an equivalence
 pub equal-self : (l : List Value) → equalValues l l ≡ true
 equal-self l = perm-equal (Permᴰ·refl l)
 
@@ -86,18 +87,14 @@ module _ {l m : List Value} (f : (v : Value) → v ∈ l → Plain v) (g : (v : 
   equal-on h t u = perm-equal (List·Permᴰ·trans (equal-perm f g t) (equal-perm g h u))
 
 -- a pair that a cut leaves twice is not the same as that pair once
-abbrev dot : ℕ → ℕ → Dot
-dot a n = record { actor = a; counter = n }
-
-abbrev value : List Dot → ℕ → Value
-value c n = record { clock = clockOf c; value = record { number = n; origin = 0 } }
-
 pub twice-once :
-    equalValues (cutValues (dot 2 1 ∷ dot 3 1 ∷ []) (value (dot 1 1 ∷ dot 2 1 ∷ []) 7 ∷ value (dot 1 1 ∷ dot 3 1 ∷ []) 7 ∷ [])) (value (dot 1 1 ∷ []) 7 ∷ []) ≡ false
+    equalValues (cutValues (dot 2 1 ∷ dot 3 1 ∷ []) (value (dot 1 1 ∷ dot 2 1 ∷ []) 7 ∷ value (dot 1 1 ∷ dot 3 1 ∷ []) 7 ∷ []))
+    (value (dot 1 1 ∷ []) 7 ∷ []) ≡ false
 unfolding pad sift firstIn isEmpty counterIn covers orderOf cutDots cutValues samePair timesIn asOften equalValues
 twice-once = refl
 
 -- the same value under the same clock, set by two, is not the same
-pub origins-differ : equalValues (value (dot 1 1 ∷ []) 7 ∷ []) (record { clock = clockOf (dot 1 1 ∷ []); value = record { number = 7; origin = 1 } } ∷ []) ≡ false
+pub origins-differ : equalValues (value (dot 1 1 ∷ []) 7 ∷ [])
+    (record { clock = clockOf (dot 1 1 ∷ []); value = record { number = 7; origin = 1 } } ∷ []) ≡ false
 unfolding pad sift firstIn isEmpty counterIn covers orderOf samePair timesIn asOften equalValues
 origins-differ = refl

@@ -4,8 +4,8 @@ use mathlib.Core.List.{List}
 use Prim.Native.Nat.{ℕ}
 use lib.Dec.{eqb}
 use lib.ListN.{length}
-use Rattle.lists.specs.Sift.{those}
-use Rattle.lists.specs.First.{none}
+use Rattle.listlaws.specs.Sift.{those}
+use Rattle.listlaws.specs.First.{none}
 use Rattle.clock.specs.declared.Order.{Order}
 use Rattle.clock.specs.declared.Order.the-variants.{Equal, Greater, Less, Concurrent}
 use Rattle.clock.specs.Dots.{dotsOf, orderOf}

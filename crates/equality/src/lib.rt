@@ -1,7 +1,8 @@
 // Equality of registers: every value under its clock as often in one as in the other, in whatever order.
 ghost use mathlib.Core.Path.{_≡_};
 ghost use Prim.Native.Nat.{_≤_};
-ghost use Rattle.register.specs.Values.{valueLimit, valuesOf};
+ghost use Rattle.limits.specs.Limits.{valueLimit};
+ghost use Rattle.register.specs.Values.{valuesOf};
 ghost use Rattle.equality.specs.Equality.{samePair, timesIn, asOften, equalValues};
 use clock::Order;
 use register::Register;

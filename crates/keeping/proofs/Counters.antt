@@ -6,11 +6,11 @@ use Prim.Native.Nat.{ℕ, _<_, max}
 use native.Mathlib.Omega.{arith}
 use borrow.Author.Tests.{ltb-true, lt-ltb, eq-eqb, eqb-true, eqb-false}
 use lib.Dec.{eqb, ltb}
-use Rattle.lists.specs.Sift.{sift}
-use Rattle.lists.proofs.Orders.{by-strict, same-members}
-use Rattle.lists.proofs.Ranks.{by-steady, level-by}
-use Rattle.lists.proofs.Sides.{sift-ascends}
-use Rattle.lists.proofs.Those.{sift-means, sift-holds}
+use Rattle.listlaws.specs.Sift.{sift}
+use Rattle.listlaws.proofs.Orders.{by-strict, same-members}
+use Rattle.listlaws.proofs.Ranks.{by-steady, level-by}
+use Rattle.listlaws.proofs.Sides.{sift-ascends}
+use Rattle.listlaws.proofs.Those.{sift-means, sift-holds}
 use Rattle.clock.specs.declared.Dot.{Dot}
 use Rattle.clock.specs.Dots.{counterIn, cutDots, joinDots}
 use Rattle.clock.specs.Lawful.{Lawful}
@@ -19,9 +19,8 @@ use Rattle.clock.proofs.Cuts.{lawful-cut, lawful-common, counter-cut, counter-c
 use Rattle.clock.proofs.Joins.{lawful-join, counter-join, join-again}
 use Rattle.clock.proofs.Covers.{covers-means, covers-refl, empty-covered}
 use Rattle.clock.proofs.Empties.{empty-means}
-use Rattle.parts.specs.Entries.{keepDots}
-use Rattle.parts.proofs.Wholes.{lawful-keep}
-use Rattle.parts.proofs.Fits.{covers-keep}
+use Rattle.entries.specs.Entries.{keepDots}
+use Rattle.entries.proofs.ClocksFit.{lawful-keep, covers-keep}
 use Rattle.keeping.specs.Keeping.{keptCounter}
 
 abbrev some : Dot → Bool
@@ -74,7 +73,8 @@ kept-same x m y = rw (eq-eqb x x refl) (go (ltb y x) (ltb m x))
 
 module _ (mine yours : List Dot) {x : List Dot} (h : Lawful x) where
   pub keep-same : keepDots mine yours x x ≡ x
-  keep-same = same-clock (lawful-keep mine yours h h) h (λ a. kept-counter mine yours h h a ∙ kept-same (counterIn x a) (counterIn mine a) (counterIn yours a))
+  keep-same = same-clock (lawful-keep mine yours h h) h (λ a. kept-counter mine yours h h a
+      ∙ kept-same (counterIn x a) (counterIn mine a) (counterIn yours a))
 
   -- and nothing of them is deleted
   pub gone-same : cutDots (keepDots mine yours x x) (joinDots x x) ≡ []

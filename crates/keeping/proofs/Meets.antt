@@ -10,8 +10,8 @@ use borrow.Author.Tests.{ltb-true, ltb-false, leb-true, leb-false, eq-eqb, ne-eq
 use lib.Dec.{ltb, leb}
 use lib.ListN.{length, drop, getD}
 use lib.Seq.{drop-cons}
-use Rattle.lists.specs.Weave.{weave}
-use Rattle.lists.proofs.Rests.{drop-end}
+use Rattle.listlaws.specs.Weave.{weave}
+use Rattle.listlaws.proofs.Rests.{drop-end}
 use Rattle.clock.specs.declared.Dot.{Dot}
 use Rattle.clock.specs.Dots.{noDot, joinDots}
 use Rattle.clock.proofs.Packs.{join-nil}

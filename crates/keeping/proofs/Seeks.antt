@@ -7,8 +7,8 @@ use native.Mathlib.Omega.{arith}
 use borrow.Author.Tests.{ltb-true, ltb-false, leb-true, leb-false, eqb-true, eqb-false}
 use lib.Dec.{eqb, ltb, leb}
 use lib.ListN.{length, take, drop, getD}
-use Rattle.lists.proofs.Rests.{drop-step, drop-end}
-use Rattle.lists.proofs.Beside.{beside-next, beside-past, beside-both}
+use Rattle.listlaws.proofs.Rests.{drop-step, drop-end}
+use Rattle.listlaws.proofs.Beside.{beside-next, beside-past, beside-both}
 use Rattle.clock.specs.declared.Dot.{Dot}
 use Rattle.clock.specs.Dots.{noDot, counterIn}
 use Rattle.clock.proofs.Walks.{Walk, walk-found, walk-missed}

@@ -8,20 +8,21 @@ use borrow.Author.Tests.{lt-ltb, le-ltb}
 use lib.Dec.{ltb}
 use lib.ListN.{length, take, drop, getD, set, length-drop}
 use lib.Seq.{take-length, drop-cons}
-use Rattle.lists.specs.Weave.{weave}
-use Rattle.lists.proofs.Beside.{beside-start}
-use Rattle.lists.proofs.Rests.{drop-end}
-use Rattle.lists.proofs.Sifting.{Sifting, sifting-keep, sifting-drop, sifting-room, sifting-end}
-use Rattle.lists.proofs.Sifts.{length-sift}
+use Rattle.listlaws.specs.Weave.{weave}
+use Rattle.listlaws.proofs.Beside.{beside-start}
+use Rattle.listlaws.proofs.Rests.{drop-end}
+use Rattle.listlaws.proofs.Sifting.{Sifting, sifting-keep, sifting-drop, sifting-room, sifting-end}
+use Rattle.listlaws.proofs.Sifts.{length-sift}
 use Rattle.clock.specs.declared.Dot.{Dot}
 use Rattle.clock.specs.declared.Clock.{Clock}
-use Rattle.clock.specs.Dots.{dotLimit, noDot, dotsOf, clockOf, counterIn, beyond, cutDots, joinDots}
+use Rattle.limits.specs.Limits.{dotLimit}
+use Rattle.clock.specs.Dots.{noDot, dotsOf, clockOf, counterIn, beyond, cutDots, joinDots}
 use Rattle.clock.specs.Lawful.{Lawful}
 use Rattle.clock.proofs.Packs.{pushed}
 use Rattle.clock.proofs.Counters.{dotIn}
 use Rattle.clock.proofs.Joins.{lawful-join}
 use Rattle.clock.proofs.Walks.{Walk}
-use Rattle.parts.specs.Entries.{keepDots}
+use Rattle.entries.specs.Entries.{keepDots}
 use Rattle.keeping.specs.declared.Meeting.{Meeting}
 use Rattle.keeping.specs.declared.Sought.{Sought}
 use Rattle.keeping.specs.Keeping.{keptCounter, sought}

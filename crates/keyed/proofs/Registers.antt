@@ -5,9 +5,10 @@ use Prim.Native.Nat.{ℕ, _*_, _-_, _≤_}
 use native.Mathlib.Omega.{arith}
 use lib.ListN.{length, take, drop, length-take, length-map}
 use Rattle.clock.specs.declared.Dot.{Dot}
-use Rattle.clock.specs.Dots.{dotLimit, clockOf}
-use Rattle.parts.specs.declared.Entry.{Entry}
-use Rattle.parts.specs.Model.{dotsIn}
+use Rattle.limits.specs.Limits.{dotLimit}
+use Rattle.clock.specs.Dots.{clockOf}
+use Rattle.entries.specs.declared.Entry.{Entry}
+use Rattle.entries.specs.Model.{dotsIn}
 use Rattle.clockimage.specs.Image.{dotOf, dotRecord, dotRecords}
 use Rattle.clockimage.proofs.RoundTrip.{dots-back}
 use Rattle.runs.specs.Run.{runDots}
@@ -17,12 +18,19 @@ use Rattle.keyed.specs.Keyed.{EntryLies}
 use Rattle.walks.proofs.Loops.{length-part, clock-between}
 
 -- the clock of a slice that holds a run of dots, which is short enough
-module _ (s : List ℕ) (i j kind index key : ℕ) (ds : List Dot) (h : i ≤ j) (inside : j * 16 ≤ length s) (e : part s i j ≡ dotRecords kind index key ds) where
+module _ (s : List ℕ) (i j kind index key : ℕ) (ds : List Dot) (h : i ≤ j) (inside : j * 16 ≤ length s)
+    (e : part s i j ≡ dotRecords kind index key ds) where
   pub clock-there : clockOf (runDots (take (j * 16 - i * 16) (drop (i * 16) s))) ≡ clockOf ds
   clock-there = clock-between s i j h inside ∙ ap clockOf (ap (map dotOf) e ∙ dots-back kind index key ds)
 
   pub short-there : length ds ≤ dotLimit → length (take (j * 16 - i * 16) (drop (i * 16) s)) ≤ dotLimit * 16
-  short-there n = omega (arith, length-take (j * 16 - i * 16) (drop (i * 16) s), length-part s i j, ap length e, length-map ds (dotRecord kind index key))
+  short-there n = omega (
+    arith,
+    length-take (j * 16 - i * 16) (drop (i * 16) s),
+    length-part s i j,
+    ap length e,
+    length-map ds (dotRecord kind index key),
+  )
 
 -- so of an entry's dots
 module _ {s : List ℕ} {e : Entry} {r : Spans} (h : EntryLies s e r) where

@@ -5,11 +5,12 @@ use Prim.Native.Nat.{ℕ, _+_, _*_, _-_, _≤_, _<_}
 use native.Mathlib.Omega.{arith}
 use lib.ListN.{length, take, drop, getD, length-append, length-map}
 use borrow.Author.Tests.{ltb-true}
-use Rattle.lists.proofs.Orders.{tail-ascends, head-before}
+use Rattle.listlaws.proofs.Orders.{tail-ascends, head-before}
 use Rattle.clock.specs.declared.Clock.{Clock}
-use Rattle.clock.specs.Dots.{dotLimit, clockOf}
-use Rattle.parts.specs.declared.Entry.{Entry}
-use Rattle.parts.specs.Model.{dotsIn}
+use Rattle.limits.specs.Limits.{dotLimit}
+use Rattle.clock.specs.Dots.{clockOf}
+use Rattle.entries.specs.declared.Entry.{Entry}
+use Rattle.entries.specs.Model.{dotsIn}
 use Rattle.map.specs.declared.Map.{Map}
 use Rattle.map.specs.Model.{entriesIn}
 use Rattle.map.proofs.Accepts.{fits-means}
@@ -50,10 +51,12 @@ owned-end {s} {at} {end} (e ∷ l) h n =
     omega (arith, length-append (dotRecords 2 0 (e .key) (dotsIn e)) (flatFrom (entryRecords 2) 1 l), length-map (dotsIn e) (dotRecord 2 0 (e .key))))
 
 -- the first record is of the first entry, and the search behind its key ends where the next begins
-module _ {s : List ℕ} {at end : ℕ} (room : at < end) (r : Record) (er : r ≡ recordFrom s (at * 16)) (next : ℕ) (before : at ≤ next) (within : next ≤ end)
+module _ {s : List ℕ} {at end : ℕ} (room : at < end) (r : Record) (er : r ≡ recordFrom s (at * 16)) (next : ℕ) (before : at ≤ next)
+    (within : next ≤ end)
     (found : (at′ : ℕ) → Splits s 1 (r .key + 1) at end at′ → next ≡ at′) where
   pub stops : (l : List Entry) → Owned s at end l → (length (take (next * 16 - at * 16) (drop (at * 16) s)) ≤ dotLimit * 16)
-      × ((clock : Clock) → clock ≡ clockOf (runDots (take (next * 16 - at * 16) (drop (at * 16) s))) → Stops s at end l (record { key = r .key; clock = clock; next = next }))
+      × ((clock : Clock) → clock ≡ clockOf (runDots (take (next * 16 - at * 16) (drop (at * 16) s)))
+      → Stops s at end l (record { key = r .key; clock = clock; next = next }))
   unfolding flatFrom
   stops [] h = absurd (let z = ap length (sym (h .records) ∙ part-on s at end room) in omega arith)
   stops (e ∷ l) h =
@@ -61,7 +64,8 @@ module _ {s : List ℕ} {at end : ℕ} (room : at < end) (r : Record) (er : r �
       let own = dotRecords 2 0 (e .key) ds in
       let rest = flatFrom (entryRecords 2) 1 l in
       let some = h .some e (List·Memᴰ·head refl) in
-      let key : r .key ≡ e .key = ap (λ (x : Record). x .key) er ∙ ap (λ k. getD k 0 noRecord .key) (sym (part-on s at end room) ∙ h .records) ∙ first-key (e .key) ds rest some .0 in
+      let key : r .key ≡ e .key = ap (λ (x : Record). x .key) er ∙ ap (λ k. getD k 0 noRecord .key) (sym (part-on s at end room) ∙ h .records)
+      ∙ first-key (e .key) ds rest some .0 in
       let cut = cut-at s 1 (r .key + 1) at end own rest next (h .order) (h .records)
       (λ x m. let q = record-key 2 0 e x m in omega arith)
       (flat-key 2 1 l (λ n. r .key + 1 ≤ n) (λ x i. let k = ltb-true (e .key) (x .key) (head-before (h .rising) x i) in omega arith)) found in
@@ -73,7 +77,12 @@ module _ {s : List ℕ} {at end : ℕ} (room : at < end) (r : Record) (er : r �
           parts = refl;
           key = key;
           clock = c ∙ clock-there s at next 2 0 (e .key) ds before inside (cut .first);
-          onward = let k = some-length ds some in omega (arith, ap length (cut .first), length-part s at next, length-map ds (dotRecord 2 0 (e .key)));
+          onward = let k = some-length ds some in omega (
+            arith,
+            ap length (cut .first),
+            length-part s at next,
+            length-map ds (dotRecord 2 0 (e .key)),
+          );
           rest = record {
             order = within;
             within = h .within;

@@ -4,14 +4,15 @@ use mathlib.Core.Bool.{false}
 use mathlib.Core.List.{List, _∷_}
 use Prim.Native.Nat.{ℕ, _*_, _≤_, _<_}
 use lib.ListN.{length}
-use Rattle.lists.specs.Order.{_∈_, Ascending, by}
-use Rattle.clock.specs.Dots.{dotLimit, dotsOf, clockOf, isEmpty}
+use Rattle.listlaws.specs.Order.{_∈_, Ascending, by}
+use Rattle.limits.specs.Limits.{dotLimit, valueLimit}
+use Rattle.clock.specs.Dots.{dotsOf, clockOf, isEmpty}
 use Rattle.register.specs.declared.Value.{Value}
-use Rattle.register.specs.Values.{valueLimit}
-use Rattle.parts.specs.declared.Entry.{Entry}
-use Rattle.parts.specs.Model.{dotsIn, valuesIn}
-use Rattle.parts.specs.Valid.{ValidValue}
+use Rattle.entries.specs.declared.Entry.{Entry}
+use Rattle.entries.specs.Model.{dotsIn, valuesIn}
+use Rattle.entries.specs.Valid.{ValidValue}
 use Rattle.records.specs.declared.Record.{Record}
+use Rattle.records.specs.Kinds.{entryDotKind, valueKind, valueDotKind}
 use Rattle.mapimage.specs.MapImage.{flatFrom, valueRecords, entryRecords}
 use Rattle.walks.specs.Walk.{part}
 use Rattle.walks.specs.declared.Span.{Span}
@@ -19,7 +20,7 @@ use Rattle.keyed.specs.declared.Spans.{Spans}
 use Rattle.keyed.specs.declared.Stop.{Stop}
 
 -- these records stand there, within s
-pub record Holds (s : List ℕ) (l : List Record) (r : Span) : Type 0 where
+pub record RecordsLie (s : List ℕ) (l : List Record) (r : Span) : Type 0 where
   pub order : r .from ≤ r .to
   pub within : r .to * 16 ≤ length s
   pub records : part s (r .from) (r .to) ≡ l
@@ -30,12 +31,12 @@ pub record Registered (s : List ℕ) (l : List Value) (values clocks : Span) : T
   pub few : length l ≤ valueLimit
   pub each : (v : Value) → v ∈ l → ValidValue v
   pub short : (v : Value) → v ∈ l → length (dotsOf (v .clock)) ≤ dotLimit
-  pub third : Holds s (flatFrom (valueRecords 3 key) 0 l) values
-  pub fourth : Holds s (flatFrom (valueRecords 4 key) 0 l) clocks
+  pub third : RecordsLie s (flatFrom (valueRecords valueKind key) 0 l) values
+  pub fourth : RecordsLie s (flatFrom (valueRecords valueDotKind key) 0 l) clocks
 
 -- the records of an entry
 pub record EntryLies (s : List ℕ) (e : Entry) (r : Spans) : Type 0 where
-  pub dots : Holds s (entryRecords 2 0 e) (r .dots)
+  pub dots : RecordsLie s (entryRecords entryDotKind 0 e) (r .dots)
   pub short : length (dotsIn e) ≤ dotLimit
   pub register : Registered s (valuesIn e) (r .values) (r .clocks)
   pub key : register .key ≡ e .key
@@ -44,7 +45,7 @@ pub record EntryLies (s : List ℕ) (e : Entry) (r : Spans) : Type 0 where
 pub record Owned (s : List ℕ) (at end : ℕ) (l : List Entry) : Type 0 where
   pub order : at ≤ end
   pub within : end * 16 ≤ length s
-  pub records : part s at end ≡ flatFrom (entryRecords 2) 0 l
+  pub records : part s at end ≡ flatFrom (entryRecords entryDotKind) 0 l
   pub rising : Ascending (by (λ e. e .key)) l
   pub some : (e : Entry) → e ∈ l → isEmpty (dotsIn e) ≡ false
   pub short : (e : Entry) → e ∈ l → length (dotsIn e) ≤ dotLimit

@@ -2,29 +2,30 @@
 use mathlib.Core.Path.{_≡_, refl, ap, sym, _∙_}
 use mathlib.Core.Bool.{Bool, true, false, cond, _&&_}
 use mathlib.Core.Logic.{⊎-elim}
-use mathlib.Core.List.{List, [], _∷_, _++_, List·Memᴰ·head, List·Memᴰ·tail, List·Memᴰ·not-nil, List·Memᴰ·cases-cons, List·Memᴰ·eq-of-singleton, Memᴰ·of-map}
+use mathlib.Core.List.{List, [], _∷_, _++_, List·Memᴰ·head, List·Memᴰ·tail, List·Memᴰ·not-nil, List·Memᴰ·cases-cons, List·Memᴰ·eq-of-singleton}
+use mathlib.Core.List.{Memᴰ·of-map}
 use Prim.Native.Nat.{ℕ, zero, suc, _+_, _≤_, _<_}
 use native.Mathlib.Omega.{arith}
 use lib.Dec.{eqb, ltb, leb}
 use lib.ListN.{length, drop, length-map}
 use lib.Seq.{drop-at}
 use borrow.Author.Tests.{ltb-true, lt-ltb, leb-true, le-leb, eqb-true, ne-eqb}
-use Rattle.lists.specs.Order.{_∈_, nil, next}
-use Rattle.lists.proofs.Orders.{apart, tail-ascends, head-before}
+use Rattle.listlaws.specs.Order.{_∈_, nil, next}
+use Rattle.listlaws.proofs.Orders.{apart, tail-ascends, head-before}
 use Rattle.scan.proofs.Eachs.{decide, both-left, both-right}
 use Rattle.clock.specs.declared.Dot.{Dot}
 use Rattle.clock.specs.Dots.{dotsOf, isEmpty}
 use Rattle.register.specs.declared.Value.{Value}
-use Rattle.parts.specs.declared.Entry.{Entry}
-use Rattle.parts.specs.Model.{entryLimit, dotsIn, valuesIn, entryAs}
-use Rattle.parts.specs.Valid.{ValidEntry, ValidEntries}
-use Rattle.parts.proofs.Pieces.{dots-in, values-in}
-use Rattle.parts.proofs.Bounds.{EntryFits}
+use Rattle.entries.specs.declared.Entry.{Entry}
+use Rattle.limits.specs.Limits.{entryLimit, valueLimit}
+use Rattle.entries.specs.Model.{dotsIn, valuesIn, entryAs}
+use Rattle.entries.specs.Valid.{ValidEntry, ValidEntries}
+use Rattle.entries.proofs.Packs.{dots-in, values-in}
+use Rattle.entries.proofs.Limits.{EntryFits}
 use Rattle.records.specs.declared.Record.{Record}
 use Rattle.clockimage.specs.Image.{dotRecord, dotRecords}
 use Rattle.mapimage.specs.MapImage.{flatFrom, valueRecord, valueRecords, entryRecords}
-use Rattle.oneimage.proofs.Stands.{place-in, flat-means-from}
-use Rattle.register.specs.Values.{valueLimit}
+use Rattle.oneimagelaws.proofs.Stands.{place-in, flat-means-from}
 use Rattle.walks.specs.declared.Passed.{Passed}
 use Rattle.walks.specs.Walk.{isNone, firstKey, ended, entriesEnd}
 use Rattle.layout.proofs.Runs.{OwnRun, run-own, own-lawful, own-covers, own-of}
@@ -43,7 +44,8 @@ ended-means n a b d h =
     (λ f. absurd (let k = rw f at h in omega arith))
 
 -- which of two numbers it is
-choose : (P : ℕ → Type 0) (t : Bool) (x y : ℕ) → (t ≡ true → x ≤ entryLimit → P x) → (t ≡ false → y ≤ entryLimit → P y) → cond t x y ≤ entryLimit → P (cond t x y)
+choose : (P : ℕ → Type 0) (t : Bool) (x y : ℕ) → (t ≡ true → x ≤ entryLimit → P x) → (t ≡ false → y ≤ entryLimit → P y) → cond t x y ≤ entryLimit
+    → P (cond t x y)
 choose P true x y f g h = f refl h
 choose P false x y f g h = g refl h
 
@@ -77,7 +79,8 @@ module _ (c : List Dot) where
       }
 
   -- an entry, and those behind it
-  module _ (f n low key : ℕ) (a b d : List Record) (x : OwnRun c key a) (v : Passed) (w : Taken key valueLimit 0 0 b d v) (some : 0 < length (x .dots)) (above : low ≤ key) where
+  module _ (f n low key : ℕ) (a b d : List Record) (x : OwnRun c key a) (v : Passed) (w : Taken key valueLimit 0 0 b d v)
+      (some : 0 < length (x .dots)) (above : low ≤ key) where
     abbrev its : Entry
     its = entryAs key (x .dots) (w .values)
 
@@ -86,7 +89,14 @@ module _ (c : List Dot) where
     its-valid =
         let e = dots-in key (x .dots) (w .values) in
         let g = values-in key (x .dots) (w .values) in
-        record { laid = rw (e, g); clock = rw e (own-lawful c key x); some = rw e (ne-eqb (length (x .dots)) 0 (λ e. omega arith)); covered = rw e (own-covers c key x); values = rw g (λ u i. w .each u i .valid) }
+        record {
+          laid = rw (e, g);
+          clock = rw e (own-lawful c key x);
+          some = rw e (ne-eqb (length (x .dots)) 0 (λ e. omega arith));
+          covered = rw e
+              (own-covers c key x);
+          values = rw g (λ u i. w .each u i .valid);
+        }
 
     its-fits : EntryFits its
     its-fits =
@@ -94,7 +104,8 @@ module _ (c : List Dot) where
         let g = values-in key (x .dots) (w .values) in
         record { dots = rw e (x .few); count = rw g (w .few); each = rw g (λ u i. w .each u i .few) }
 
-    one-more : (many : ℕ) → Entered f (n + 1) (key + 1) (drop (length (x .dots)) a) (drop (v .values) b) (drop (v .dots) d) many → Entered (suc f) n low a b d many
+    one-more : (many : ℕ) → Entered f (n + 1) (key + 1) (drop (length (x .dots)) a) (drop (v .values) b) (drop (v .dots) d) many
+        → Entered (suc f) n low a b d many
     unfolding flatFrom
     one-more many k =
         let e = dots-in key (x .dots) (w .values) in
@@ -108,12 +119,17 @@ module _ (c : List Dot) where
           twos = rw e (x .parts ∙ ap (λ y. dotRecords 2 0 key (x .dots) ++ y) (k .twos));
           threes = rw g (w .first ∙ ap (λ y. threes key 0 (w .values) ++ y) (ap (λ z. drop z b) p ∙ k .threes));
           fours = rw g (w .second ∙ ap (λ y. fours key 0 (w .values) ++ y) (ap (λ z. drop z d) q ∙ k .fours));
-          valid = record { rising = next (λ u i. lt-ltb key (u .key) (let z = k .from u i in omega arith)) (k .valid .rising); each = λ u i. ⊎-elim (λ (z : u ≡ its). rw z its-valid) (λ j. k .valid .each u j) (List·Memᴰ·cases-cons i) };
+          valid = record {
+            rising = next (λ u i. lt-ltb key (u .key) (let z = k .from u i in omega arith)) (k .valid .rising);
+            each = λ u i. ⊎-elim
+                (λ (z : u ≡ its). rw z its-valid) (λ j. k .valid .each u j) (List·Memᴰ·cases-cons i);
+          };
           fits = λ u i. ⊎-elim (λ (z : u ≡ its). rw z its-fits) (λ j. k .fits u j) (List·Memᴰ·cases-cons i);
           from = λ u i. ⊎-elim (λ (z : u ≡ its). rw z above) (λ j. let z = k .from u j in omega arith) (List·Memᴰ·cases-cons i);
         }
 
-  entries-step : (f n low key : ℕ) (a b d : List Record) (x : OwnRun c key a) (q : ℕ) → q ≡ length (x .dots) → (v : Passed) → (v .good ≡ true → Taken key valueLimit 0 0 b d v) → (on : ℕ)
+  entries-step : (f n low key : ℕ) (a b d : List Record) (x : OwnRun c key a) (q : ℕ) → q ≡ length (x .dots) → (v : Passed)
+      → (v .good ≡ true → Taken key valueLimit 0 0 b d v) → (on : ℕ)
       → (on ≤ entryLimit → Entered f (n + 1) (key + 1) (drop q a) (drop (v .values) b) (drop (v .dots) d) on)
       → cond (isNone a) (ended n a b d) (cond (ltb 0 q && (leb low key && v .good)) on (entryLimit + 1)) ≤ entryLimit
       → Entered (suc f) n low a b d (cond (isNone a) (ended n a b d) (cond (ltb 0 q && (leb low key && v .good)) on (entryLimit + 1)))
@@ -122,14 +138,17 @@ module _ (c : List Dot) where
       (λ t. choose (Entered (suc f) n low a b d) (ltb 0 q && (leb low key && v .good)) on (entryLimit + 1)
       (λ u m. let y = both-right (ltb 0 q) _ u in
       let some = ltb-true 0 q (both-left (ltb 0 q) _ u) in
-      one-more f n low key a b d x v (w (both-right (leb low key) (v .good) y)) (omega arith) (leb-true low key (both-left (leb low key) (v .good) y)) on (rw e at (k m)))
+      one-more f n low key a b d x v (w (both-right (leb low key) (v .good) y)) (omega arith)
+      (leb-true low key (both-left (leb low key) (v .good) y)) on (rw e at (k m)))
       (λ u m. absurd (omega arith))) h
 
-  pub entries-mean : (f n low : ℕ) (a b d : List Record) → entriesEnd c f n low a b d ≤ entryLimit → Entered f n low a b d (entriesEnd c f n low a b d)
+  pub entries-mean : (f n low : ℕ) (a b d : List Record) → entriesEnd c f n low a b d ≤ entryLimit
+      → Entered f n low a b d (entriesEnd c f n low a b d)
   unfolding entriesEnd
   entries-mean zero n low a b d h = none zero n low a b d h
   entries-mean (suc f) n low a b d h =
-      entries-step f n low (firstKey a) a b d (run-own c (firstKey a) a) _ (run-own c (firstKey a) a .count ∙ omega arith) _ (values-mean (firstKey a) valueLimit 0 0 b d) _ (entries-mean f (n + 1) (firstKey a + 1) _ _ _) h
+      entries-step f n low (firstKey a) a b d (run-own c (firstKey a) a) _ (run-own c (firstKey a) a .count ∙ omega arith) _
+      (values-mean (firstKey a) valueLimit 0 0 b d) _ (entries-mean f (n + 1) (firstKey a + 1) _ _ _) h
 
 -- the key of the records of an entry, of whatever kind
 pub record-key : (kind n : ℕ) (e : Entry) (r : Record) → r ∈ entryRecords kind n e → r .key ≡ e .key
@@ -147,14 +166,16 @@ record-key kind n e r i = go (eqb kind 2) i
     go false m = let w = flat-means-from (valueRecords kind (e .key)) 0 (valuesIn e) r m in own (eqb kind 3) (0 + w .place) (w .source) (w .given)
 
 -- no record of later entries has an earlier key
-other-key : (f : ℕ → Entry → List Record) → ((n : ℕ) (e : Entry) (r : Record) → r ∈ f n e → r .key ≡ e .key) → (n key : ℕ) (es : List Entry) → ((e : Entry) → e ∈ es → key < e .key) → (r : Record) → r ∈ flatFrom f n es → r .key ≡ key → ⊥
+other-key : (f : ℕ → Entry → List Record) → ((n : ℕ) (e : Entry) (r : Record) → r ∈ f n e → r .key ≡ e .key) → (n key : ℕ) (es : List Entry)
+    → ((e : Entry) → e ∈ es → key < e .key) → (r : Record) → r ∈ flatFrom f n es → r .key ≡ key → ⊥
 other-key f g n key es h r i q =
     let w = flat-means-from f n es r i in
     let k = g (n + w .place) (w .source) r (w .given) in
     let l = h (w .source) (place-in (w .stands)) in
     omega arith
 
-pub first-key : (key : ℕ) (ds : List Dot) (rest : List Record) → isEmpty ds ≡ false → (firstKey (dotRecords 2 0 key ds ++ rest) ≡ key) × (isNone (dotRecords 2 0 key ds ++ rest) ≡ false)
+pub first-key : (key : ℕ) (ds : List Dot) (rest : List Record) → isEmpty ds ≡ false
+    → (firstKey (dotRecords 2 0 key ds ++ rest) ≡ key) × (isNone (dotRecords 2 0 key ds ++ rest) ≡ false)
 unfolding isEmpty
 first-key key [] rest z = apart z
 first-key key (d ∷ ds) rest z = (refl, ne-eqb (length (dotRecords 2 0 key (d ∷ ds) ++ rest)) 0 (λ e. omega arith))
@@ -170,7 +191,8 @@ length-threes key i [] = refl
 length-threes key i (v ∷ vs) = ap suc (length-threes key (i + 1) vs)
 
 module _ (c : List Dot) where
-  pub entries-count : (f n low : ℕ) (es : List Entry) → length es ≤ f → ValidEntries c es → ((e : Entry) → e ∈ es → EntryFits e) → ((e : Entry) → e ∈ es → low ≤ e .key)
+  pub entries-count : (f n low : ℕ) (es : List Entry) → length es ≤ f → ValidEntries c es → ((e : Entry) → e ∈ es → EntryFits e)
+      → ((e : Entry) → e ∈ es → low ≤ e .key)
       → entriesEnd c f n low (flatFrom (entryRecords 2) n es) (flatFrom (entryRecords 3) n es) (flatFrom (entryRecords 4) n es) ≡ n + length es
   unfolding entriesEnd flatFrom
   entries-count zero n low [] h v g l = omega arith
@@ -185,7 +207,8 @@ module _ (c : List Dot) where
       let rest3 = flatFrom (entryRecords 3) (n + 1) es in
       let rest4 = flatFrom (entryRecords 4) (n + 1) es in
       let (fk, nn) = first-key key (dotsIn e) rest2 (own .some) in
-      let q = own-of c key (dotsIn e) rest2 (own .clock) (own .covered) (fit .dots) (other-key (entryRecords 2) (record-key 2) (n + 1) key es later) in
+      let q = own-of c key (dotsIn e) rest2 (own .clock) (own .covered) (fit .dots)
+      (other-key (entryRecords 2) (record-key 2) (n + 1) key es later) in
       let w = values-count key valueLimit 0 0 (valuesIn e) rest3 rest4 (λ u i. record { valid = own .values u i; few = fit .each u i }) (fit .count)
       (other-key (entryRecords 3) (record-key 3) (n + 1) key es later) (other-key (entryRecords 4) (record-key 4) (n + 1) key es later) in
       rw (
@@ -199,5 +222,6 @@ module _ (c : List Dot) where
         drop-at (threes key 0 (valuesIn e)) rest3 (0 + length (valuesIn e)) (length-threes key 0 (valuesIn e) ∙ omega arith),
         drop-at (fours key 0 (valuesIn e)) rest4 (0 + length (fours key 0 (valuesIn e))) (omega arith),
       )
-      (entries-count f (n + 1) (key + 1) es (omega arith) (record { rising = tail-ascends (v .rising); each = λ x i. v .each x (List·Memᴰ·tail i) }) (λ x i. g x (List·Memᴰ·tail i)) (λ x i. let k = later x i in omega arith)
+      (entries-count f (n + 1) (key + 1) es (omega arith) (record { rising = tail-ascends (v .rising); each = λ x i. v .each x (List·Memᴰ·tail i) })
+      (λ x i. g x (List·Memᴰ·tail i)) (λ x i. let k = later x i in omega arith)
       ∙ omega arith)

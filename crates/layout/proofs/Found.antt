@@ -6,9 +6,10 @@ use Prim.Native.Nat.{ℕ, zero, suc, _+_, _*_, _-_, _/_, _≤_, _<_}
 use native.Mathlib.Omega.{arith}
 use lib.ListN.{length, take, drop, length-append, take-append-drop}
 use lib.Seq.{take-at, drop-at}
-use Rattle.lists.specs.Order.{_∈_}
+use Rattle.listlaws.specs.Order.{_∈_}
 use Rattle.clock.specs.Dots.{dotsOf}
-use Rattle.parts.specs.Model.{dotsIn, valuesIn, underOf}
+use Rattle.entries.specs.Model.{dotsIn, valuesIn}
+use Rattle.removals.specs.Model.{underOf}
 use Rattle.map.specs.declared.Map.{Map}
 use Rattle.map.specs.Model.{seenBy, entriesIn, waitingIn}
 use Rattle.records.specs.declared.Record.{Record}
@@ -16,7 +17,7 @@ use Rattle.records.specs.Records.{recordFrom, recordsOf}
 use Rattle.clockimage.specs.Image.{dotRecord, dotRecords}
 use Rattle.mapimage.specs.Sorted.{inOrder}
 use Rattle.mapimage.specs.MapImage.{flatFrom, valueRecords, entryRecords, waitingDots, keyNumbers, numberRecord, waitingKeys, mapRecords}
-use Rattle.oneimage.proofs.Stands.{flat-means-from}
+use Rattle.oneimagelaws.proofs.Stands.{flat-means-from}
 use Rattle.walks.specs.declared.Layout.{Layout}
 use Rattle.walks.specs.Walk.{fieldOf, Splits, part}
 use Rattle.layout.specs.Whole.{Sectioned, Parted}
@@ -27,12 +28,14 @@ module _ (s : List ℕ) where
   pub part-append : (i k j : ℕ) → i ≤ k → k ≤ j → part s i j ≡ part s i k ++ part s k j
   part-append i k j a b =
       let e : i + (k - i) ≡ k = omega arith in
-      sym (take-append-drop (k - i) (part s i j)) ∙ ap₂ _++_ (part-take s (k - i) i j (omega arith) ∙ ap (part s i) e) (part-drop s (k - i) i j (omega arith) ∙ ap (λ x. part s x j) e)
+      sym (take-append-drop (k - i) (part s i j)) ∙ ap₂ _++_ (part-take s (k - i) i j (omega arith) ∙ ap (part s i) e)
+      (part-drop s (k - i) i j (omega arith) ∙ ap (λ x. part s x j) e)
 
   -- each record between stands in a part
   part-has : (n i j : ℕ) → i + n < j → recordFrom s ((i + n) * 16) ∈ part s i j
   part-has zero i j h = let e : i + 0 ≡ i = omega arith in rw (e, part-on s i j (omega arith)) (List·Memᴰ·head refl)
-  part-has (suc n) i j h = let e : i + suc n ≡ i + 1 + n = omega arith in rw (e, part-on s i j (omega arith)) (List·Memᴰ·tail (part-has n (i + 1) j (omega arith)))
+  part-has (suc n) i j h = let e : i + suc n ≡ i + 1 + n = omega arith in
+      rw (e, part-on s i j (omega arith)) (List·Memᴰ·tail (part-has n (i + 1) j (omega arith)))
 
   each-at : (i p j : ℕ) (P : Record → Type 0) → i ≤ p → p < j → ((r : Record) → r ∈ part s i j → P r) → P (recordFrom s (p * 16))
   each-at i p j P a b f = let e : i + (p - i) ≡ p = omega arith in f (recordFrom s (p * 16)) (rw e at (part-has (p - i) i j (omega arith)))
@@ -43,7 +46,8 @@ module _ (s : List ℕ) where
     pub second : part s at j ≡ y
 
   -- x has lower fields than the bound, and y has not
-  pub cut-at : (field bound i j : ℕ) (x y : List Record) (at : ℕ) → i ≤ j → part s i j ≡ x ++ y → ((r : Record) → r ∈ x → fieldOf field r < bound) → ((r : Record) → r ∈ y → bound ≤ fieldOf field r)
+  pub cut-at : (field bound i j : ℕ) (x y : List Record) (at : ℕ) → i ≤ j → part s i j ≡ x ++ y → ((r : Record) → r ∈ x → fieldOf field r < bound)
+      → ((r : Record) → r ∈ y → bound ≤ fieldOf field r)
       → ((at′ : ℕ) → Splits s field bound i j at′ → at ≡ at′) → Cut i j x y at
   cut-at field bound i j x y at h e f g found =
       let n : i + length x ≤ j = omega (arith, length-part s i j, ap length e, length-append x y) in
@@ -76,7 +80,8 @@ dot-kind : (m : Map) (r : Record) → r ∈ flatFrom (entryRecords 4) 0 (entries
 dot-kind m r i =
     let w = flat-means-from (entryRecords 4) 0 (entriesIn m) r i in
     let v = flat-means-from (valueRecords 4 (w .source .key)) 0 (valuesIn (w .source)) r (w .given) in
-    let (d, j, e) = Memᴰ·of-map (dotRecord 4 (0 + v .place) (w .source .key)) (dotsOf (v .source .clock)) (v .given) in ap (λ (x : Record). x .kind) (sym e)
+    let (d, j, e) = Memᴰ·of-map (dotRecord 4 (0 + v .place) (w .source .key)) (dotsOf (v .source .clock)) (v .given) in
+    ap (λ (x : Record). x .kind) (sym e)
 
 waiting-kind : (m : Map) (r : Record) → r ∈ flatFrom waitingDots 0 (waitingIn m) → r .kind ≡ 5
 waiting-kind m r i =
@@ -87,7 +92,8 @@ key-kind : (m : Map) (r : Record) → r ∈ waitingKeys (waitingIn m) → r .kin
 key-kind m r i = let (x, j, e) = Memᴰ·of-map numberRecord (inOrder (flatFrom keyNumbers 0 (waitingIn m))) i in ap (λ (x : Record). x .kind) (sym e)
 
 -- records of a kind and those of higher kinds
-over : (n : ℕ) (x y : List Record) → ((r : Record) → r ∈ x → r .kind ≡ n) → ((r : Record) → r ∈ y → n + 1 ≤ r .kind) → (r : Record) → r ∈ (x ++ y) → n ≤ r .kind
+over : (n : ℕ) (x y : List Record) → ((r : Record) → r ∈ x → r .kind ≡ n) → ((r : Record) → r ∈ y → n + 1 ≤ r .kind) → (r : Record) → r ∈ (x ++ y)
+    → n ≤ r .kind
 over n x y f g r i = ⊎-elim (λ a. let k = f r a in omega arith) (λ b. let k = g r b in omega arith) (List·Memᴰ·append-cases x i)
 
 -- all records from the first on
@@ -96,7 +102,8 @@ all-records s end e = let n : end - 0 ≡ length s / 16 = omega arith in rw n
 
 -- the places that were found cut the image of a map into its sections
 pub sections-found : (s : List ℕ) (l : Layout) (m : Map) → Parted s l → mapRecords m ≡ recordsOf s
-    → Sectioned m (part s 0 (l .second)) (part s (l .second) (l .third)) (part s (l .third) (l .fourth)) (part s (l .fourth) (l .fifth)) (part s (l .fifth) (l .sixth)) (part s (l .sixth) (l .end))
+    → Sectioned m (part s 0 (l .second)) (part s (l .second) (l .third)) (part s (l .third) (l .fourth)) (part s (l .fourth) (l .fifth))
+    (part s (l .fifth) (l .sixth)) (part s (l .sixth) (l .end))
 sections-found s l m p e =
     let k5 : (r : Record) → r ∈ waitingKeys (waitingIn m) → 5 + 1 ≤ r .kind = λ r i. (let k = key-kind m r i in omega arith) in
     let k4 = over 5 (flatFrom waitingDots 0 (waitingIn m)) _ (waiting-kind m) k5 in
@@ -109,9 +116,22 @@ sections-found s l m p e =
     let q3 = q .fourth in
     let q4 = q .fifth in
     let q5 = q .sixth in
-    let c1 = cut-at s 0 2 0 (l .end) (dotRecords 1 0 0 (seenBy m)) _ (l .second) (omega arith) (all-records s (l .end) (p .end) ∙ sym e) (λ r i. (let k = clock-kind m r i in omega arith)) k1 (p .second) in
-    let c2 = cut-at s 0 3 (l .second) (l .end) (flatFrom (entryRecords 2) 0 (entriesIn m)) _ (l .third) (omega arith) (c1 .second) (λ r i. (let k = entry-kind m r i in omega arith)) k2 (p .third) in
-    let c3 = cut-at s 0 4 (l .third) (l .end) (flatFrom (entryRecords 3) 0 (entriesIn m)) _ (l .fourth) (omega arith) (c2 .second) (λ r i. (let k = value-kind m r i in omega arith)) k3 (p .fourth) in
-    let c4 = cut-at s 0 5 (l .fourth) (l .end) (flatFrom (entryRecords 4) 0 (entriesIn m)) _ (l .fifth) (omega arith) (c3 .second) (λ r i. (let k = dot-kind m r i in omega arith)) k4 (p .fifth) in
-    let c5 = cut-at s 0 6 (l .fifth) (l .end) (flatFrom waitingDots 0 (waitingIn m)) _ (l .sixth) (omega arith) (c4 .second) (λ r i. (let k = waiting-kind m r i in omega arith)) k5 (p .sixth) in
-    record { first = sym (c1 .first); second = sym (c2 .first); third = sym (c3 .first); fourth = sym (c4 .first); fifth = sym (c5 .first); sixth = sym (c5 .second) }
+    let c1 = cut-at s 0 2 0 (l .end) (dotRecords 1 0 0 (seenBy m)) _ (l .second) (omega arith) (all-records s (l .end) (p .end) ∙ sym e)
+    (λ r i. (let k = clock-kind m r i in omega arith)) k1 (p .second) in
+    let c2 = cut-at s 0 3 (l .second) (l .end) (flatFrom (entryRecords 2) 0 (entriesIn m)) _ (l .third) (omega arith) (c1 .second)
+    (λ r i. (let k = entry-kind m r i in omega arith)) k2 (p .third) in
+    let c3 = cut-at s 0 4 (l .third) (l .end) (flatFrom (entryRecords 3) 0 (entriesIn m)) _ (l .fourth) (omega arith) (c2 .second)
+    (λ r i. (let k = value-kind m r i in omega arith)) k3 (p .fourth) in
+    let c4 = cut-at s 0 5 (l .fourth) (l .end) (flatFrom (entryRecords 4) 0 (entriesIn m)) _ (l .fifth) (omega arith) (c3 .second)
+    (λ r i. (let k = dot-kind m r i in omega arith)) k4 (p .fifth) in
+    let c5 = cut-at s 0 6 (l .fifth) (l .end) (flatFrom waitingDots 0 (waitingIn m)) _ (l .sixth) (omega arith) (c4 .second)
+    (λ r i. (let k = waiting-kind m r i in omega arith)) k5 (p .sixth) in
+    record {
+      first = sym (c1 .first);
+      second = sym (c2 .first);
+      third = sym (c3 .first);
+      fourth = sym (c4 .first);
+      fifth = sym
+          (c5 .first);
+      sixth = sym (c5 .second);
+    }

@@ -1,4 +1,5 @@
--- The waiting removals of an image: clocks of kind 5 and keys of kind 6 that the walks accept are the records of valid removals, and those of valid removals are accepted.
+-- The waiting removals of an image: clocks of kind 5 and keys of kind 6 that the walks accept are the records of valid removals, and those
+-- of valid removals are accepted.
 use mathlib.Core.Path.{_≡_, refl, ap, ap₂, sym, _∙_}
 use mathlib.Core.Bool.{true, false}
 use mathlib.Core.List.{List, [], _∷_, _++_, map, List·Memᴰ·head, List·Memᴰ·tail, Memᴰ·map, Memᴰ·of-map, Memᴰ·cast}
@@ -8,27 +9,28 @@ use lib.Dec.{ltb}
 use lib.ListN.{length, getD, replicate, length-map, length-replicate, getD-replicate}
 use borrow.Author.Tests.{ltb-true, ltb-false, lt-ltb, eqb-true, eq-eqb}
 use Rattle.scan.proofs.Eachs.{decide}
-use Rattle.lists.specs.Order.{_∈_, Ascending, nil, next, by}
-use Rattle.lists.specs.Sift.{those}
-use Rattle.lists.proofs.Orders.{tail-ascends, head-before, by-strict, same-members, no-longer}
-use Rattle.lists.proofs.Those.{those-means, those-holds, those-ascends}
+use Rattle.listlaws.specs.Order.{_∈_, Ascending, nil, next, by}
+use Rattle.listlaws.specs.Sift.{those}
+use Rattle.listlaws.proofs.Orders.{tail-ascends, head-before, by-strict, same-members, no-longer}
+use Rattle.listlaws.proofs.Those.{those-means, those-holds, those-ascends}
 use Rattle.clock.specs.declared.Dot.{Dot}
 use Rattle.clock.specs.Dots.{isEmpty}
-use Rattle.parts.specs.declared.Removal.{Removal}
-use Rattle.parts.specs.Model.{waitingLimit, keyLimit, underOf, listedIn, removalAs, noRemoval}
-use Rattle.parts.specs.Waits.{clockBefore, removalBefore}
-use Rattle.parts.specs.Valid.{ValidWaiting}
-use Rattle.parts.proofs.Bounds.{RemovalFits}
+use Rattle.removals.specs.declared.Removal.{Removal}
+use Rattle.limits.specs.Limits.{waitingLimit, keyLimit}
+use Rattle.removals.specs.Model.{underOf, listedIn, removalAs, noRemoval}
+use Rattle.removals.specs.Waits.{clockBefore, removalBefore}
+use Rattle.removals.specs.Valid.{ValidWaiting}
+use Rattle.removals.proofs.Lengths.{RemovalFits}
 use Rattle.records.specs.declared.Record.{Record}
 use Rattle.records.proofs.RoundTrips.{by-fields}
 use Rattle.mapimage.specs.Sorted.{inOrder}
 use Rattle.mapimage.specs.MapImage.{flatFrom, waitingDots, keyNumber, keyNumbers, numberRecord, waitingKeys}
 use Rattle.mapimage.proofs.Sorts.{order-ascends, order-has, order-from-list}
 use Rattle.maprecords.specs.Reading.{placesFrom}
-use Rattle.accepted.proofs.Waited.{under-as, listed-as, removal-as}
-use Rattle.oneimage.proofs.Stands.{Place, place-in, place-below, place-get, place-one, flat-has, flat-means}
-use Rattle.oneimage.proofs.Made.{place-of, of-place}
-use Rattle.oneimage.proofs.Places.{places-means}
+use Rattle.acceptancelaws.proofs.Waited.{under-as, listed-as, removal-as}
+use Rattle.oneimagelaws.proofs.Stands.{Place, place-in, place-below, place-get, place-one, flat-has, flat-means}
+use Rattle.oneimagelaws.proofs.Made.{place-of, of-place}
+use Rattle.oneimagelaws.proofs.Places.{places-means}
 use Rattle.walks.specs.Walk.{keysGood}
 use Rattle.layout.proofs.Waiting.{Clocked, fives}
 use Rattle.walks.proofs.Keys.{KeyFields, rank, underOne, Listed, keys-hold}
@@ -68,7 +70,8 @@ unfolding placesFrom
 removals-rise l i [] a = nil
 removals-rise l i (c ∷ cs) a =
     next {x = removalFor l i c} (λ q m. let r = places-means (removalFor l) (i + 1) cs q m in
-    rw (r .given, under-as c (keysUnder i l), under-as (r .source) (keysUnder (i + 1 + r .place) l)) (head-before a (r .source) (place-in (r .stands))))
+    rw (r .given, under-as c (keysUnder i l), under-as (r .source) (keysUnder (i + 1 + r .place) l))
+    (head-before a (r .source) (place-in (r .stands))))
     (removals-rise l (i + 1) cs (tail-ascends a))
 
 -- a record that passes is that of its number
@@ -98,16 +101,19 @@ module _ (cs : List (List Dot)) (l : List Record) (small : length cs ≤ waiting
       let p = place-get cs j [] (h .each r i .low) in
       let q = place-of (removalFor l) p in
       let c = getD cs j [] in
-      let a : r .key ∈ listedIn (removalFor l j c) = rw (listed-as c (keysUnder j l)) (Memᴰ·map (λ (r : Record). r .key) (those-holds (underOne j) i (eq-eqb j j refl))) in
+      let a : r .key ∈ listedIn (removalFor l j c) = rw (listed-as c (keysUnder j l))
+      (Memᴰ·map (λ (r : Record). r .key) (those-holds (underOne j) i (eq-eqb j j refl))) in
       Memᴰ·cast (sym e) (flat-has keyNumbers q (keyNumber j (r .key)) (Memᴰ·map (keyNumber j) a))
 
   ranks-rise : (m : List Record) → Ascending (by rank) m → Ascending (by (λ n. n)) (map rank m)
   ranks-rise [] a = nil
-  ranks-rise (r ∷ m) a = next {x = rank r} (λ x i. let (y, j, e) = Memᴰ·of-map rank m i in rw (← e) (head-before a y j)) (ranks-rise m (tail-ascends a))
+  ranks-rise (r ∷ m) a = next {x = rank r} (λ x i. let (y, j, e) = Memᴰ·of-map rank m i in rw (← e) (head-before a y j))
+      (ranks-rise m (tail-ascends a))
 
   pub keys-back : waitingKeys ws ≡ l
   keys-back =
-      ap (map numberRecord) (same-members (by-strict (λ n. n)) (inOrder (flatFrom keyNumbers 0 ws)) (map rank l) (order-ascends (flatFrom keyNumbers 0 ws)) (ranks-rise l (h .rising))
+      ap (map numberRecord) (same-members (by-strict (λ n. n)) (inOrder (flatFrom keyNumbers 0 ws)) (map rank l)
+      (order-ascends (flatFrom keyNumbers 0 ws)) (ranks-rise l (h .rising))
       (λ x i. numbers-from x (order-from-list (flatFrom keyNumbers 0 ws) x i)) (λ x i. order-has (flatFrom keyNumbers 0 ws) x (numbers-to x i)))
       ∙ back l (h .each)
     where
@@ -120,7 +126,8 @@ module _ (cs : List (List Dot)) (l : List Record) (small : length cs ≤ waiting
 
   module _ (rising : Ascending clockBefore cs) (each : (ds : List Dot) → ds ∈ cs → Clocked ds) where
     of-removal : (P : Removal → Type 0) → ((j : ℕ) (c : List Dot) → j < length cs → c ∈ cs → P (removalFor l j c)) → (q : Removal) → q ∈ ws → P q
-    of-removal P f q m = let r = places-means (removalFor l) 0 cs q m in rw (r .given) (f (0 + r .place) (r .source) (let k = place-below (r .stands) in omega arith) (place-in (r .stands)))
+    of-removal P f q m = let r = places-means (removalFor l) 0 cs q m in
+        rw (r .given) (f (0 + r .place) (r .source) (let k = place-below (r .stands) in omega arith) (place-in (r .stands)))
 
     pub removals-valid : ValidWaiting ws
     removals-valid = record {
@@ -138,7 +145,11 @@ module _ (cs : List (List Dot)) (l : List Record) (small : length cs ≤ waiting
         few : (j : ℕ) → j < length cs → length (keysUnder j l) ≤ keyLimit
         few j p =
             let z = getD-replicate {A = ℕ} waitingLimit j 0 0 (omega arith) in
-            omega (arith, length-map (those (underOne j) l) (λ (r : Record). r .key), h .few j (omega (arith, length-replicate {A = ℕ} waitingLimit 0)) (omega (arith, z)))
+            omega (
+              arith,
+              length-map (those (underOne j) l) (λ (r : Record). r .key),
+              h .few j (omega (arith, length-replicate {A = ℕ} waitingLimit 0)) (omega (arith, z)),
+            )
 
 -- the keys of valid removals are accepted
 module _ (w : List Removal) (small : length w ≤ waitingLimit) (v : ValidWaiting w) (fits : (q : Removal) → q ∈ w → RemovalFits q) where
@@ -186,7 +197,9 @@ module _ (w : List Removal) (small : length w ≤ waitingLimit) (v : ValidWaitin
   ranked : (m : List ℕ) → Ascending (by (λ n. n)) m → Ascending (by rank) (map numberRecord m)
   ranked [] a = nil
   ranked (x ∷ m) a =
-      next {x = numberRecord x} (λ r i. let (y, j, e) = Memᴰ·of-map numberRecord m i in rw (← e) (lt-ltb (rank (numberRecord x)) (rank (numberRecord y)) (omega (arith, rank-number x, rank-number y, ltb-true x y (head-before a y j)))))
+      next {x = numberRecord x} (λ r i. let (y, j, e) = Memᴰ·of-map numberRecord m i in
+      rw (← e) (lt-ltb (rank (numberRecord x)) (rank (numberRecord y))
+      (omega (arith, rank-number x, rank-number y, ltb-true x y (head-before a y j)))))
       (ranked m (tail-ascends a))
 
   rise : Ascending (by rank) (waitingKeys w)
@@ -198,8 +211,17 @@ module _ (w : List Removal) (small : length w ≤ waitingLimit) (v : ValidWaitin
       decide (ltb j (length w))
       (λ t. let p = place-get w j noRemoval (ltb-true j (length w) t) in
       let q = getD w j noRemoval in
-      omega (arith, fits q (place-in p) .keys, no-longer (by-strict (λ n. n)) (listedIn q) (keysUnder j (waitingKeys w)) (keys-rise j (waitingKeys w) rise) (v .each q (place-in p) .keys) (λ k i. among k i p)))
-      (λ f. omega (arith, no-longer (by-strict (λ n. n)) [] (keysUnder j (waitingKeys w)) (keys-rise j (waitingKeys w) rise) nil (λ k i. absurd (outside k i (ltb-false j (length w) f)))))
+      omega (
+        arith,
+        fits q (place-in p) .keys,
+        no-longer (by-strict (λ n. n)) (listedIn q) (keysUnder j (waitingKeys w))
+            (keys-rise j (waitingKeys w) rise) (v .each q (place-in p) .keys) (λ k i. among k i p),
+      ))
+      (λ f. omega (
+        arith,
+        no-longer (by-strict (λ n. n)) [] (keysUnder j (waitingKeys w)) (keys-rise j (waitingKeys w) rise) nil
+            (λ k i. absurd (outside k i (ltb-false j (length w) f))),
+      ))
     where
       of : (k : ℕ) → k ∈ keysUnder j (waitingKeys w) → (r : Record) × Source r × (r .key ≡ k) × (r .index ≡ j)
       of k i =
@@ -219,5 +241,6 @@ module _ (w : List Removal) (small : length w ≤ waitingLimit) (v : ValidWaitin
   pub keys-accepted : keysGood (length w) (replicate waitingLimit 0) 0 (waitingKeys w) ≡ true
   keys-accepted =
       keys-hold (length w) (replicate waitingLimit 0) 0 (waitingKeys w) (λ r i. source r i .fields) rise (λ r i. omega arith)
-      (λ j h. let z = getD-replicate {A = ℕ} waitingLimit j 0 0 (omega (arith, length-replicate {A = ℕ} waitingLimit 0)) in omega (arith, z, few j, length-map (those (underOne j) (waitingKeys w)) (λ (r : Record). r .key)))
+      (λ j h. let z = getD-replicate {A = ℕ} waitingLimit j 0 0 (omega (arith, length-replicate {A = ℕ} waitingLimit 0)) in
+      omega (arith, z, few j, length-map (those (underOne j) (waitingKeys w)) (λ (r : Record). r .key)))
       (omega (arith, length-replicate {A = ℕ} waitingLimit 0))

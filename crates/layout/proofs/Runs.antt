@@ -8,12 +8,13 @@ use native.Mathlib.Omega.{arith}
 use lib.Dec.{eqb, leb}
 use lib.ListN.{length, drop}
 use borrow.Author.Tests.{ltb-true, ltb-false, lt-ltb, le-ltb, leb-true, le-leb, eqb-true, eq-eqb}
-use Rattle.lists.specs.Order.{_∈_, Ascending, nil, next, by}
-use Rattle.lists.proofs.Orders.{tail-ascends, head-before}
-use Rattle.lists.proofs.Firsts.{none-means, none-holds}
+use Rattle.listlaws.specs.Order.{_∈_, Ascending, nil, next, by}
+use Rattle.listlaws.proofs.Orders.{tail-ascends, head-before}
+use Rattle.listlaws.proofs.Firsts.{none-means, none-holds}
 use Rattle.scan.proofs.Eachs.{decide, both, both-left, both-right}
 use Rattle.clock.specs.declared.Dot.{Dot}
-use Rattle.clock.specs.Dots.{dotLimit, counterIn, covers, beyond}
+use Rattle.limits.specs.Limits.{dotLimit}
+use Rattle.clock.specs.Dots.{counterIn, covers, beyond}
 use Rattle.clock.specs.Lawful.{Lawful}
 use Rattle.records.specs.declared.Record.{Record}
 use Rattle.records.proofs.RoundTrips.{by-fields}
@@ -43,7 +44,8 @@ module _ (kind index key : ℕ) (test : Record → Bool) where
   }
 
   module _ (header : (r : Record) → test r ≡ true → r ≡ dotRecord kind index key (dotOf r)) where
-    one-more : (low n i : ℕ) (r : Record) (l : List Record) → test r && leb low (r .actor) ≡ true → Run (r .actor + 1) n (i + 1) l → Run low (suc n) i (r ∷ l)
+    one-more : (low n i : ℕ) (r : Record) (l : List Record) → test r && leb low (r .actor) ≡ true → Run (r .actor + 1) n (i + 1) l
+        → Run low (suc n) i (r ∷ l)
     unfolding runEnd
     one-more low n i r l t w =
         let p = both-left (test r) (leb low (r .actor)) t in
@@ -63,10 +65,12 @@ module _ (kind index key : ℕ) (test : Record → Bool) where
     run-means low n i [] = none low n i [] refl
     run-means low zero i (r ∷ l) = none low zero i (r ∷ l) refl
     run-means low (suc n) i (r ∷ l) =
-        decide (test r && leb low (r .actor)) (λ t. one-more low n i r l t (run-means (r .actor + 1) n (i + 1) l)) (λ f. none low (suc n) i (r ∷ l) (rw f))
+        decide (test r && leb low (r .actor)) (λ t. one-more low n i r l t (run-means (r .actor + 1) n (i + 1) l))
+        (λ f. none low (suc n) i (r ∷ l) (rw f))
 
   -- where what follows is no part of the run, the walk takes the run and no more
-  pub run-counts : (low n i : ℕ) (ds : List Dot) (rest : List Record) → Ascending (by (λ d. d .actor)) ds → ((d : Dot) → d ∈ ds → low ≤ d .actor) → ((d : Dot) → d ∈ ds → test (dotRecord kind index key d) ≡ true)
+  pub run-counts : (low n i : ℕ) (ds : List Dot) (rest : List Record) → Ascending (by (λ d. d .actor)) ds → ((d : Dot) → d ∈ ds → low ≤ d .actor)
+      → ((d : Dot) → d ∈ ds → test (dotRecord kind index key d) ≡ true)
       → length ds ≤ n → ((r : Record) → r ∈ rest → test r ≡ false) → runEnd test low n i (dotRecords kind index key ds ++ rest) ≡ i + length ds
   unfolding runEnd
   run-counts low n i [] [] a f g h s = omega arith
@@ -75,7 +79,8 @@ module _ (kind index key : ℕ) (test : Record → Bool) where
   run-counts low zero i (d ∷ ds) rest a f g h s = absurd (omega arith)
   run-counts low (suc n) i (d ∷ ds) rest a f g h s =
       rw (g d (List·Memᴰ·head refl), le-leb low (d .actor) (f d (List·Memᴰ·head refl)))
-      (run-counts (d .actor + 1) n (i + 1) ds rest (tail-ascends a) (λ x j. let k = ltb-true (d .actor) (x .actor) (head-before a x j) in omega arith) (λ x j. g x (List·Memᴰ·tail j)) (omega arith) s
+      (run-counts (d .actor + 1) n (i + 1) ds rest (tail-ascends a) (λ x j. let k = ltb-true (d .actor) (x .actor) (head-before a x j) in omega arith)
+      (λ x j. g x (List·Memᴰ·tail j)) (omega arith) s
       ∙ omega arith)
 
 -- what passes
@@ -118,9 +123,11 @@ module _ (kind index key : ℕ) where
   pub run-lawful : {l : List Record} (w : DotRun l) → Lawful (w .dots)
   run-lawful w = record { rising = w .rising; positive = λ d i. dot-means (dotRecord kind index key d) (w .passes d i) .positive }
 
-  pub run-of : (ds : List Dot) (rest : List Record) → Lawful ds → length ds ≤ dotLimit → ((r : Record) → r ∈ rest → DotFields kind index key r → ⊥) → runEnd (dotTest kind index key) 0 dotLimit 0 (dotRecords kind index key ds ++ rest) ≡ length ds
+  pub run-of : (ds : List Dot) (rest : List Record) → Lawful ds → length ds ≤ dotLimit → ((r : Record) → r ∈ rest → DotFields kind index key r → ⊥)
+      → runEnd (dotTest kind index key) 0 dotLimit 0 (dotRecords kind index key ds ++ rest) ≡ length ds
   run-of ds rest h n s =
-      run-counts kind index key (dotTest kind index key) 0 dotLimit 0 ds rest (h .rising) (λ d i. omega arith) (λ d i. dot-holds d (h .positive d i)) n (λ r i. dot-not r (s r i)) ∙ omega arith
+      run-counts kind index key (dotTest kind index key) 0 dotLimit 0 ds rest (h .rising) (λ d i. omega arith)
+      (λ d i. dot-holds d (h .positive d i)) n (λ r i. dot-not r (s r i)) ∙ omega arith
 
 -- the dots of an entry, which the map clock covers
 module _ (c : List Dot) (key : ℕ) where
@@ -147,9 +154,11 @@ module _ (c : List Dot) (key : ℕ) where
 
   pub own-covers : {l : List Record} (w : OwnRun l) → covers c (w .dots) ≡ true
   unfolding covers
-  own-covers w = none-holds (beyond c) (w .dots) (λ d i. le-ltb (counterIn c (d .actor)) (d .counter) (own-covered (dotRecord 2 0 key d) (w .passes d i)))
+  own-covers w = none-holds (beyond c) (w .dots) (λ d i. le-ltb (counterIn c (d .actor)) (d .counter)
+      (own-covered (dotRecord 2 0 key d) (w .passes d i)))
 
-  pub own-of : (ds : List Dot) (rest : List Record) → Lawful ds → covers c ds ≡ true → length ds ≤ dotLimit → ((r : Record) → r ∈ rest → r .key ≡ key → ⊥) → runEnd (ownTest c key) 0 dotLimit 0 (dotRecords 2 0 key ds ++ rest) ≡ length ds
+  pub own-of : (ds : List Dot) (rest : List Record) → Lawful ds → covers c ds ≡ true → length ds ≤ dotLimit
+      → ((r : Record) → r ∈ rest → r .key ≡ key → ⊥) → runEnd (ownTest c key) 0 dotLimit 0 (dotRecords 2 0 key ds ++ rest) ≡ length ds
   unfolding covers
   own-of ds rest h v n s =
       run-counts 2 0 key (ownTest c key) 0 dotLimit 0 ds rest (h .rising) (λ d i. omega arith)

@@ -2,31 +2,34 @@
 use mathlib.Core.Path.{_≡_, refl, ap, ap₂, sym, _∙_}
 use mathlib.Core.Bool.{true, false, cond}
 use mathlib.Core.Logic.{⊎-elim}
-use mathlib.Core.List.{List, [], _∷_, _++_, append-assoc, List·Memᴰ·head, List·Memᴰ·tail, List·Memᴰ·not-nil, List·Memᴰ·cases-cons, List·Memᴰ·append-cases, Memᴰ·of-map}
+use mathlib.Core.List.{List, [], _∷_, _++_, append-assoc, List·Memᴰ·head, List·Memᴰ·tail, List·Memᴰ·not-nil, List·Memᴰ·cases-cons}
+use mathlib.Core.List.{List·Memᴰ·append-cases, Memᴰ·of-map}
 use Prim.Native.Nat.{ℕ, zero, suc, _+_, _≤_}
 use native.Mathlib.Omega.{arith}
 use lib.Dec.{eqb}
 use lib.ListN.{length, drop, length-append, length-map}
 use lib.Seq.{drop-at, drop-drop}
 use borrow.Author.Tests.{eqb-true, eq-eqb}
-use Rattle.lists.specs.Order.{_∈_}
-use Rattle.lists.proofs.Orders.{apart}
+use Rattle.listlaws.specs.Order.{_∈_}
+use Rattle.listlaws.proofs.Orders.{apart}
 use Rattle.scan.proofs.Eachs.{decide, both-left, both-right}
-use Rattle.clock.specs.Dots.{dotLimit, dotsOf, clockOf, isEmpty}
+use Rattle.limits.specs.Limits.{dotLimit}
+use Rattle.clock.specs.Dots.{dotsOf, clockOf, isEmpty}
 use Rattle.clock.proofs.Packs.{dots-of}
 use Rattle.register.specs.declared.Value.{Value}
-use Rattle.parts.specs.Valid.{ValidValue}
+use Rattle.entries.specs.Valid.{ValidValue}
 use Rattle.records.specs.declared.Record.{Record}
 use Rattle.records.proofs.RoundTrips.{by-fields}
 use Rattle.clockimage.specs.Image.{dotRecord, dotRecords, contentOf}
 use Rattle.mapimage.specs.MapImage.{flatFrom, valueRecord, valueRecords}
-use Rattle.oneimage.proofs.Stands.{flat-means-from}
+use Rattle.oneimagelaws.proofs.Stands.{flat-means-from}
 use Rattle.walks.specs.declared.Passed.{Passed}
 use Rattle.walks.specs.Walk.{dotTest, valueTest, runEnd, valuesEnd}
 use Rattle.layout.proofs.Runs.{DotRun, run-dots, run-lawful, run-of}
 
 -- a list in two parts and a rest
-pub two-parts : {A : Type 0} (l p q : List A) (m k : ℕ) → l ≡ p ++ drop m l → drop m l ≡ q ++ drop k (drop m l) → length p ≡ m → length q ≡ k → l ≡ (p ++ q) ++ drop (length (p ++ q)) l
+pub two-parts : {A : Type 0} (l p q : List A) (m k : ℕ) → l ≡ p ++ drop m l → drop m l ≡ q ++ drop k (drop m l) → length p ≡ m → length q ≡ k
+    → l ≡ (p ++ q) ++ drop (length (p ++ q)) l
 two-parts l p q m k e f g h =
     let n : m + k ≡ length (p ++ q) = omega (arith, length-append p q) in
     e ∙ ap (λ y. p ++ y) (f ∙ ap (λ y. q ++ y) (drop-drop k m l ∙ ap (λ z. drop z l) n)) ∙ sym (append-assoc p q (drop (length (p ++ q)) l))
@@ -73,7 +76,8 @@ module _ (key : ℕ) where
       (sym (ap (λ x. x .origin) e)) (eqb-true _ _ (both-right (eqb (r .index) i) _ u)) (sym (ap (λ x. x .number) e))
 
   -- one value and its dots, and those behind them
-  one-more : (n i p : ℕ) (r : Record) (b d : List Record) (x : DotRun 4 i key d) (q : ℕ) → q ≡ length (x .dots) → valueTest key i r ≡ true → eqb q 0 ≡ false → (w : Passed)
+  one-more : (n i p : ℕ) (r : Record) (b d : List Record) (x : DotRun 4 i key d) (q : ℕ) → q ≡ length (x .dots) → valueTest key i r ≡ true
+      → eqb q 0 ≡ false → (w : Passed)
       → Taken n (i + 1) (p + q) b (drop q d) w → Taken (suc n) i p (r ∷ b) d w
   unfolding flatFrom isEmpty
   one-more n i p r b d x q y t z w k =
@@ -86,15 +90,21 @@ module _ (key : ℕ) where
         many = k .many ∙ omega arith;
         dots = k .dots ∙ rw e (omega arith);
         first = ap₂ _∷_ (value-header i r v t refl) (k .first);
-        second = rw e (two-parts d (dotRecords 4 i key (x .dots)) (fours (i + 1) (k .values)) q (length (fours (i + 1) (k .values))) (rw (← y) at (x .parts)) (k .second) (m ∙ sym y) refl);
+        second = rw e (two-parts d (dotRecords 4 i key (x .dots)) (fours (i + 1) (k .values)) q (length (fours (i + 1) (k .values)))
+            (rw (← y) at (x .parts)) (k .second) (m ∙ sym y) refl);
         few = let q = k .few in omega arith;
-        each = λ u j. ⊎-elim (λ (q : u ≡ v). rw q (record { valid = record { laid = rw e; clock = rw e (run-lawful 4 i key x); some = rw e (rw y at z) }; few = rw e (x .few) })) (λ q. k .each u q) (List·Memᴰ·cases-cons j);
+        each = λ u j. ⊎-elim (λ (q : u ≡ v). rw q
+            (record { valid = record { laid = rw e; clock = rw e (run-lawful 4 i key x); some = rw e (rw y at z) }; few = rw e (x .few) }))
+            (λ q. k .each u q) (List·Memᴰ·cases-cons j);
       }
 
   values-step : (n i p : ℕ) (r : Record) (b d : List Record) (x : DotRun 4 i key d) (q : ℕ) → q ≡ length (x .dots)
-      → (valuesEnd key n (i + 1) (p + q) b (drop q d) .good ≡ true → Taken n (i + 1) (p + q) b (drop q d) (valuesEnd key n (i + 1) (p + q) b (drop q d)))
-      → cond (valueTest key i r) (cond (eqb q 0) (record { good = false; values = i; dots = p }) (valuesEnd key n (i + 1) (p + q) b (drop q d))) (record { good = true; values = i; dots = p }) .good ≡ true
-      → Taken (suc n) i p (r ∷ b) d (cond (valueTest key i r) (cond (eqb q 0) (record { good = false; values = i; dots = p }) (valuesEnd key n (i + 1) (p + q) b (drop q d))) (record { good = true; values = i; dots = p }))
+      → (valuesEnd key n (i + 1) (p + q) b (drop q d) .good ≡ true → Taken n (i + 1) (p + q) b (drop q d)
+      (valuesEnd key n (i + 1) (p + q) b (drop q d)))
+      → cond (valueTest key i r) (cond (eqb q 0) (record { good = false; values = i; dots = p }) (valuesEnd key n (i + 1) (p + q) b (drop q d)))
+      (record { good = true; values = i; dots = p }) .good ≡ true
+      → Taken (suc n) i p (r ∷ b) d (cond (valueTest key i r) (cond (eqb q 0) (record { good = false; values = i; dots = p })
+      (valuesEnd key n (i + 1) (p + q) b (drop q d))) (record { good = true; values = i; dots = p }))
   values-step n i p r b d x q e more g =
       decide (valueTest key i r)
       (λ t. decide (eqb q 0) (λ z. apart (sym (rw (t, z) at g))) (λ z. rw (t, z) (one-more n i p r b d x q e t z _ (more (rw (t, z) at g)))))
@@ -104,13 +114,15 @@ module _ (key : ℕ) where
   unfolding valuesEnd
   values-mean n i p [] d g = none n i p [] d _ refl
   values-mean zero i p (r ∷ b) d g = none zero i p (r ∷ b) d _ refl
-  values-mean (suc n) i p (r ∷ b) d g = values-step n i p r b d (run-dots 4 i key d) _ (run-dots 4 i key d .count ∙ omega arith) (values-mean n (i + 1) _ b _) g
+  values-mean (suc n) i p (r ∷ b) d g = values-step n i p r b d (run-dots 4 i key d) _ (run-dots 4 i key d .count ∙ omega arith)
+      (values-mean n (i + 1) _ b _) g
 
   -- a record behind a key's values has another key
   value-not : (i : ℕ) (r : Record) → (r .key ≡ key → ⊥) → valueTest key i r ≡ false
   unfolding valueTest
   value-not i r n =
-      decide (valueTest key i r) (λ t. absurd (n (eqb-true (r .key) key (both-right (eqb (r .index) i) _ (both-right (eqb (r .kind) 3) _ t))))) (λ f. f)
+      decide (valueTest key i r) (λ t. absurd (n (eqb-true (r .key) key (both-right (eqb (r .index) i) _ (both-right (eqb (r .kind) 3) _ t)))))
+      (λ f. f)
 
   value-holds : (i : ℕ) (v : Value) → valueTest key i (valueRecord key i v) ≡ true
   unfolding valueTest
@@ -123,13 +135,17 @@ module _ (key : ℕ) where
       let (d, j, e) = Memᴰ·of-map (dotRecord 4 (i + w .place) key) (dotsOf (w .source .clock)) (w .given) in
       let q = ap (λ (x : Record). x .index) e in omega arith
 
-  pub values-count : (n i p : ℕ) (vs : List Value) (b d : List Record) → ((v : Value) → v ∈ vs → ValueFits v) → length vs ≤ n → ((r : Record) → r ∈ b → r .key ≡ key → ⊥) → ((r : Record) → r ∈ d → r .key ≡ key → ⊥)
+  pub values-count : (n i p : ℕ) (vs : List Value) (b d : List Record) → ((v : Value) → v ∈ vs → ValueFits v) → length vs ≤ n
+      → ((r : Record) → r ∈ b → r .key ≡ key → ⊥) → ((r : Record) → r ∈ d → r .key ≡ key → ⊥)
       → valuesEnd key n i p (threes i vs ++ b) (fours i vs ++ d) ≡ record { good = true; values = i + length vs; dots = p + length (fours i vs) }
   unfolding valuesEnd flatFrom isEmpty
-  values-count n i p [] [] d f h s t = (let x : i ≡ i + 0 = omega arith in let y : p ≡ p + 0 = omega arith in λ k. record { good = true; values = x k; dots = y k })
-  values-count zero i p [] (r ∷ b) d f h s t = (let x : i ≡ i + 0 = omega arith in let y : p ≡ p + 0 = omega arith in λ k. record { good = true; values = x k; dots = y k })
+  values-count n i p [] [] d f h s t = (let x : i ≡ i + 0 = omega arith in let y : p ≡ p + 0 = omega arith in
+      λ k. record { good = true; values = x k; dots = y k })
+  values-count zero i p [] (r ∷ b) d f h s t = (let x : i ≡ i + 0 = omega arith in let y : p ≡ p + 0 = omega arith in
+      λ k. record { good = true; values = x k; dots = y k })
   values-count (suc n) i p [] (r ∷ b) d f h s t =
-      rw (value-not i r (s r (List·Memᴰ·head refl))) (let x : i ≡ i + 0 = omega arith in let y : p ≡ p + 0 = omega arith in λ k. record { good = true; values = x k; dots = y k })
+      rw (value-not i r (s r (List·Memᴰ·head refl))) (let x : i ≡ i + 0 = omega arith in let y : p ≡ p + 0 = omega arith in
+      λ k. record { good = true; values = x k; dots = y k })
   values-count zero i p (v ∷ vs) b d f h s t = absurd (omega arith)
   values-count (suc n) i p (v ∷ vs) b d f h s t =
       let g = f v (List·Memᴰ·head refl) in
@@ -138,7 +154,8 @@ module _ (key : ℕ) where
       let rest = fours (i + 1) vs ++ d in
       let q : runEnd (dotTest 4 i key) 0 dotLimit 0 (l ++ rest) ≡ length ds =
       run-of 4 i key ds rest (g .valid .clock) (g .few)
-      (λ r m y. ⊎-elim (λ a. let k = fours-later (i + 1) vs r a in let e = y .index-is in absurd (omega arith)) (λ a. t r a (y .key-is)) (List·Memᴰ·append-cases (fours (i + 1) vs) m)) in
+      (λ r m y. ⊎-elim (λ a. let k = fours-later (i + 1) vs r a in let e = y .index-is in absurd (omega arith)) (λ a. t r a (y .key-is))
+      (List·Memᴰ·append-cases (fours (i + 1) vs) m)) in
       let e = length-map ds (dotRecord 4 i key) in
       rw (append-assoc l (fours (i + 1) vs) d, q, value-holds i v, some (g .valid .some), drop-at l rest (length ds) e)
       (values-count n (i + 1) (p + length ds) vs b d (λ u j. f u (List·Memᴰ·tail j)) (omega arith) s t

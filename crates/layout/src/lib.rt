@@ -5,8 +5,14 @@ ghost use Rattle.records.specs.Records.{recordsOf};
 ghost use Rattle.maprecords.specs.Related.{readMap};
 ghost use Rattle.layout.specs.Whole.{Parted, slowNumber, LaidOut};
 use clock::Clock;
-use parts::ENTRIES;
-use parts::WAITING;
+use limits::ENTRIES;
+use limits::WAITING;
+use records::CLOCK_DOT;
+use records::ENTRY_DOT;
+use records::VALUE;
+use records::VALUE_DOT;
+use records::WAITING_DOT;
+use records::WAITING_KEY;
 use scan::Scan;
 use walks::BY_KIND;
 use walks::Layout;
@@ -16,11 +22,11 @@ fn sections(s: &[u8]) -> Layout
     ensures { λ l. ⌜ Parted (now (s .entry)) l ⌝ }
 {
     let end = s.len() / 16;
-    let second = walks::first_from(s, BY_KIND, 2, 0, end);
-    let third = walks::first_from(s, BY_KIND, 3, second, end);
-    let fourth = walks::first_from(s, BY_KIND, 4, third, end);
-    let fifth = walks::first_from(s, BY_KIND, 5, fourth, end);
-    let sixth = walks::first_from(s, BY_KIND, 6, fifth, end);
+    let second = walks::first_from(s, BY_KIND, ENTRY_DOT as u64, 0, end);
+    let third = walks::first_from(s, BY_KIND, VALUE as u64, second, end);
+    let fourth = walks::first_from(s, BY_KIND, VALUE_DOT as u64, third, end);
+    let fifth = walks::first_from(s, BY_KIND, WAITING_DOT as u64, fourth, end);
+    let sixth = walks::first_from(s, BY_KIND, WAITING_KEY as u64, fifth, end);
     Layout {
         second,
         third,
@@ -29,18 +35,6 @@ fn sections(s: &[u8]) -> Layout
         sixth,
         end,
     }
-}
-
-// The waiting keys under an index, with one record more.
-fn more_under(u: u8, kind: u8) -> u8
-    ensures { λ r. ⌜ (kind ≡ 6 → u < 255 → r ≡ u + 1) × ((kind ≡ 6 → ⊥) → r ≡ u) ⌝ }
-{
-    if kind == 6 {
-        if u < 255 {
-            return u + 1;
-        }
-    }
-    u
 }
 
 // Of an image that is refused: 1 or 2 where its records show it one by one, else 3.
@@ -56,8 +50,8 @@ fn slow_number(s: &[u8]) -> u8
         i += 1;
         let x = r.index as usize;
         let u = under[x];
-        scan = scan.take(1, 6, r, u);
-        under[x] = more_under(u, r.kind);
+        scan = scan.take(CLOCK_DOT, WAITING_KEY, r, u);
+        under[x] = scan::under(u, r.kind);
     }
     if scan.number == 0 { 3 } else { scan.number }
 }
@@ -96,7 +90,7 @@ fn refused(number: u8) -> Laid
 pub fn lay_out(s: &[u8]) -> Laid
     ensures { λ r. ⌜ (r .number ≡ readMap (now (s .entry)) .number) × (r .number ≡ 0 → LaidOut (now (s .entry)) (readMap (now (s .entry)) .map) r) ⌝ }
 {
-    let number = mapreader::length_number(s.len());
+    let number = maprecords::length_number(s.len());
     if number != 0 {
         return refused(number);
     }
@@ -104,7 +98,7 @@ pub fn lay_out(s: &[u8]) -> Laid
     let second = layout.second;
     let sixth = layout.sixth;
     let end = layout.end;
-    let run = walks::run_end(s, 0, second, 1, 0, 0);
+    let run = walks::run_end(s, 0, second, CLOCK_DOT, 0, 0);
     if run != second {
         return refused(slow_number(s));
     }

@@ -1,3 +1,3 @@
-pub mod Lying
+pub mod Fates
 pub mod Growing
 pub mod Whole

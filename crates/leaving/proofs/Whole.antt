@@ -5,20 +5,21 @@ use mathlib.Core.List.{List, [], _∷_}
 use Prim.Native.Nat.{ℕ, zero, suc, _≤_, _<_}
 use native.Mathlib.Omega.{arith}
 use lib.ListN.{length, take, getD}
-use Rattle.lists.specs.First.{some, firstIn}
-use Rattle.lists.specs.Fold.{fold}
-use Rattle.lists.proofs.Orders.{apart}
+use Rattle.listlaws.specs.First.{some, firstIn}
+use Rattle.listlaws.specs.Fold.{fold}
+use Rattle.listlaws.proofs.Orders.{apart}
 use Rattle.clock.specs.declared.Clock.{Clock}
 use Rattle.clock.specs.declared.Dot.{Dot}
 use Rattle.clock.specs.Dots.{dotsOf, cutDots}
 use Rattle.clock.specs.Lawful.{Lawful}
 use Rattle.clock.proofs.Cuts.{cut-none}
-use Rattle.parts.specs.declared.Removal.{Removal}
-use Rattle.parts.specs.Model.{waitingLimit, underOf, listedIn}
-use Rattle.parts.specs.Entries.{listed}
+use Rattle.removals.specs.declared.Removal.{Removal}
+use Rattle.limits.specs.Limits.{waitingLimit}
+use Rattle.removals.specs.Model.{underOf, listedIn}
+use Rattle.removals.specs.Waits.{listed}
 use Rattle.queued.specs.declared.Queue.{Queue}
 use Rattle.queued.specs.Queue.{cutsFor, lists, Queued, Marked}
-use Rattle.leaving.specs.Left.{Untouched}
+use Rattle.leaving.specs.Left.{NothingCuts}
 
 -- no mark is set, so none at a place
 none-at : (n : ℕ) (l : List Bool) (j : ℕ) → some (λ b. b) (take n l) ≡ false → j < n → getD l j false ≡ false
@@ -42,7 +43,7 @@ cuts-marked w key x {under} {n} e few m t =
     cuts-none w key x (λ j h. sym (m .each j (omega arith)) ∙ none-at n under j t (omega (arith, e)))
 
 -- what nothing cuts stays as it is
-pub whole-left : {gone : Clock} {theirs ours : List Bool} {s t : List ℕ} {cs ds : Queue} (u : Untouched gone (ds .len) theirs (cs .len) ours)
+pub whole-left : {gone : Clock} {theirs ours : List Bool} {s t : List ℕ} {cs ds : Queue} (u : NothingCuts gone (ds .len) theirs (cs .len) ours)
     (v w : List Removal) (key : ℕ) {x : List Dot} → Lawful x → Queued t ds v → Queued s cs w → Marked v key theirs → Marked w key ours
     → cutsFor w key (cutsFor v key (cutDots (dotsOf gone) x)) ≡ x
 whole-left u v w key {x} h a b m n =

@@ -4,54 +4,32 @@ ghost use mathlib.Core.Bool.{true, cond};
 ghost use mathlib.Core.List.{List, _++_};
 ghost use Prim.Native.Nat.{ℕ, _+_, _*_, _≤_, _<_};
 ghost use lib.ListN.{length, getD, take};
-ghost use Rattle.lists.specs.First.{some};
-ghost use Rattle.lists.specs.Sift.{sift};
+ghost use Rattle.listlaws.specs.First.{some};
+ghost use Rattle.listlaws.specs.Sift.{sift};
 ghost use Rattle.clock.specs.declared.Dot.{Dot};
-ghost use Rattle.clock.specs.Dots.{dotLimit, dotsOf, clockOf, cutDots};
+ghost use Rattle.limits.specs.Limits.{dotLimit, valueLimit, waitingLimit};
+ghost use Rattle.clock.specs.Dots.{dotsOf, cutDots};
 ghost use Rattle.clock.specs.Lawful.{Lawful};
 ghost use Rattle.register.specs.declared.Value.{Value};
-ghost use Rattle.register.specs.Values.{valueLimit, noValue, alive};
-ghost use Rattle.parts.specs.declared.Entry.{Entry};
-ghost use Rattle.parts.specs.declared.Removal.{Removal};
-ghost use Rattle.parts.specs.Model.{waitingLimit, dotsIn, valuesIn};
+ghost use Rattle.register.specs.Values.{noValue, alive};
+ghost use Rattle.entries.specs.declared.Entry.{Entry};
+ghost use Rattle.removals.specs.declared.Removal.{Removal};
+ghost use Rattle.entries.specs.Model.{valuesIn};
 ghost use Rattle.mapimage.specs.MapImage.{mapLongest};
 ghost use Rattle.runs.specs.Run.{runDots};
 ghost use Rattle.marks.specs.Marks.{picked};
 ghost use Rattle.queued.specs.Queue.{cutsFor, Queued, Marked};
-ghost use Rattle.sketch.specs.Walking.{LiesAt};
-ghost use Rattle.leaving.specs.Left.{valueLeft, Untouched};
-ghost use Rattle.sketch.specs.Drawn.{valueIn, Placed, Draws};
+ghost use Rattle.entrywalk.specs.Walking.{LiesAt};
+ghost use Rattle.leaving.specs.Left.{valueLeft, NothingCuts};
+ghost use Rattle.sketch.specs.Drawn.{valueNamed, Placed, Draws};
 use clock::Clock;
-use clock::DOTS;
-use parts::WAITING;
+use entrywalk::Lain;
+use limits::DOTS;
+use limits::VALUES;
+use limits::WAITING;
 use queued::Queue;
-use register::VALUES;
-use sketch::Lain;
 use sketch::Sketched;
 use sketch::Source;
-
-// The clock of an entry.
-pub fn own_clock(s: &[u8], x: Lain) -> Clock
-    requires { ⌜ ((e : Entry) × LiesAt (now s) e x) ⌝ }
-    ensures { λ r. ⌜ ((e : Entry) → LiesAt (now (s .entry)) e x → r ≡ clockOf (dotsIn e)) ⌝ }
-{
-    let dots = x.dots;
-    let from = dots.from * 16;
-    let to = dots.to * 16;
-    marks::pick_clock(&s[from..to], [true; DOTS])
-}
-
-// The clock of an entry, without what `by` has seen.
-pub fn own_left(s: &[u8], x: Lain, by: Clock) -> Clock
-    requires { ⌜ ((e : Entry) × LiesAt (now s) e x) × Lawful (dotsOf by) ⌝ }
-    ensures { λ r. ⌜ ((e : Entry) → LiesAt (now (s .entry)) e x → r ≡ clockOf (cutDots (dotsOf by) (dotsIn e))) ⌝ }
-{
-    let dots = x.dots;
-    let from = dots.from * 16;
-    let to = dots.to * 16;
-    let left = marks::cut_marks(&s[from..to], [true; DOTS], by);
-    marks::pick_clock(&s[from..to], left)
-}
 
 // Whether one of n removals lists a key.
 fn any_listed(under: [bool; WAITING], n: usize) -> bool
@@ -77,7 +55,7 @@ fn stay_whole(
     ours: [bool; WAITING],
 ) -> bool
     requires { ⌜ (m ≤ waitingLimit) × (n ≤ waitingLimit) ⌝ }
-    ensures { λ r. ⌜ (r ≡ true → Untouched gone m theirs n ours) ⌝ }
+    ensures { λ r. ⌜ (r ≡ true → NothingCuts gone m theirs n ours) ⌝ }
 {
     if gone.is_empty() {
         if any_listed(theirs, m) {
@@ -100,8 +78,11 @@ fn marks_left(
     cs: Queue,
     ours: [bool; WAITING],
 ) -> [bool; DOTS]
-    requires { ⌜ ((length (now run) ≤ dotLimit * 16) × ((whole ≡ true → Untouched gone (ds .len) theirs (cs .len) ours) × (Lawful (runDots (now run)) × Lawful (dotsOf gone)))) × (((w : List Removal) × Queued (now t) ds w) × ((w : List Removal) × Queued (now s) cs w)) ⌝ }
-    ensures { λ r. ⌜ ((v w : List Removal) (key : ℕ) → Queued (now (t .entry)) ds v → Queued (now (s .entry)) cs w → Marked v key theirs → Marked w key ours
+    requires { ⌜ ((length (now run) ≤ dotLimit * 16) × ((whole ≡ true → NothingCuts gone (ds .len) theirs (cs .len) ours)
+        × (Lawful (runDots (now run)) × Lawful (dotsOf gone)))) × (((w : List Removal) × Queued (now t) ds w)
+        × ((w : List Removal) × Queued (now s) cs w)) ⌝ }
+    ensures { λ r. ⌜ ((v w : List Removal) (key : ℕ) → Queued (now (t .entry)) ds v → Queued (now (s .entry)) cs w → Marked v key theirs
+        → Marked w key ours
         → picked r (runDots (now (run .entry))) ≡ cutsFor w key (cutsFor v key (cutDots (dotsOf gone) (runDots (now (run .entry)))))) ⌝ }
 {
     if whole {
@@ -127,9 +108,14 @@ fn source_of(
     cs: Queue,
     ours: [bool; WAITING],
 ) -> Source
-    requires { ⌜ ((e : Entry) × LiesAt (now v) e x × (k < length (valuesIn e))) × (((whole ≡ true → Untouched gone (ds .len) theirs (cs .len) ours) × (Lawful (dotsOf gone) × (length (now v) ≤ mapLongest))) × (((w : List Removal) × Queued (now t) ds w) × ((w : List Removal) × Queued (now s) cs w))) ⌝ }
-    ensures { λ r. ⌜ ((r .second ≡ second) × ((r .from ≤ r .to) × (r .to ≤ r .from + dotLimit))) × ((e : Entry) (u w : List Removal) → LiesAt (now (v .entry)) e x → k < length (valuesIn e) → Queued (now (t .entry)) ds u → Queued (now (s .entry)) cs w
-        → Marked u (e .key) theirs → Marked w (e .key) ours → Placed (now (v .entry)) r × (valueIn (now (v .entry)) r ≡ valueLeft w u (e .key) (dotsOf gone) (getD (valuesIn e) k noValue))) ⌝ }
+    requires { ⌜ ((e : Entry) × LiesAt (now v) e x × (k < length (valuesIn e)))
+        × (((whole ≡ true → NothingCuts gone (ds .len) theirs (cs .len) ours) × (Lawful (dotsOf gone) × (length (now v) ≤ mapLongest)))
+        × (((w : List Removal) × Queued (now t) ds w) × ((w : List Removal) × Queued (now s) cs w))) ⌝ }
+    ensures { λ r. ⌜ ((r .second ≡ second) × ((r .from ≤ r .to) × (r .to ≤ r .from + dotLimit)))
+        × ((e : Entry) (u w : List Removal) → LiesAt (now (v .entry)) e x → k < length (valuesIn e) → Queued (now (t .entry)) ds u
+        → Queued (now (s .entry)) cs w
+        → Marked u (e .key) theirs → Marked w (e .key) ours → Placed (now (v .entry)) r
+        × (valueNamed (now (v .entry)) r ≡ valueLeft w u (e .key) (dotsOf gone) (getD (valuesIn e) k noValue))) ⌝ }
 {
     let starts = x.starts;
     let from = starts[k];
@@ -163,9 +149,13 @@ pub fn draw_values(
     cs: Queue,
     ours: [bool; WAITING],
 ) -> Sketched
-    requires { ⌜ (before .len ≤ valueLimit) × (((e : Entry) × LiesAt (now v) e x) × ((Lawful (dotsOf gone) × (length (now v) ≤ mapLongest)) × (((w : List Removal) × Queued (now t) ds w) × ((w : List Removal) × Queued (now s) cs w)))) ⌝ }
-    ensures { λ r. ⌜ (r .len ≤ before .len + valueLimit) × ((a b : List ℕ) (key : ℕ) (d : List Dot) (l : List Value) (e : Entry) (u w : List Removal) → cond second b a ≡ now (v .entry) → Draws a b key d l before → LiesAt (now (v .entry)) e x
-        → Queued (now (t .entry)) ds u → Queued (now (s .entry)) cs w → Marked u (e .key) theirs → Marked w (e .key) ours → Draws a b key d (l ++ sift alive (valueLeft w u (e .key) (dotsOf gone)) (picked stand (valuesIn e))) r) ⌝ }
+    requires { ⌜ (before .len ≤ valueLimit) × (((e : Entry) × LiesAt (now v) e x)
+        × ((Lawful (dotsOf gone) × (length (now v) ≤ mapLongest)) × (((w : List Removal) × Queued (now t) ds w)
+        × ((w : List Removal) × Queued (now s) cs w)))) ⌝ }
+    ensures { λ r. ⌜ (r .len ≤ before .len + valueLimit) × ((a b : List ℕ) (key : ℕ) (d : List Dot) (l : List Value) (e : Entry) (u w : List Removal)
+        → cond second b a ≡ now (v .entry) → Draws a b key d l before → LiesAt (now (v .entry)) e x
+        → Queued (now (t .entry)) ds u → Queued (now (s .entry)) cs w → Marked u (e .key) theirs → Marked w (e .key) ours
+        → Draws a b key d (l ++ sift alive (valueLeft w u (e .key) (dotsOf gone)) (picked stand (valuesIn e))) r) ⌝ }
 {
     let whole = stay_whole(gone, ds.len, theirs, cs.len, ours);
     let values = x.values;

@@ -1,19 +1,19 @@
 -- What is reported of some values and one more.
 use mathlib.Core.Path.{_≡_, refl, ap, ap₂, sym, _∙_}
-use mathlib.Core.Bool.{Bool, true, false, not, _||_}
+use mathlib.Core.Bool.{true, false, not, _||_}
 use mathlib.Core.List.{List, [], _∷_, _++_, List·Memᴰ·head}
-use Prim.Native.Nat.{ℕ, suc, _+_, _<_, _≤_, min}
+use Prim.Native.Nat.{ℕ, _+_, _<_, _≤_, min}
 use native.Mathlib.Omega.{arith}
 use lib.Dec.{eqb, ltb, eqb·suc-zero}
 use lib.ListN.{length}
 use borrow.Author.Tests.{eq-eqb, ne-eqb, ltb-true, ltb-false}
-use Rattle.lists.specs.First.{firstIn, some}
-use Rattle.lists.specs.Fold.{fold}
-use Rattle.lists.proofs.Folds.{fold-append}
-use Rattle.lists.proofs.Pads.{length-snoc}
-use Rattle.lists.proofs.Somes.{some-holds}
-use Rattle.lists.proofs.Tally.{some-snoc}
-use Rattle.lists.proofs.Orders.{apart}
+use Rattle.listlaws.specs.First.{firstIn, some}
+use Rattle.listlaws.specs.Fold.{fold}
+use Rattle.listlaws.proofs.Folds.{fold-append}
+use Rattle.listlaws.proofs.Pads.{length-snoc}
+use Rattle.listlaws.proofs.Somes.{some-holds}
+use Rattle.listlaws.proofs.Tally.{some-snoc}
+use Rattle.listlaws.proofs.Orders.{apart}
 use Rattle.scan.proofs.Eachs.{decide}
 use Rattle.register.specs.declared.Value.{Value}
 use Rattle.loader.specs.declared.Report.{Report}
@@ -42,8 +42,10 @@ module _ (w : Value) (m : List Value) (v : Value) where
     now-differ : differ after ≡ true
     now-differ =
         let s = smallest-stands before (List·Memᴰ·head refl) in
-        let t : another (v .value .number) (s .0) ≡ true = ap not (ne-eqb _ _ (λ (e : v .value .number ≡ s .0 .value .number). let q = s .2 in omega (arith, e))) in
-        differ-more ∙ ap (λ n. some (another n) before || another n v) now-smallest ∙ ap (λ b. b || another (v .value .number) v) (some-holds (another (v .value .number)) (s .1) t)
+        let t : another (v .value .number) (s .0) ≡ true = ap not (ne-eqb _ _ (λ (e : v .value .number ≡ s .0 .value .number). let q = s .2 in
+        omega (arith, e))) in
+        differ-more ∙ ap (λ n. some (another n) before || another n v) now-smallest
+        ∙ ap (λ b. b || another (v .value .number) v) (some-holds (another (v .value .number)) (s .1) t)
 
   -- one as small or larger
   module _ (h : smallest before ≤ v .value .number) where
@@ -56,7 +58,8 @@ module _ (w : Value) (m : List Value) (v : Value) where
         ∙ ap₂ (λ a b. a || b) (sym (differ-smallest before)) (same (smallest before) (v .value .number) h)
       where
         same : (a b : ℕ) → a ≤ b → not (eqb a b) ≡ ltb a b
-        same a b k = decide (ltb a b) (λ t. let h = ltb-true a b t in rw t (ap not (ne-eqb a b (λ (e : a ≡ b). omega arith)))) (λ f. let h = ltb-false a b f in rw f (ap not (eq-eqb a b (omega arith))))
+        same a b k = decide (ltb a b) (λ t. let h = ltb-true a b t in rw t (ap not (ne-eqb a b (λ (e : a ≡ b). omega arith))))
+            (λ f. let h = ltb-false a b f in rw f (ap not (eq-eqb a b (omega arith))))
 
 -- where something is found there is a value
 some-there : {r : Report} (l : List Value) → r ≡ reportOn l → r .found ≡ true → (w : Value) × (m : List Value) × (l ≡ w ∷ m)
@@ -94,7 +97,8 @@ module _ {r : Report} {n : ℕ} where
           value = (f ∙ sym (now-smallest w m v k) ∙ ap (λ x. smallest (x ++ (v ∷ []))) (sym q)) i;
         }
 
-    pub upper-more : r .value ≤ n → record { count = r .count + 1; differ = r .differ || ltb (r .value) n; found = true; value = r .value } ≡ reportOn (l ++ (v ∷ []))
+    pub upper-more : r .value ≤ n → record { count = r .count + 1; differ = r .differ || ltb (r .value) n; found = true; value = r .value } ≡ reportOn
+        (l ++ (v ∷ []))
     upper-more h =
         let (w, m, q) = some-there l e z in
         let s : r .value ≡ smallest (w ∷ m) = ap (λ (x : Report). x .value) e ∙ ap smallest q in

@@ -6,18 +6,18 @@ use Prim.Native.Nat.{ℕ, _≤_}
 use lib.Dec.{eqb, eqb·suc-zero}
 use lib.ListN.{length, replicate}
 use borrow.Author.Tests.{not-true, ne-eqb}
-use Rattle.lists.specs.Sift.{sift}
-use Rattle.lists.specs.First.{firstIn}
-use Rattle.lists.specs.Order.{_∈_}
-use Rattle.lists.proofs.Firsts.{first-none}
-use Rattle.lists.proofs.Those.{those-means, those-holds}
+use Rattle.listlaws.specs.Sift.{sift}
+use Rattle.listlaws.specs.First.{firstIn}
+use Rattle.listlaws.specs.Order.{_∈_}
+use Rattle.listlaws.proofs.Firsts.{first-none}
+use Rattle.listlaws.proofs.Those.{those-means, those-holds}
 use Rattle.register.specs.declared.Value.{Value}
-use Rattle.parts.specs.declared.Entry.{Entry}
-use Rattle.parts.specs.Model.{valuesIn, entryAs}
-use Rattle.parts.specs.Entries.{entryAt}
+use Rattle.entries.specs.declared.Entry.{Entry}
+use Rattle.entries.specs.Model.{valuesIn, entryAs}
+use Rattle.entries.specs.Entries.{entryAt}
 use Rattle.map.specs.declared.Map.{Map}
 use Rattle.map.specs.Model.{entriesIn}
-use Rattle.loader.specs.Choice.{below, remaining, smallest, differ, reportOf}
+use Rattle.loader.specs.Choice.{isBelow, undropped, smallest, differ, reportOf}
 use Rattle.loader.specs.Reports.{reportAt, reportBytes, noReport}
 use Rattle.loader.proofs.Smallest.{smallest-least, smallest-stands}
 use Rattle.loader.proofs.Strict.{some-remain}
@@ -25,22 +25,23 @@ use Rattle.loader.proofs.Strict.{some-remain}
 pub record Chosen (l : List Value) : Type 0 where
   pub taken : Value
   pub stands : taken ∈ l
-  pub remains : below l taken ≡ false
+  pub remains : isBelow l taken ≡ false
   pub reported : reportOf l .value ≡ taken .value .number
-  pub least : (w : Value) → w ∈ l → below l w ≡ false → reportOf l .value ≤ w .value .number
+  pub least : (w : Value) → w ∈ l → isBelow l w ≡ false → reportOf l .value ≤ w .value .number
 
+-- end theorems, this one and those below: what is reported of a register, and of a bay with no entry
 pub chosen : (l : List Value) {w : Value} → w ∈ l → Chosen l
-unfolding reportOf remaining
+unfolding reportOf undropped
 chosen l i =
-    let left : Value → Bool = λ v. not (below l v) in
-    let s = smallest-stands (remaining l) (some-remain l i .1) in
+    let left : Value → Bool = λ v. not (isBelow l v) in
+    let s = smallest-stands (undropped l) (some-remain l i .1) in
     let r = those-means left l (s .1) in
     record {
       taken = s .0;
       stands = r .0;
       remains = not-true _ (r .1);
       reported = sym (s .2);
-      least = λ w j n. smallest-least (remaining l) w (those-holds left j (ap not n));
+      least = λ w j n. smallest-least (undropped l) w (those-holds left j (ap not n));
     }
 
 -- found is set exactly where the register has a value
@@ -49,14 +50,14 @@ some-long [] i = absurd (List·Memᴰ·not-nil i)
 some-long (v ∷ l) i = eqb·suc-zero (length l)
 
 pub found-exactly : (l : List Value) → reportOf l .found ≡ not (eqb (length l) 0)
-unfolding reportOf remaining sift
+unfolding reportOf undropped sift
 found-exactly [] = refl
 found-exactly (v ∷ l) =
-    ap not (some-long (remaining (v ∷ l)) (some-remain (v ∷ l) (List·Memᴰ·head refl) .1) ∙ sym (eqb·suc-zero (length l)))
+    ap not (some-long (undropped (v ∷ l)) (some-remain (v ∷ l) (List·Memᴰ·head refl) .1) ∙ sym (eqb·suc-zero (length l)))
 
 -- "A missing entry or empty register reports none, all bytes zero."
 pub empty-none : reportOf [] ≡ noReport
-unfolding reportOf remaining smallest differ sift firstIn
+unfolding reportOf undropped smallest differ sift firstIn
 empty-none = refl
 
 pub missing-none : (m : Map) (bay : ℕ) → ((e : Entry) → e ∈ entriesIn m → e .key ≡ bay → ⊥) → reportAt m bay ≡ noReport

@@ -2,38 +2,34 @@
 use mathlib.Core.Path.{_≡_, refl, ap, sym, _∙_}
 use mathlib.Core.Bool.{Bool, true, false, not, cond}
 use mathlib.Core.Logic.{⊎-elim}
-use mathlib.Core.List.{List, [], _∷_, map, map-map, List·Memᴰ·head, List·Memᴰ·not-nil, List·Permᴰ, List·Permᴰ·nil, List·Permᴰ·cons, List·Permᴰ·swap, List·Permᴰ·trans, Permᴰ·symm, Permᴰ·map}
-use Prim.Native.Nat.{ℕ, suc, _≤_}
+use mathlib.Core.List.{List, [], _∷_, map, map-map, List·Memᴰ·head, List·Memᴰ·not-nil, List·Permᴰ, Permᴰ·symm, Permᴰ·map}
+use Prim.Native.Nat.{ℕ, _≤_}
 use native.Mathlib.Nat.{le-antisymm}
 use native.Mathlib.Omega.{arith}
-use lib.ListN.{length, length-map}
-use Rattle.lists.specs.Sift.{sift, those}
-use Rattle.lists.specs.First.{firstIn, some}
-use Rattle.lists.specs.Fold.{fold}
-use Rattle.lists.specs.Order.{_∈_}
-use Rattle.lists.proofs.Pads.{take-pad}
-use Rattle.lists.proofs.Perms.{perm-in, perm-those}
-use Rattle.lists.proofs.Somes.{some-cases, some-holds, false-some}
-use Rattle.lists.proofs.Those.{those-same}
+use lib.ListN.{length-map}
+use Rattle.listlaws.specs.Sift.{sift, those}
+use Rattle.listlaws.specs.First.{firstIn, some}
+use Rattle.listlaws.specs.Fold.{fold}
+use Rattle.listlaws.specs.Order.{_∈_}
+use Rattle.listlaws.proofs.Often.{perm-length}
+use Rattle.listlaws.proofs.Pads.{take-pad}
+use Rattle.listlaws.proofs.Perms.{perm-in, perm-those}
+use Rattle.listlaws.proofs.Somes.{some-cases, some-holds, false-some}
+use Rattle.listlaws.proofs.Those.{those-same}
 use Rattle.clock.specs.declared.Dot.{Dot}
-use Rattle.clock.specs.Dots.{dotLimit, noDot, dotsOf, clockOf}
+use Rattle.limits.specs.Limits.{dotLimit}
+use Rattle.clock.specs.Dots.{noDot, dotsOf, clockOf}
 use Rattle.register.specs.declared.Value.{Value}
 use Rattle.register.specs.Values.{yields}
-use Rattle.parts.specs.Model.{valuesIn}
-use Rattle.parts.specs.Entries.{entryAt}
+use Rattle.entries.specs.Model.{valuesIn}
+use Rattle.entries.specs.Entries.{entryAt}
 use Rattle.map.specs.declared.Map.{Map}
 use Rattle.map.specs.Model.{entriesIn}
-use Rattle.loader.specs.Choice.{below, remaining, smallest, another, differ, reportOn, reportOf, pairsOf}
+use Rattle.loader.specs.Choice.{isBelow, undropped, smallest, another, differ, reportOn, reportOf, pairsOf}
 use Rattle.loader.specs.Reports.{reportAt}
 use Rattle.loader.proofs.Smallest.{lower, smallest-least, smallest-stands, differ-smallest}
 
 -- the same values, in another order
-perm-length : {A : Type 0} {l m : List A} → List·Permᴰ l m → length l ≡ length m
-perm-length List·Permᴰ·nil = refl
-perm-length (List·Permᴰ·cons e d) = ap suc (perm-length d)
-perm-length (List·Permᴰ·swap e f) = refl
-perm-length (List·Permᴰ·trans d e) = perm-length d ∙ perm-length e
-
 module _ {l m : List Value} (d : List·Permᴰ l m) where
   some-perm : (p : Value → Bool) → some p l ≡ some p m
   some-perm p =
@@ -41,11 +37,11 @@ module _ {l m : List Value} (d : List·Permᴰ l m) where
       (λ f. false-some p l f ∙ sym (false-some p m (λ x i. f x (perm-in d x i))))
       (some-cases p l)
 
-  remaining-perm : List·Permᴰ (remaining l) (remaining m)
-  unfolding remaining below
+  remaining-perm : List·Permᴰ (undropped l) (undropped m)
+  unfolding undropped isBelow
   remaining-perm =
-      let e = those-same (λ v. not (below l v)) (λ v. not (below m v)) m (λ v i. ap not (some-perm (yields false v))) in
-      rw (← e) (perm-those (λ v. not (below l v)) d)
+      let e = those-same (λ v. not (isBelow l v)) (λ v. not (isBelow m v)) m (λ v i. ap not (some-perm (yields false v))) in
+      rw (← e) (perm-those (λ v. not (isBelow l v)) d)
 
 smallest-within : (l m : List Value) {w : Value} → w ∈ m → ((z : Value) → z ∈ m → z ∈ l) → smallest l ≤ smallest m
 smallest-within l m i f =
@@ -95,10 +91,10 @@ yields-laid : (v w : Value) → yields false (laid v) (laid w) ≡ yields false 
 unfolding yields
 yields-laid v w = rw (take-pad noDot dotLimit (dotsOf (v .clock)), take-pad noDot dotLimit (dotsOf (w .clock)))
 
-remaining-laid : (l : List Value) → remaining (map laid l) ≡ map laid (remaining l)
-unfolding remaining below
+remaining-laid : (l : List Value) → undropped (map laid l) ≡ map laid (undropped l)
+unfolding undropped isBelow
 remaining-laid l =
-    those-map (λ v. not (below (map laid l) v)) (λ v. not (below l v)) laid l
+    those-map (λ v. not (isBelow (map laid l) v)) (λ v. not (isBelow l v)) laid l
     (λ v. ap not (some-map (yields false (laid v)) (yields false v) laid l (yields-laid v)))
 
 smallest-laid : (l : List Value) → smallest (map laid l) ≡ smallest l
@@ -117,7 +113,7 @@ differ-laid l =
 
 report-laid : (l : List Value) → reportOf (map laid l) ≡ reportOf l
 unfolding reportOf
-report-laid l = ap reportOn (remaining-laid l) ∙ on (remaining l)
+report-laid l = ap reportOn (remaining-laid l) ∙ on (undropped l)
   where
     on : (k : List Value) → reportOn (map laid k) ≡ reportOn k
     on k = rw (length-map k laid, differ-laid k, smallest-laid k)
@@ -135,6 +131,7 @@ same-report l m d =
     pair v = (dotsOf (v .clock), v .value .number)
 
 -- so of a bay in two maps
-pub same-bay : (m n : Map) (bay : ℕ) → List·Permᴰ (pairsOf (valuesIn (entryAt bay (entriesIn m)))) (pairsOf (valuesIn (entryAt bay (entriesIn n)))) → reportAt m bay ≡ reportAt n bay
+pub same-bay : (m n : Map) (bay : ℕ) → List·Permᴰ (pairsOf (valuesIn (entryAt bay (entriesIn m)))) (pairsOf (valuesIn (entryAt bay (entriesIn n))))
+    → reportAt m bay ≡ reportAt n bay
 unfolding reportAt
 same-bay m n bay d = same-report _ _ d

@@ -6,7 +6,7 @@ use native.Mathlib.Numerals.{add-one}
 use native.Mathlib.Omega.{arith}
 use lib.ListN.{length, length-append}
 use Rattle.map.specs.declared.Map.{Map}
-use Rattle.records.specs.Records.{Wrote}
+use Rattle.records.specs.Writing.{Wrote}
 use Rattle.records.proofs.Placing.{placed-none, placed-on, length-placed}
 use Rattle.loader.specs.declared.Report.{Report}
 use Rattle.loader.specs.Reports.{reportAt, reportBytes, reportsAfter}
@@ -45,7 +45,8 @@ module _ {m : Map} {entry : List ℕ} where
         let z = w .wrote .ends in
         (omega arith, ap length (w .wrote .left) ∙ length-placed 0 (reportsAfter m 0 bay) entry (omega arith))
 
-    pub report-on : {after : ℕ} {p : List ℕ} {r : Report} → (bay + 1) * 11 ≤ length entry → r ≡ reportAt m (bay + 1) → Wrote next (reportBytes r) o p after → Reporting m entry (bay + 1) p after
+    pub report-on : {after : ℕ} {p : List ℕ} {r : Report} → (bay + 1) * 11 ≤ length entry → r ≡ reportAt m (bay + 1)
+        → Wrote next (reportBytes r) o p after → Reporting m entry (bay + 1) p after
     report-on {r = r} h e x =
         let n = length-reports m 0 bay in
         let z = w .wrote .ends in

@@ -3,27 +3,17 @@ use mathlib.Core.Path.{_≡_, refl, sym, _∙_}
 use mathlib.Core.Bool.{Bool, true, false, not}
 use mathlib.Core.Logic.{⊎-elim}
 use mathlib.Core.List.{List, [], _∷_, List·Memᴰ·head, List·Memᴰ·tail, List·Memᴰ·not-nil, List·Memᴰ·cases-cons, List·Memᴰ·eq-of-singleton}
-use native.Mathlib.Omega.{arith}
-use borrow.Author.Tests.{ltb-false, le-ltb}
-use Rattle.lists.specs.Order.{_∈_}
-use Rattle.lists.proofs.Orders.{apart}
-use Rattle.lists.proofs.Firsts.{none-means, none-holds}
-use Rattle.lists.proofs.Somes.{false-some}
-use Rattle.lists.proofs.Those.{those-holds}
+use Rattle.listlaws.specs.Order.{_∈_}
+use Rattle.listlaws.proofs.Orders.{apart}
+use Rattle.listlaws.proofs.Somes.{false-some}
+use Rattle.listlaws.proofs.Those.{those-holds}
 use Rattle.scan.proofs.Eachs.{decide}
 use Rattle.clock.specs.declared.Dot.{Dot}
-use Rattle.clock.specs.Dots.{dotsOf, counterIn, beyond, covers, outcome, orderOf}
-use Rattle.clock.proofs.Covers.{covers-means}
+use Rattle.clock.specs.Dots.{dotsOf, covers, outcome, orderOf}
+use Rattle.clock.proofs.Covers.{covers-trans}
 use Rattle.register.specs.declared.Value.{Value}
 use Rattle.register.specs.Values.{yielding, yields}
-use Rattle.loader.specs.Choice.{below, remaining}
-
--- in any lists of dots, lawful or not
-covers-on : (a b c : List Dot) → covers a b ≡ true → covers b c ≡ true → covers a c ≡ true
-unfolding covers
-covers-on a b c t u =
-    none-holds (beyond a) c
-    (λ d i. le-ltb (counterIn a (d .actor)) (d .counter) (omega (arith, covers-means a b t (d .actor), ltb-false (counterIn b (d .actor)) (d .counter) (none-means (beyond b) c u d i))))
+use Rattle.loader.specs.Choice.{isBelow, undropped}
 
 -- a clock strictly below another is covered by it and does not cover it
 abbrev Under : List Dot → List Dot → Type 0
@@ -59,7 +49,7 @@ strict-on v w x s t =
     let p = under-means v w s in
     let q = under-means w x t in
     under-holds v x
-    (decide (covers a c) (λ h. apart (sym (covers-on a c b h (q .1)) ∙ p .0)) (λ h. h), covers-on c b a (q .1) (p .1))
+    (decide (covers a c) (λ h. apart (sym (covers-trans a c b h (q .1)) ∙ p .0)) (λ h. h), covers-trans c b a (q .1) (p .1))
 
 -- one of some values is strictly below none of them
 abbrev Top : List Value → Type 0
@@ -72,13 +62,18 @@ top x (y ∷ l) = go (top y l)
     go : Top (y ∷ l) → Top (x ∷ y ∷ l)
     go (v, i, f) =
         decide (yields false v x)
-        (λ t. (x, List·Memᴰ·head refl, λ w j. ⊎-elim (λ (e : w ≡ x). rw e (strict-self x)) (λ k. decide (yields false x w) (λ u. apart (sym (strict-on v x w t u) ∙ f w k)) (λ u. u)) (List·Memᴰ·cases-cons j)))
+        (λ t. (
+          x,
+          List·Memᴰ·head refl,
+          λ w j. ⊎-elim (λ (e : w ≡ x). rw e (strict-self x))
+              (λ k. decide (yields false x w) (λ u. apart (sym (strict-on v x w t u) ∙ f w k)) (λ u. u)) (List·Memᴰ·cases-cons j),
+        ))
         (λ n. (v, List·Memᴰ·tail i, λ w j. ⊎-elim (λ (e : w ≡ x). rw e n) (λ k. f w k) (List·Memᴰ·cases-cons j)))
 
-pub some-remain : (l : List Value) {w : Value} → w ∈ l → (v : Value) × (v ∈ remaining l)
-unfolding remaining below
+pub some-remain : (l : List Value) {w : Value} → w ∈ l → (v : Value) × (v ∈ undropped l)
+unfolding undropped isBelow
 some-remain [] i = absurd (List·Memᴰ·not-nil i)
 some-remain (x ∷ l) i =
     let (v, j, f) = top x l in
-    let n : below (x ∷ l) v ≡ false = false-some (yields false v) (x ∷ l) f in
-    (v, those-holds (λ u. not (below (x ∷ l) u)) j (rw n))
+    let n : isBelow (x ∷ l) v ≡ false = false-some (yields false v) (x ∷ l) f in
+    (v, those-holds (λ u. not (isBelow (x ∷ l) u)) j (rw n))

@@ -3,13 +3,13 @@ use mathlib.Core.Path.{_≡_, refl, ap, sym, _∙_, subst}
 use mathlib.Core.List.{List, [], _∷_, map, List·Permᴰ, Permᴰ·refl}
 use Prim.Native.Nat.{ℕ}
 use lib.Dec.{eqb}
-use Rattle.lists.specs.First.{firstIn}
+use Rattle.listlaws.specs.First.{firstIn}
 use Rattle.clock.specs.Dots.{dotsOf}
 use Rattle.register.specs.declared.Value.{Value}
-use Rattle.parts.specs.declared.Entry.{Entry}
-use Rattle.parts.specs.Model.{dotsIn, valuesIn}
-use Rattle.parts.specs.Entries.{entryAt}
-use Rattle.parts.proofs.Pieces.{values-in, entries-of}
+use Rattle.entries.specs.declared.Entry.{Entry}
+use Rattle.entries.specs.Model.{dotsIn, valuesIn}
+use Rattle.entries.specs.Entries.{entryAt}
+use Rattle.entries.proofs.Packs.{values-in, entries-of}
 use Rattle.map.specs.declared.Map.{Map}
 use Rattle.map.specs.Model.{entriesIn}
 use Rattle.maprecords.specs.Related.{readMap}
@@ -33,7 +33,9 @@ at-same bay (e ∷ l) = decide (eqb (e .key) bay) (λ t. rw t (entry-same e)) (�
 held-same : (m : Map) (bay : ℕ) → pairsOf (valuesIn (entryAt bay (entriesIn (unnamed m)))) ≡ pairsOf (valuesIn (entryAt bay (entriesIn m)))
 held-same m bay = ap (λ l. pairsOf (valuesIn (entryAt bay l))) (entries-of (map unnamedEntry (entriesIn m))) ∙ at-same bay (entriesIn m)
 
-pub origins-unread : (map other : List ℕ) → readMap map .number ≡ readMap other .number → AlikeButOrigins (readMap map .map) (readMap other .map) → ReportedAlike map other
+-- an end theorem: the sentence of the request
+pub origins-unread : (map other : List ℕ) → readMap map .number ≡ readMap other .number → AlikeButOrigins (readMap map .map) (readMap other .map)
+    → ReportedAlike map other
 origins-unread image other number alike =
     any-order image other number
     (λ bay. subst (λ l. List·Permᴰ (pairsOf (valuesIn (entryAt bay (entriesIn (readMap image .map))))) l)

@@ -4,9 +4,9 @@ use mathlib.Core.List.{List, [], _∷_, map}
 use Prim.Native.Nat.{ℕ, min}
 use lib.Dec.{eqb}
 use lib.ListN.{length}
-use Rattle.lists.specs.Sift.{those}
-use Rattle.lists.specs.First.{some}
-use Rattle.lists.specs.Fold.{fold}
+use Rattle.listlaws.specs.Sift.{those}
+use Rattle.listlaws.specs.First.{some}
+use Rattle.listlaws.specs.Fold.{fold}
 use Rattle.clock.specs.declared.Dot.{Dot}
 use Rattle.clock.specs.Dots.{dotsOf}
 use Rattle.register.specs.declared.Value.{Value}
@@ -14,12 +14,12 @@ use Rattle.register.specs.Values.{yields}
 use Rattle.loader.specs.declared.Report.{Report}
 
 -- "values whose clock is strictly below another in that register"
-unfoldable pub below : List Value → Value → Bool
-below l v = some (yields false v) l
+unfoldable pub isBelow : List Value → Value → Bool
+isBelow l v = some (yields false v) l
 
 -- it "drops" them
-unfoldable pub remaining : List Value → List Value
-remaining l = those (λ v. not (below l v)) l
+unfoldable pub undropped : List Value → List Value
+undropped l = those (λ v. not (isBelow l v)) l
 
 -- "then takes the smallest remaining value"
 unfoldable pub smallest : List Value → ℕ
@@ -39,7 +39,7 @@ abbrev pub reportOn : List Value → Report
 reportOn l = record { count = length l; differ = differ l; found = not (eqb (length l) 0); value = smallest l }
 
 unfoldable pub reportOf : List Value → Report
-reportOf l = reportOn (remaining l)
+reportOf l = reportOn (undropped l)
 
 -- "the same value-and-clock pairs": what a register holds, as pairs of a clock's dots and a value
 abbrev pub pairsOf : List Value → List (List Dot × ℕ)

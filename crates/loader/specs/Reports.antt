@@ -2,20 +2,17 @@
 use mathlib.Core.Bool.{Bool, false, cond}
 use mathlib.Core.List.{List, [], _++_}
 use Prim.Native.Nat.{ℕ, zero, suc, _+_}
-use Rattle.parts.specs.Model.{valuesIn}
-use Rattle.parts.specs.Entries.{entryAt}
+use Rattle.entries.specs.Model.{valuesIn}
+use Rattle.entries.specs.Entries.{entryAt}
 use Rattle.map.specs.declared.Map.{Map}
 use Rattle.map.specs.Model.{entriesIn}
-use Rattle.records.specs.Bytes.{numBytes}
+use Rattle.records.specs.Bytes.{numBytes, flagOf}
 use Rattle.loader.specs.declared.Report.{Report}
 use Rattle.loader.specs.Choice.{reportOf}
 
 -- the report of a bay: its entry's register; a missing entry is one with no value
 unfoldable pub reportAt : Map → ℕ → Report
 reportAt m bay = reportOf (valuesIn (entryAt bay (entriesIn m)))
-
-abbrev pub flagOf : Bool → ℕ
-flagOf b = cond b 1 0
 
 -- "eleven bytes each: remaining count, differ flag, found flag, value (little-endian)"
 abbrev pub reportBytes : Report → List ℕ

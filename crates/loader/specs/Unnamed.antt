@@ -2,8 +2,8 @@
 use mathlib.Core.Path.{_≡_}
 use mathlib.Core.List.{map}
 use Rattle.register.specs.declared.Value.{Value}
-use Rattle.parts.specs.declared.Entry.{Entry}
-use Rattle.parts.specs.Model.{dotsIn, valuesIn, entryAs}
+use Rattle.entries.specs.declared.Entry.{Entry}
+use Rattle.entries.specs.Model.{dotsIn, valuesIn, entryAs}
 use Rattle.map.specs.declared.Map.{Map}
 use Rattle.map.specs.Model.{seenBy, entriesIn, waitingIn, mapAs}
 

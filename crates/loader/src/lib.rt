@@ -5,18 +5,20 @@ ghost use mathlib.Core.List.{List, [], _∷_, _++_};
 ghost use Prim.Native.Nat.{ℕ, _*_, _+_, _≤_, _<_};
 ghost use lib.ListN.{length, getD};
 ghost use Rattle.register.specs.declared.Value.{Value};
-ghost use Rattle.register.specs.Values.{valueLimit, noValue, yielding};
-ghost use Rattle.records.specs.Records.{Wrote};
+ghost use Rattle.limits.specs.Limits.{valueLimit};
+ghost use Rattle.register.specs.Values.{noValue, yielding};
+ghost use Rattle.records.specs.Writing.{Wrote};
+ghost use Rattle.records.specs.Kinds.{valueKind};
 ghost use Rattle.mapimage.specs.MapImage.{flatFrom, valueRecords};
 ghost use Rattle.maprecords.specs.Related.{readMap};
 ghost use Rattle.layout.specs.Whole.{Lies};
-ghost use Rattle.keyed.specs.Keyed.{Holds, Registered};
+ghost use Rattle.keyed.specs.Keyed.{RecordsLie, Registered};
 ghost use Rattle.comparing.specs.Registers.{RunsOf};
-ghost use Rattle.loader.specs.Choice.{below, reportOn, reportOf};
-ghost use Rattle.loader.specs.Reports.{reportAt, flagOf, reportBytes, reportsAfter};
+ghost use Rattle.loader.specs.Choice.{isBelow, reportOn, reportOf};
+ghost use Rattle.loader.specs.Reports.{reportAt, reportBytes, reportsAfter};
 ghost use Rattle.loader.specs.Calls.{bayCount, isBay, BayPromise, BaysPromise};
 use clock::Order;
-use sketch::STARTS;
+use entrywalk::VALUE_STARTS;
 use walks::Layout;
 use walks::Span;
 
@@ -49,9 +51,9 @@ fn is_less(o: Order) -> bool
 }
 
 // Whether the clock of the value at place k is strictly below that of another, by the runs of their dots where they lie.
-fn is_below(map: &[u8], starts: [usize; STARTS], n: usize, k: usize) -> bool
+fn is_below(map: &[u8], starts: [usize; VALUE_STARTS], n: usize, k: usize) -> bool
     requires { ⌜ (k < n) × ((l : List Value) × RunsOf (now map) starts n l) ⌝ }
-    ensures { λ r. ⌜ ((l : List Value) → RunsOf (now (map .entry)) starts n l → r ≡ below l (getD l k noValue)) ⌝ }
+    ensures { λ r. ⌜ ((l : List Value) → RunsOf (now (map .entry)) starts n l → r ≡ isBelow l (getD l k noValue)) ⌝ }
 {
     let from = starts[k] * 16;
     let to = starts[k + 1] * 16;
@@ -70,8 +72,8 @@ fn is_below(map: &[u8], starts: [usize; STARTS], n: usize, k: usize) -> bool
 
 // The number that the record of the value at place k says.
 fn number_at(map: &[u8], values: Span, k: usize) -> u64
-    requires { ⌜ ((key : ℕ) × (l : List Value) × Holds (now map) (flatFrom (valueRecords 3 key) 0 l) values × (k < length l)) ⌝ }
-    ensures { λ r. ⌜ ((key : ℕ) (l : List Value) → Holds (now (map .entry)) (flatFrom (valueRecords 3 key) 0 l) values → k < length l
+    requires { ⌜ ((key : ℕ) × (l : List Value) × RecordsLie (now map) (flatFrom (valueRecords valueKind key) 0 l) values × (k < length l)) ⌝ }
+    ensures { λ r. ⌜ ((key : ℕ) (l : List Value) → RecordsLie (now (map .entry)) (flatFrom (valueRecords valueKind key) 0 l) values → k < length l
         → r ≡ getD l k noValue .value .number) ⌝ }
 {
     records::read64(map, (values.from + k) * 16 + 8)
@@ -80,7 +82,8 @@ fn number_at(map: &[u8], values: Span, k: usize) -> u64
 // A report with one value more.
 fn with_value(r: Report, value: u64) -> Report
     requires { ⌜ r .count < valueLimit ⌝ }
-    ensures { λ x. ⌜ (x .count ≡ r .count + 1) × ((l : List Value) (v : Value) → r ≡ reportOn l → value ≡ v .value .number → x ≡ reportOn (l ++ (v ∷ []))) ⌝ }
+    ensures { λ x. ⌜ (x .count ≡ r .count + 1) × ((l : List Value) (v : Value) → r ≡ reportOn l → value ≡ v .value .number
+        → x ≡ reportOn (l ++ (v ∷ []))) ⌝ }
 {
     let count = r.count + 1;
     let found = true;
@@ -114,7 +117,7 @@ fn choose(map: &[u8], values: Span, clocks: Span) -> Report
     ensures { λ r. ⌜ ((l : List Value) → Registered (now (map .entry)) l values clocks → r ≡ reportOf l) ⌝ }
 {
     let n = values.to - values.from;
-    let starts = sketch::walking::starts_of(map, n, clocks.from, clocks.to);
+    let starts = entrywalk::starts_of(map, n, clocks.from, clocks.to);
     let mut r = Report {
         count: 0,
         differ: false,
@@ -141,20 +144,14 @@ fn report_at(map: &[u8], l: Layout, bay: u32) -> Report
     choose(map, at.values, at.clocks)
 }
 
-fn flag(b: bool) -> u8
-    ensures { λ r. ⌜ r ≡ flagOf b ⌝ }
-{
-    if b { 1 } else { 0 }
-}
-
 // Writes a report at `at`, and answers the place behind it.
 fn write_report(out: &mut [u8], at: usize, r: Report) -> usize
     requires { ⌜ at + 11 ≤ length (now out) ⌝ }
     ensures { λ next. ⌜ Wrote at (reportBytes r) (now (out .entry)) (now (out .exit)) next ⌝ }
 {
     records::put8(out, at, r.count);
-    records::put8(out, at + 1, flag(r.differ));
-    records::put8(out, at + 2, flag(r.found));
+    records::put8(out, at + 1, records::flag(r.differ));
+    records::put8(out, at + 2, records::flag(r.found));
     records::put64(out, at + 3, r.value);
     at + REPORT
 }

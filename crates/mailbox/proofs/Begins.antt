@@ -6,22 +6,21 @@ use Prim.Native.Nat.{ℕ, zero, suc, _+_, _-_, _^_, _≤_, _<_, min}
 use native.Mathlib.Omega.{arith}
 use lib.Dec.{eqb}
 use lib.ListN.{length, getD, replicate, length-replicate, getD-replicate, replicate-append-replicate}
-use Rattle.lists.specs.Pad.{pad}
-use Rattle.lists.specs.Sift.{sift}
-use Rattle.lists.specs.Fold.{fold}
-use Rattle.clock.specs.Dots.{clockOf}
-use Rattle.parts.specs.Model.{entryLimit, waitingLimit, entriesAs, waitingAs}
+use Rattle.listlaws.specs.Sift.{sift}
+use Rattle.listlaws.specs.Fold.{fold}
+use Rattle.limits.specs.Limits.{entryLimit, waitingLimit}
 use Rattle.records.specs.Bytes.{numAt, Bytes}
 use Rattle.records.specs.Records.{recordFrom, recordsFrom}
 use Rattle.scan.specs.Each.{eachAfter}
 use Rattle.scan.proofs.Scanning.{scanned-none, under-none}
 use Rattle.clockimage.proofs.Dots.{map-snoc}
-use Rattle.maprecords.specs.Reading.{below, entryKeys, waitingCount}
-use Rattle.mapreader.specs.SoFar.{MapSoFar}
-use Rattle.memory.specs.Memory.{readerRoom, openPlace, lengthPlace, numberPlace, anyPlace, lastPlace, countsPlace, underPlace, lostPlace, entriesPlace, waitsPlace, clockPlace, scanAt, keyAt, entryAt, entriesAt, removalAt, waitingAt}
+use Rattle.maprecords.specs.Reading.{numbersBelow, entryKeys, waitingCount}
+use Rattle.maprecords.specs.SoFar.{MapSoFar}
+use Rattle.memory.specs.Memory.{readerRoom, openPlace, lengthPlace, numberPlace, anyPlace, lastPlace, countsPlace, underPlace, lostPlace}
+use Rattle.memory.specs.Memory.{entriesPlace, waitsPlace, clockPlace, scanAt, entryHeldAt, entriesAt, removalAt, waitingAt}
 use Rattle.memory.specs.Putting.{put}
 use Rattle.mailbox.specs.Machine.{zeros, begun}
-use Rattle.memory.specs.Reader.{keysIn, underAt, readerAt}
+use Rattle.memory.specs.Reader.{underAt, readerAt}
 use Rattle.mailbox.specs.Held.{Came}
 use Rattle.memory.proofs.Regions.{num-like, same-num, Touched, below-touched, touched-put, put-read, touched-placed, placed-within}
 use Rattle.memory.proofs.Views.{below-same}
@@ -35,14 +34,15 @@ num-none (suc k) p = let a = num-none k p in let b = num-none k (p + 2 ^ k) in r
 abbrev nought : ℕ → ℕ
 nought i = 0
 
-zero-list : (n : ℕ) → map nought (below n) ≡ replicate n 0
-unfolding below
+zero-list : (n : ℕ) → map nought (numbersBelow n) ≡ replicate n 0
+unfolding numbersBelow
 zero-list zero = refl
 zero-list (suc n) =
     let e : suc n ≡ n + 1 = omega arith in
-    map-snoc nought (below n) n ∙ ap (λ l. l ++ (0 ∷ [])) (zero-list n) ∙ replicate-append-replicate {A = ℕ} n 1 0 ∙ ap (λ m. replicate {A = ℕ} m 0) (sym e)
+    map-snoc nought (numbersBelow n) n ∙ ap (λ l. l ++ (0 ∷ [])) (zero-list n) ∙ replicate-append-replicate {A = ℕ} n 1 0
+    ∙ ap (λ m. replicate {A = ℕ} m 0) (sym e)
 
-zeros-small : (n : ℕ) → Bytes (replicate n 0)
+pub zeros-small : (n : ℕ) → Bytes (replicate n 0)
 zeros-small zero i = omega arith
 zeros-small (suc n) zero = omega arith
 zeros-small (suc n) (suc i) = zeros-small n i
@@ -63,16 +63,19 @@ module _ (w : List ℕ) (long : length w ≡ readerRoom) where
 
   zeros-put : Touched lengthPlace clockPlace opened (begun w)
   unfolding begun zeros
-  zeros-put = rw zeros-long at (touched-placed lengthPlace (zeros clockPlace) opened (omega (arith, zeros-long, opened-long)) (zeros-small clockPlace))
+  zeros-put = rw zeros-long at (touched-placed lengthPlace (zeros clockPlace) opened (omega (arith, zeros-long, opened-long))
+      (zeros-small clockPlace))
 
   zero-at : (i : ℕ) → i < clockPlace → getD (begun w) (lengthPlace + i) 0 ≡ 0
   unfolding begun zeros
-  zero-at i h = placed-within lengthPlace (zeros clockPlace) opened (omega (arith, zeros-long, opened-long)) i (omega (arith, zeros-long)) ∙ getD-replicate {A = ℕ} clockPlace i 0 0 h
+  zero-at i h = placed-within lengthPlace (zeros clockPlace) opened (omega (arith, zeros-long, opened-long)) i (omega (arith, zeros-long))
+      ∙ getD-replicate {A = ℕ} clockPlace i 0 0 h
 
   -- every number of the header but the first is 0
   zero-num : (k p : ℕ) → lengthPlace ≤ p → p + 2 ^ k ≤ lengthPlace + clockPlace → numAt k p (begun w) ≡ 0
   zero-num k p a b =
-      num-like k p 0 (begun w) [] (λ i l. let e : p + i ≡ lengthPlace + (p + i - lengthPlace) = omega arith in ap (λ x. getD (begun w) x 0) e ∙ zero-at (p + i - lengthPlace) (omega arith))
+      num-like k p 0 (begun w) [] (λ i l. let e : p + i ≡ lengthPlace + (p + i - lengthPlace) = omega arith in
+      ap (λ x. getD (begun w) x 0) e ∙ zero-at (p + i - lengthPlace) (omega arith))
       ∙ num-none k 0
 
   scan-none : scanAt (begun w) ≡ record { number = 0; any = false; last = recordFrom (begun w) lastPlace; outer = 0; middle = 0; inner = 0 }
@@ -86,31 +89,27 @@ module _ (w : List ℕ) (long : length w ≡ readerRoom) where
 
   under-zero : underAt (begun w) ≡ replicate 256 0
   unfolding underAt
-  under-zero = below-same (λ i. numAt 0 (underPlace + i) (begun w)) nought 256 (λ i h. zero-num 0 (underPlace + i) (omega arith) (omega arith)) ∙ zero-list 256
+  under-zero = below-same (λ i. numAt 0 (underPlace + i) (begun w)) nought 256 (λ i h. zero-num 0 (underPlace + i) (omega arith) (omega arith))
+      ∙ zero-list 256
 
   no-entries : entriesAt (begun w) ≡ []
-  unfolding entriesAt below
-  no-entries = ap (λ c. map (entryAt (begun w)) (below (min c entryLimit))) (zero-num 0 entriesPlace (omega arith) (omega arith))
-
-  no-keys : keysIn (begun w) ≡ []
-  unfolding keysIn below
-  no-keys = ap (λ c. map (keyAt (begun w)) (below (min c entryLimit))) (zero-num 0 entriesPlace (omega arith) (omega arith))
+  unfolding entriesAt numbersBelow
+  no-entries = ap (λ c. map (entryHeldAt (begun w)) (numbersBelow (min c entryLimit))) (zero-num 0 entriesPlace (omega arith) (omega arith))
 
   no-waiting : waitingAt (begun w) ≡ []
-  unfolding waitingAt below
-  no-waiting = ap (λ c. map (removalAt (begun w)) (below (min c waitingLimit))) (zero-num 0 waitsPlace (omega arith) (omega arith))
+  unfolding waitingAt numbersBelow
+  no-waiting = ap (λ c. map (removalAt (begun w)) (numbersBelow (min c waitingLimit))) (zero-num 0 waitsPlace (omega arith) (omega arith))
 
   nothing-taken : MapSoFar [] (readerAt (begun w))
-  unfolding sift fold eachAfter entryKeys waitingCount below
+  unfolding sift fold eachAfter entryKeys waitingCount numbersBelow
   nothing-taken = record {
     scanned = rw scan-none (scanned-none 1 6 (recordFrom (begun w) lastPlace));
     under = λ _. rw under-zero (under-none 256);
     lost = λ _. rw (zero-num 0 lostPlace (omega arith) (omega arith));
     parts = λ _ _. record {
-      clock = ap clockOf (no-dots clockPlace (begun w) (zero-num 0 clockPlace (omega arith) (omega arith)));
-      keys = ap (pad 0 entryLimit) no-keys;
-      entries = ap entriesAs no-entries;
-      waiting = ap waitingAs no-waiting;
+      clock = no-dots clockPlace (begun w) (zero-num 0 clockPlace (omega arith) (omega arith));
+      entries = no-entries;
+      waiting = no-waiting;
     };
   }
 
@@ -120,7 +119,8 @@ module _ (w : List ℕ) (long : length w ≡ readerRoom) where
   came-none bytes = record {
     long = zeros-put .long ∙ opened-long;
     bytes = zeros-put .bytes (open-put .bytes bytes);
-    is-open = same-num 0 openPlace (below-touched openPlace 1 zeros-put (omega arith)) (omega arith) (omega arith) ∙ put-read 0 openPlace 1 w (omega arith) (omega arith);
+    is-open = same-num 0 openPlace (below-touched openPlace 1 zeros-put (omega arith)) (omega arith) (omega arith)
+        ∙ put-read 0 openPlace 1 w (omega arith) (omega arith);
     len = zero-num 2 lengthPlace (omega arith) (omega arith);
     taken = [];
     so-far = nothing-taken;

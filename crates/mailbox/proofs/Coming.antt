@@ -9,34 +9,33 @@ use lib.Dec.{eqb, ltb, leb}
 use lib.ListN.{length, getD, length-append, List·getD-append}
 use lib.Seq.{getD-at}
 use borrow.Author.Tests.{lt-ltb, le-ltb, leb-true, leb-false, le-leb, eqb-true, eqb-false}
-use Rattle.lists.specs.Pad.{pad}
-use Rattle.lists.specs.Fold.{fold}
-use Rattle.clock.specs.Dots.{clockOf}
-use Rattle.parts.specs.Model.{entryLimit, waitingLimit, entriesAs, waitingAs}
+use Rattle.listlaws.specs.Fold.{fold}
+use Rattle.limits.specs.Limits.{entryLimit, waitingLimit}
 use Rattle.records.specs.declared.Record.{Record}
 use Rattle.records.specs.Bytes.{numAt, Bytes}
 use Rattle.records.specs.Records.{recordFrom, recordsFrom}
 use Rattle.records.proofs.RoundTrips.{Fitting, read-fits}
 use Rattle.scan.proofs.Eachs.{decide}
 use Rattle.mapimage.specs.MapImage.{mapLongest}
-use Rattle.mapreader.specs.SoFar.{MapSoFar}
-use Rattle.mapreader.proofs.SoFar.{Growable}
-use Rattle.mapreader.proofs.Readers as readers
-use Rattle.memory.specs.Memory.{readerRoom, openPlace, lengthPlace, heldPlace, numberPlace, lostPlace, entriesPlace, waitsPlace, clockPlace, entryRoom, removalRoom, entryPlace, removalPlace, scanAt}
+use Rattle.maprecords.specs.SoFar.{MapSoFar}
+use Rattle.maprecords.proofs.SoFar.{Growable}
+use Rattle.maprecords.proofs.Readers as readers
+use Rattle.memory.specs.Memory.{readerRoom, openPlace, lengthPlace, heldPlace, numberPlace, lostPlace, entriesPlace, waitsPlace, clockPlace}
+use Rattle.memory.specs.Memory.{entryRoom, removalRoom, entryPlace, removalPlace, scanAt}
 use Rattle.memory.specs.Putting.{put, recordPut}
 use Rattle.mailbox.specs.Machine.{recordIn, byteIn, pieceIn}
 use Rattle.memory.specs.Reader.{underAt, readerAt}
 use Rattle.mailbox.specs.Held.{lengthTo, Came}
-use Rattle.memory.proofs.Regions.{num-like, Same, same-part, same-num, Touched, touched-then, touched-wide, below-touched, above-touched, touched-put, put-read}
+use Rattle.memory.proofs.Regions.{num-like, Same, same-part, same-num, Touched, touched-then, touched-wide, below-touched, above-touched}
+use Rattle.memory.proofs.Regions.{touched-put, put-read}
 use Rattle.memory.proofs.Views.{same-dots, same-entries, same-waiting}
 use Rattle.memory.proofs.Scans.{scan-same, under-same, scanned, next, next-touched, number-now, scan-now, under-now}
-use Rattle.memory.proofs.Holding.{same-keys, mapRoom, record-grown}
+use Rattle.memory.proofs.Holding.{mapRoom, record-grown}
 
 -- the parts of the map depend on the bytes where they stand
 record PartsSame (u v : List ℕ) : Type 0 where
   pub lost : readerAt u .lost ≡ readerAt v .lost
   pub clock : readerAt u .clock ≡ readerAt v .clock
-  pub keys : readerAt u .keys ≡ readerAt v .keys
   pub entries : readerAt u .entries ≡ readerAt v .entries
   pub waiting : readerAt u .waiting ≡ readerAt v .waiting
 
@@ -46,10 +45,10 @@ parts-same s h k =
     let entries = same-part (entryPlace 0) (entryLimit * entryRoom) s (omega arith) (omega arith) in
     record {
       lost = ap (λ x. not (eqb x 0)) (same-num 0 lostPlace s h (omega arith));
-      clock = ap clockOf (same-dots s clockPlace (omega arith) (omega arith));
-      keys = ap (pad 0 entryLimit) (same-keys count entries);
-      entries = ap entriesAs (same-entries count entries);
-      waiting = ap waitingAs (same-waiting (same-part waitsPlace 1 s (omega arith) (omega arith)) (same-part (removalPlace 0) (waitingLimit * removalRoom) s (omega arith) (omega arith)));
+      clock = same-dots s clockPlace (omega arith) (omega arith);
+      entries = same-entries count entries;
+      waiting = same-waiting (same-part waitsPlace 1 s (omega arith) (omega arith))
+          (same-part (removalPlace 0) (waitingLimit * removalRoom) s (omega arith) (omega arith));
     }
 
 -- and so does the whole reader
@@ -58,7 +57,7 @@ reader-same s h k =
     let p = parts-same s (omega arith) k in
     let x = scan-same s h (omega arith) in
     let y = under-same s (omega arith) (omega arith) in
-    λ i. record { scan = x i; under = y i; lost = p .lost i; clock = p .clock i; keys = p .keys i; entries = p .entries i; waiting = p .waiting i }
+    λ i. record { scan = x i; under = y i; lost = p .lost i; clock = p .clock i; entries = p .entries i; waiting = p .waiting i }
 
 -- where the scan and the map stand
 abbrev takenRoom : ℕ
@@ -69,7 +68,8 @@ record Stepped (l : List Record) (w u : List ℕ) : Type 0 where
   pub touched : Touched numberPlace takenRoom w u
   pub so-far : MapSoFar l (readerAt u)
 
-module _ (l : List Record) (w : List ℕ) (long : length w ≡ readerRoom) (bytes : Bytes w) (m : MapSoFar l (readerAt w)) (r : Record) (f : Fitting r) where
+module _ (l : List Record) (w : List ℕ) (long : length w ≡ readerRoom) (bytes : Bytes w) (m : MapSoFar l (readerAt w)) (r : Record)
+    (f : Fitting r) where
   abbrev scan-next : List ℕ
   scan-next = next l w long bytes m r f
 
@@ -82,10 +82,14 @@ module _ (l : List Record) (w : List ℕ) (long : length w ≡ readerRoom) (byte
   kept : PartsSame w scan-next
   kept =
       let p = parts-same (above-touched lostPlace mapRoom (next-touched l w long bytes m r f) (omega arith)) (omega arith) (omega arith) in
-      record { lost = sym (p .lost); clock = sym (p .clock); keys = sym (p .keys); entries = sym (p .entries); waiting = sym (p .waiting) }
+      record { lost = sym (p .lost); clock = sym (p .clock); entries = sym (p .entries); waiting = sym (p .waiting) }
 
   stops : (scanned l w long bytes m r f .number ≡ 0 → ⊥) → Stepped all w scan-next
-  stops n = record { touched = scan-part; so-far = readers.scan-stops l r (scan-now l w long bytes m r f) (λ z. n (sym (number-now l w long bytes m r f) ∙ z)) }
+  stops n = record {
+    touched = scan-part;
+    so-far = readers.scan-stops l r (scan-now l w long bytes m r f)
+        (λ z. n (sym (number-now l w long bytes m r f) ∙ z));
+  }
 
   module _ (good : scanned l w long bytes m r f .number ≡ 0) where
     zero-now : scanAt scan-next .number ≡ 0
@@ -96,24 +100,42 @@ module _ (l : List Record) (w : List ℕ) (long : length w ≡ readerRoom) (byte
         let p = kept in
         record {
           touched = scan-part;
-          so-far = subst (MapSoFar all) (λ i. record { scan = scanAt scan-next; under = underAt scan-next; lost = p .lost i; clock = p .clock i; keys = p .keys i; entries = p .entries i; waiting = p .waiting i })
-              (readers.still-lost l r (readerAt w) m (scanAt scan-next) (underAt scan-next) (scan-now l w long bytes m r f) (under-now l w long bytes m r f) zero-now t);
+          so-far = subst (MapSoFar all) (λ i. record {
+            scan = scanAt scan-next;
+            under = underAt scan-next;
+            lost = p .lost i;
+            clock = p .clock i;
+            entries = p .entries i;
+            waiting = p .waiting i;
+          })
+              (readers.still-lost l r (readerAt w) m (scanAt scan-next) (underAt scan-next) (scan-now l w long bytes m r f)
+              (under-now l w long bytes m r f) zero-now t);
         }
 
     grows : readerAt w .lost ≡ false → numAt 0 lostPlace w ≡ 0 → Stepped all w (recordPut r scan-next)
     grows t z =
-        let g = readers.growable l r (readerAt w) m (scanAt scan-next) (underAt scan-next) (scan-now l w long bytes m r f) (under-now l w long bytes m r f) zero-now t in
+        let g = readers.growable l r (readerAt w) m (scanAt scan-next) (underAt scan-next) (scan-now l w long bytes m r f)
+        (under-now l w long bytes m r f) zero-now t in
         let p = kept in
-        let found = same-num 0 lostPlace (above-touched lostPlace 1 (next-touched l w long bytes m r f) (omega arith)) (omega arith) (omega arith) ∙ z in
+        let found = same-num 0 lostPlace (above-touched lostPlace 1 (next-touched l w long bytes m r f) (omega arith)) (omega arith) (omega arith)
+        ∙ z in
         let q : Growable l (readerAt scan-next) (scanAt scan-next) (underAt scan-next) r = record {
           scanned = g .scanned;
           under = g .under;
           good = g .good;
           placed = g .placed;
-          parts = record { clock = sym (p .clock) ∙ g .parts .clock; keys = sym (p .keys) ∙ g .parts .keys; entries = sym (p .entries) ∙ g .parts .entries; waiting = sym (p .waiting) ∙ g .parts .waiting };
+          parts = record {
+            clock = sym (p .clock) ∙ g .parts .clock;
+            entries = sym (p .entries) ∙ g .parts .entries;
+            waiting = sym (p .waiting)
+                ∙ g .parts .waiting;
+          };
         } in
         let more = record-grown l scan-next (scan-part .long ∙ long) found r f q in
-        record { touched = touched-then scan-part (touched-wide numberPlace takenRoom (more .touched) (omega arith) (omega arith)); so-far = more .so-far }
+        record {
+          touched = touched-then scan-part (touched-wide numberPlace takenRoom (more .touched) (omega arith) (omega arith));
+          so-far = more .so-far;
+        }
 
   record-in : Stepped all w (recordIn w r)
   unfolding recordIn
@@ -129,7 +151,13 @@ module _ (l : List Record) (w : List ℕ) (long : length w ≡ readerRoom) (byte
 record-like : (p q : ℕ) (v w : List ℕ) → ((i : ℕ) → i < 16 → getD v (p + i) 0 ≡ getD w (q + i) 0) → recordFrom v p ≡ recordFrom w q
 unfolding recordFrom
 record-like p q v w h =
-    rw (num-like 0 p q v w (λ i l. h i (omega arith)), further 0 1 (omega arith), further 1 2 (omega arith), further 2 4 (omega arith), further 3 8 (omega arith))
+    rw (
+      num-like 0 p q v w (λ i l. h i (omega arith)),
+      further 0 1 (omega arith),
+      further 1 2 (omega arith),
+      further 2 4 (omega arith),
+      further 3 8 (omega arith),
+    )
   where
     further : (k d : ℕ) → d + 2 ^ k ≤ 16 → numAt k (p + d) v ≡ numAt k (q + d) w
     further k d l = num-like k (p + d) (q + d) v w (λ i x.
@@ -176,9 +204,11 @@ module _ (s w : List ℕ) (c : Came s w) (b : ℕ) (small : b < 256) where
         long = t .long ∙ c .long;
         bytes = t .bytes (c .bytes);
         is-open = same-num 0 openPlace (below-touched openPlace 1 t (omega arith)) (omega arith) (omega arith) ∙ c .is-open;
-        len = put-read 2 lengthPlace (mapLongest + 1) w (omega arith) (omega (arith, c .long)) ∙ sym (length-over (length more) (omega (arith, long-more)));
+        len = put-read 2 lengthPlace (mapLongest + 1) w (omega arith) (omega (arith, c .long))
+            ∙ sym (length-over (length more) (omega (arith, long-more)));
         taken = c .taken;
-        so-far = subst (MapSoFar (c .taken)) (sym (reader-same (above-touched numberPlace takenRoom t (omega arith)) (omega arith) (omega arith))) (c .so-far);
+        so-far = subst (MapSoFar (c .taken)) (sym (reader-same (above-touched numberPlace takenRoom t (omega arith)) (omega arith) (omega arith)))
+            (c .so-far);
         whole = λ x. absurd (omega (arith, long-more));
         held = λ x. absurd (omega (arith, long-more));
       }
@@ -200,28 +230,33 @@ module _ (s w : List ℕ) (c : Came s w) (b : ℕ) (small : b < 256) where
     length-put = touched-put 2 lengthPlace (k + 1) put-in (omega arith) (omega (arith, put-long))
 
     header-put : Touched lengthPlace 20 w longer
-    header-put = touched-then (touched-wide lengthPlace 20 byte-put (omega arith) (omega arith)) (touched-wide lengthPlace 20 length-put (omega arith) (omega arith))
+    header-put = touched-then (touched-wide lengthPlace 20 byte-put (omega arith) (omega arith))
+        (touched-wide lengthPlace 20 length-put (omega arith) (omega arith))
 
     longer-long : length longer ≡ readerRoom
     longer-long = header-put .long ∙ c .long
 
     so-far-still : MapSoFar (c .taken) (readerAt longer)
-    so-far-still = subst (MapSoFar (c .taken)) (sym (reader-same (above-touched numberPlace takenRoom header-put (omega arith)) (omega arith) (omega arith))) (c .so-far)
+    so-far-still = subst (MapSoFar (c .taken))
+        (sym (reader-same (above-touched numberPlace takenRoom header-put (omega arith)) (omega arith) (omega arith))) (c .so-far)
 
     still-open : numAt 0 openPlace longer ≡ 1
     still-open = same-num 0 openPlace (below-touched openPlace 1 header-put (omega arith)) (omega arith) (omega arith) ∙ c .is-open
 
     length-now : numAt 2 lengthPlace longer ≡ lengthTo (length more)
-    length-now = put-read 2 lengthPlace (k + 1) put-in (omega arith) (omega (arith, put-long)) ∙ sym (length-within (length more) (omega (arith, long-more)) ∙ long-more)
+    length-now = put-read 2 lengthPlace (k + 1) put-in (omega arith) (omega (arith, put-long))
+        ∙ sym (length-within (length more) (omega (arith, long-more)) ∙ long-more)
 
     held-now : (i : ℕ) → i ≤ k % 16 → getD longer (heldPlace + i) 0 ≡ getD more (k / 16 * 16 + i) 0
     held-now i l =
         length-put .else (heldPlace + i) (inr (omega arith))
         ∙ decide (eqb i (k % 16))
         (λ t. let e = eqb-true i (k % 16) t in
-        ap (λ x. getD put-in (heldPlace + x) 0) e ∙ put-read 0 (heldPlace + k % 16) b w small (omega (arith, c .long)) ∙ sym (getD-at s b [] 0 (k / 16 * 16 + i) (omega arith)))
+        ap (λ x. getD put-in (heldPlace + x) 0) e ∙ put-read 0 (heldPlace + k % 16) b w small (omega (arith, c .long))
+        ∙ sym (getD-at s b [] 0 (k / 16 * 16 + i) (omega arith)))
         (λ t. let n = eqb-false i (k % 16) t in
-        byte-put .else (heldPlace + i) (inl (omega (arith, n))) ∙ c .held (omega arith) i (omega (arith, n)) ∙ sym (List·getD-append s (b ∷ []) 0 (k / 16 * 16 + i) (omega (arith, n))))
+        byte-put .else (heldPlace + i) (inl (omega (arith, n))) ∙ c .held (omega arith) i (omega (arith, n))
+        ∙ sym (List·getD-append s (b ∷ []) 0 (k / 16 * 16 + i) (omega (arith, n))))
 
     taken-is : c .taken ≡ recordsFrom more 0 (k / 16)
     taken-is = c .whole (omega arith) ∙ sym (records-first s (b ∷ []) (k / 16) 0 (omega arith))

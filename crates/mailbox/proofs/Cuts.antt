@@ -5,9 +5,9 @@ use Prim.Native.Nat.{ℕ, _*_, _^_}
 use native.Mathlib.Omega.{arith}
 use lib.ListN.{length}
 use borrow.Author.Tests.{eq-eqb, ne-eqb}
-use Rattle.lists.specs.Order.{_∈_}
-use Rattle.lists.specs.Fold.{fold}
-use Rattle.lists.proofs.Folds.{fold-append}
+use Rattle.listlaws.specs.Order.{_∈_}
+use Rattle.listlaws.specs.Fold.{fold}
+use Rattle.listlaws.proofs.Folds.{fold-append}
 use Rattle.records.specs.Bytes.{numAt, Bytes}
 use Rattle.memory.specs.Memory.{readerRoom, openPlace}
 use Rattle.mailbox.specs.Machine.{byteIn, pieceIn, begun, takeIn, takeWord}
@@ -29,7 +29,8 @@ pub takes-one : (w piece : List ℕ) → numAt 0 openPlace w ≡ 1 → (takeWord
 takes-one w piece e = let t = eq-eqb (numAt 0 openPlace w) 1 e in (rw t, rw t)
 
 -- pieces that are taken one after the other are taken as one
-pub takes-joined : (s w : List ℕ) (pieces : List (List ℕ)) → Came s w → ((p : List ℕ) → p ∈ pieces → Bytes p) → fold takeIn w pieces ≡ pieceIn w (joined pieces)
+pub takes-joined : (s w : List ℕ) (pieces : List (List ℕ)) → Came s w → ((p : List ℕ) → p ∈ pieces → Bytes p)
+    → fold takeIn w pieces ≡ pieceIn w (joined pieces)
 unfolding fold joined pieceIn
 takes-joined s w [] c h = refl
 takes-joined s w (p ∷ pieces) c h =
@@ -49,7 +50,3 @@ module _ (w : List ℕ) (long : length w ≡ readerRoom) (bytes : Bytes w) (piec
   -- what came is what the pieces join to
   pub came-all : Came (joined pieces) (fold takeIn (begun w) pieces)
   came-all = rw begun-joined (came-piece [] (begun w) (joined pieces) (came-none w long bytes) (joined-bytes pieces all))
-
-  -- two ways of cutting the same bytes
-  pub cut-alike : (others : List (List ℕ)) → ((p : List ℕ) → p ∈ others → Bytes p) → joined pieces ≡ joined others → fold takeIn (begun w) pieces ≡ fold takeIn (begun w) others
-  cut-alike others fit e = begun-joined ∙ ap (pieceIn (begun w)) e ∙ sym (takes-joined [] (begun w) others (came-none w long bytes) fit)

@@ -1,4 +1,4 @@
--- What a memory holds after the pieces of a map's image that came so far: as much as a reader by value does.
+-- What a memory holds after the pieces of a map's image that came so far: the state of a reader that has taken their records.
 use mathlib.Core.Path.{_≡_}
 use mathlib.Core.Bool.{cond}
 use mathlib.Core.List.{List, [], _∷_, _++_}
@@ -9,7 +9,7 @@ use Rattle.records.specs.declared.Record.{Record}
 use Rattle.records.specs.Bytes.{numAt, Bytes}
 use Rattle.records.specs.Records.{recordsOf}
 use Rattle.mapimage.specs.MapImage.{mapLongest}
-use Rattle.mapreader.specs.SoFar.{MapSoFar}
+use Rattle.maprecords.specs.SoFar.{MapSoFar}
 use Rattle.memory.specs.Memory.{readerRoom, openPlace, lengthPlace, heldPlace}
 use Rattle.memory.specs.Reader.{readerAt}
 

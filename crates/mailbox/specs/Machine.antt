@@ -4,21 +4,22 @@ use mathlib.Core.List.{List}
 use Prim.Native.Nat.{ℕ, _+_, _*_, _%_, _^_}
 use lib.Dec.{eqb, leb}
 use lib.ListN.{replicate}
-use Rattle.lists.specs.Fold.{fold}
+use Rattle.listlaws.specs.Fold.{fold}
 use Rattle.records.specs.declared.Record.{Record}
 use Rattle.records.specs.Bytes.{numAt, placed}
 use Rattle.records.specs.Records.{recordFrom}
-use Rattle.scan.specs.Scanned.{scanOn}
+use Rattle.records.specs.Kinds.{clockDotKind, waitingKeyKind}
+use Rattle.scan.specs.Stepping.{scanOn, underOn}
 use Rattle.mapimage.specs.MapImage.{mapLongest}
 use Rattle.memory.specs.Memory.{openPlace, lengthPlace, heldPlace, underPlace, lostPlace, clockPlace, scanAt}
-use Rattle.memory.specs.Putting.{put, recordPut, scanPut, underOn}
+use Rattle.memory.specs.Putting.{put, recordPut, scanPut}
 
 -- a whole record
 unfoldable pub recordIn : List ℕ → Record → List ℕ
 recordIn w r =
     let at = underPlace + r .index in
     let n = numAt 0 at w in
-    let s = scanOn 1 6 (scanAt w) r n in
+    let s = scanOn clockDotKind waitingKeyKind (scanAt w) r n in
     let next = scanPut s (put 0 at (underOn n (r .kind)) w) in
     cond (eqb (s .number) 0 && eqb (numAt 0 lostPlace w) 0) (recordPut r next) next
 

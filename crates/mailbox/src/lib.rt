@@ -3,7 +3,6 @@ ghost use mathlib.Core.Path.{_≡_};
 ghost use Prim.Native.Nat.{_<_};
 ghost use lib.ListN.{set};
 ghost use Rattle.memory.specs.Memory.{readerRoom};
-ghost use Rattle.memory.specs.Putting.{underOn};
 ghost use Rattle.mailbox.specs.Machine.{recordIn, byteIn, takeWord, takeIn, begun};
 use mapimage::MAP_LONGEST;
 use memory::CLOCK;
@@ -13,19 +12,9 @@ use memory::LOST;
 use memory::OPEN;
 use memory::READER;
 use memory::UNDER;
+use records::CLOCK_DOT;
 use records::Record;
-
-// The waiting keys under an index, with a record of a kind.
-fn under(n: u8, kind: u8) -> u8
-    ensures { λ r. ⌜ r ≡ underOn n kind ⌝ }
-{
-    if kind == 6 {
-        if n < 255 {
-            return n + 1;
-        }
-    }
-    n
-}
+use records::WAITING_KEY;
 
 // A whole record.
 fn take_record(mem: &mut [u8; READER], r: Record)
@@ -35,8 +24,8 @@ fn take_record(mem: &mut [u8; READER], r: Record)
     let n = mem[at];
     let lost = mem[LOST];
     let old = memory::scan_of(mem);
-    let s = old.next(1, 6, r, n);
-    records::put8(mem, at, under(n, r.kind));
+    let s = old.next(CLOCK_DOT, WAITING_KEY, r, n);
+    records::put8(mem, at, scan::under(n, r.kind));
     memory::put_scan(mem, s);
     if s.number == 0 {
         if lost == 0 {

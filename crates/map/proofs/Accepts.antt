@@ -1,40 +1,43 @@
--- A list of removals is within the limits at every stage exactly where its end map is, so in every order or in none.
-use mathlib.Core.Path.{_≡_, refl, ap, sym, _∙_}
+-- Where the end map of a list of removals is within the limits, so is the map at every stage (`stage`); and what it means that a map is
+-- (`fits-means`, `fits-holds`).
+use mathlib.Core.Path.{_≡_, refl, ap, _∙_}
 use mathlib.Core.Bool.{Bool, true, false, _||_, cond}
-use mathlib.Core.List.{List, [], _++_, append-nil, List·Permᴰ, Memᴰ·append-left, Memᴰ·append-right}
+use mathlib.Core.List.{List, _++_, Memᴰ·append-left, Memᴰ·append-right}
 use Prim.Native.Nat.{ℕ, _≤_}
 use native.Mathlib.Omega.{arith}
 use borrow.Author.Tests.{ltb-false, le-ltb}
 use lib.ListN.{length}
-use Rattle.lists.specs.First.{some}
-use Rattle.lists.specs.Fold.{fold}
-use Rattle.lists.specs.Sift.{those}
-use Rattle.lists.specs.Order.{_∈_}
-use Rattle.lists.proofs.Orders.{apart}
-use Rattle.lists.proofs.Folds.{fold-append}
-use Rattle.lists.proofs.Sifts.{sift-append}
-use Rattle.lists.proofs.Somes.{some-false, false-some}
-use Rattle.lists.proofs.Perms.{perm-in}
+use Rattle.listlaws.specs.First.{some}
+use Rattle.listlaws.specs.Fold.{fold}
+use Rattle.listlaws.specs.Sift.{those}
+use Rattle.listlaws.specs.Order.{_∈_}
+use Rattle.listlaws.proofs.Orders.{apart}
+use Rattle.listlaws.proofs.Folds.{fold-append}
+use Rattle.listlaws.proofs.Sifts.{sift-append}
+use Rattle.listlaws.proofs.Somes.{some-false, false-some}
 use Rattle.clock.specs.declared.Dot.{Dot}
-use Rattle.clock.specs.Dots.{dotLimit, dotsOf, clockOf}
+use Rattle.limits.specs.Limits.{dotLimit, valueLimit, entryLimit, waitingLimit, keyLimit}
+use Rattle.clock.specs.Dots.{dotsOf, clockOf}
 use Rattle.clock.proofs.Packs.{dots-of}
 use Rattle.register.specs.declared.Value.{Value}
-use Rattle.register.specs.Values.{valueLimit}
-use Rattle.parts.specs.declared.Entry.{Entry}
-use Rattle.parts.specs.declared.Removal.{Removal}
-use Rattle.parts.specs.Model.{entryLimit, waitingLimit, keyLimit, dotsIn, valuesIn, underOf, listedIn}
-use Rattle.parts.specs.Waits.{waits, uniteInto}
-use Rattle.parts.specs.Valid.{ValidRemoval}
-use Rattle.parts.proofs.Pieces.{entries-of, waiting-of}
-use Rattle.parts.proofs.Runs.{runs}
-use Rattle.parts.proofs.Trades.{ready-those, into-all}
-use Rattle.parts.proofs.Bounds.{EntryFits, RemovalFits, runs-fit, runs-length, into-longer, into-fits}
+use Rattle.entries.specs.declared.Entry.{Entry}
+use Rattle.removals.specs.declared.Removal.{Removal}
+use Rattle.entries.specs.Model.{dotsIn, valuesIn}
+use Rattle.removals.specs.Model.{underOf, listedIn}
+use Rattle.removals.specs.Waits.{waits, uniteInto}
+use Rattle.removals.specs.Valid.{ValidRemoval}
+use Rattle.entries.proofs.Packs.{entries-of}
+use Rattle.removals.proofs.Packs.{waiting-of}
+use Rattle.entries.proofs.Runs.{runs}
+use Rattle.removals.proofs.WaitingValid.{ready-those, into-all}
+use Rattle.entries.proofs.Limits.{EntryFits, runs-fit, runs-length}
+use Rattle.removals.proofs.Lengths.{RemovalFits, into-longer, into-fits}
 use Rattle.map.specs.declared.Map.{Map}
 use Rattle.map.specs.Model.{seenBy, entriesIn, waitingIn, mapAs}
 use Rattle.map.specs.Removing.{remove}
 use Rattle.map.specs.Judging.{exceeding, overDots, overEntries, overValues, overWaiting, overKeys, overNumber}
 use Rattle.map.specs.Valid.{Valid}
-use Rattle.map.proofs.Orders.{removes-valid, removes-perm}
+use Rattle.map.proofs.Orders.{removes-valid}
 
 -- a map within every limit
 pub record Fits (m : Map) : Type 0 where
@@ -54,8 +57,8 @@ false-or e f = rw (e, f)
 within : {A : Type 0} (limit : ℕ) (l : List A) → exceeding limit l ≡ false → length l ≤ limit
 within limit l t = ltb-false limit (length l) t
 
-exceeds-not : {A : Type 0} (limit : ℕ) (l : List A) → length l ≤ limit → exceeding limit l ≡ false
-exceeds-not limit l h = le-ltb limit (length l) h
+pub not-over : {A : Type 0} (limit : ℕ) (l : List A) → length l ≤ limit → exceeding limit l ≡ false
+not-over limit l h = le-ltb limit (length l) h
 
 -- an entry, or a value, with too long a clock
 abbrev long : Value → Bool
@@ -76,7 +79,8 @@ keeps-means : (m : Map) → overNumber m ≡ 0 → Keeps m
 unfolding overNumber
 keeps-means m e = go (overDots m) (overEntries m) (overValues m) (overWaiting m) (overKeys m) refl refl refl refl refl e
   where
-    go : (a b c d f : Bool) → overDots m ≡ a → overEntries m ≡ b → overValues m ≡ c → overWaiting m ≡ d → overKeys m ≡ f → _≡_ {A = ℕ} (cond a 4 (cond b 5 (cond c 6 (cond d 7 (cond f 8 0))))) 0 → Keeps m
+    go : (a b c d f : Bool) → overDots m ≡ a → overEntries m ≡ b → overValues m ≡ c → overWaiting m ≡ d → overKeys m ≡ f
+        → _≡_ {A = ℕ} (cond a 4 (cond b 5 (cond c 6 (cond d 7 (cond f 8 0))))) 0 → Keeps m
     go true b c d f p q r s t z = absurd (omega arith)
     go false true c d f p q r s t z = absurd (omega arith)
     go false false true d f p q r s t z = absurd (omega arith)
@@ -108,18 +112,20 @@ fits-means m z =
 pub fits-holds : {m : Map} → Fits m → overNumber m ≡ 0
 unfolding overNumber overDots overEntries overValues overWaiting overKeys
 fits-holds {m} h =
-    let d = false-some longEntry (entriesIn m) (λ e i. false-or (exceeds-not dotLimit (dotsIn e) (h .entries e i .dots)) (false-some long (valuesIn e) (λ v j. exceeds-not dotLimit (dotsOf (v .clock)) (h .entries e i .each v j)))) in
+    let d = false-some longEntry (entriesIn m) (λ e i. false-or (not-over dotLimit (dotsIn e) (h .entries e i .dots))
+    (false-some long (valuesIn e) (λ v j. not-over dotLimit (dotsOf (v .clock)) (h .entries e i .each v j)))) in
     rw (
-      exceeds-not dotLimit (seenBy m) (h .clock),
+      not-over dotLimit (seenBy m) (h .clock),
       d,
-      false-some (λ r. exceeding dotLimit (underOf r)) (waitingIn m) (λ r i. exceeds-not dotLimit (underOf r) (h .waiting r i .dots)),
-      exceeds-not entryLimit (entriesIn m) (h .count),
-      false-some (λ e. exceeding valueLimit (valuesIn e)) (entriesIn m) (λ e i. exceeds-not valueLimit (valuesIn e) (h .entries e i .count)),
-      exceeds-not waitingLimit (waitingIn m) (h .number),
-      false-some (λ r. exceeding keyLimit (listedIn r)) (waitingIn m) (λ r i. exceeds-not keyLimit (listedIn r) (h .waiting r i .keys)),
+      false-some (λ r. exceeding dotLimit (underOf r)) (waitingIn m) (λ r i. not-over dotLimit (underOf r) (h .waiting r i .dots)),
+      not-over entryLimit (entriesIn m) (h .count),
+      false-some (λ e. exceeding valueLimit (valuesIn e)) (entriesIn m) (λ e i. not-over valueLimit (valuesIn e) (h .entries e i .count)),
+      not-over waitingLimit (waitingIn m) (h .number),
+      false-some (λ r. exceeding keyLimit (listedIn r)) (waitingIn m) (λ r i. not-over keyLimit (listedIn r) (h .waiting r i .keys)),
     )
 
-fits-as : (c : List Dot) (l : List Entry) (w : List Removal) → length c ≤ dotLimit → length l ≤ entryLimit → ((e : Entry) → e ∈ l → EntryFits e) → length w ≤ waitingLimit → ((r : Removal) → r ∈ w → RemovalFits r) → Fits (mapAs c l w)
+pub fits-as : (c : List Dot) (l : List Entry) (w : List Removal) → length c ≤ dotLimit → length l ≤ entryLimit → ((e : Entry) → e ∈ l → EntryFits e)
+    → length w ≤ waitingLimit → ((r : Removal) → r ∈ w → RemovalFits r) → Fits (mapAs c l w)
 fits-as c l w a b f d g = record {
   clock = rw (dots-of {c = clockOf c} c refl) a;
   count = rw (entries-of l) b;
@@ -129,7 +135,8 @@ fits-as c l w a b f d g = record {
 }
 
 -- where the end map is within the limits, so is the map at an earlier stage
-pub stage : {m : Map} (ws vs : List Removal) → Valid m → ((w : Removal) → w ∈ (ws ++ vs) → ValidRemoval w) → overNumber m ≡ 0 → overNumber (fold remove m (ws ++ vs)) ≡ 0 → overNumber (fold remove m ws) ≡ 0
+pub stage : {m : Map} (ws vs : List Removal) → Valid m → ((w : Removal) → w ∈ (ws ++ vs) → ValidRemoval w) → overNumber m ≡ 0
+    → overNumber (fold remove m (ws ++ vs)) ≡ 0 → overNumber (fold remove m ws) ≡ 0
 stage {m} ws vs h f y z =
     rw (removes-valid h ws)
     (fits-holds (fits-as (seenBy m) (runs ws (entriesIn m)) now (a .clock)
@@ -156,23 +163,3 @@ stage {m} ws vs h f y z =
     whole =
         ap (λ x. waitingIn x) (removes-valid h (ws ++ vs)) ∙ waiting-of (fold uniteInto (waitingIn m) (those p (ws ++ vs)))
         ∙ ap (fold uniteInto (waitingIn m)) (sift-append p (λ x. x) ws vs) ∙ fold-append uniteInto (waitingIn m) (those p ws) (those p vs)
-
--- within the limits at every stage
-abbrev pub Accepted : Map → List Removal → Type 0
-Accepted m ws = (us vs : List Removal) → ws ≡ us ++ vs → overNumber (fold remove m us) ≡ 0
-
-pub end-accepted : {m : Map} {ws : List Removal} → Valid m → ((w : Removal) → w ∈ ws → ValidRemoval w) → overNumber m ≡ 0 → overNumber (fold remove m ws) ≡ 0 → Accepted m ws
-end-accepted {m} {ws} h f y z us vs e = stage us vs h (rw e at f) y (rw e at z)
-
-pub accepted-start : (m : Map) (ws : List Removal) → Accepted m ws → overNumber m ≡ 0
-unfolding fold
-accepted-start m ws a = a [] ws refl
-
-pub accepted-end : (m : Map) (ws : List Removal) → Accepted m ws → overNumber (fold remove m ws) ≡ 0
-accepted-end m ws a = a ws [] (sym (append-nil ws))
-
--- in every order or in none
-pub accepted-perm : {m : Map} {ws vs : List Removal} → Valid m → ((w : Removal) → w ∈ ws → ValidRemoval w) → List·Permᴰ ws vs → Accepted m ws → Accepted m vs
-accepted-perm {m} {ws} {vs} h f d a =
-    end-accepted h (λ w i. f w (perm-in d w i)) (accepted-start m ws a)
-    (ap overNumber (sym (removes-perm h d f)) ∙ accepted-end m ws a)

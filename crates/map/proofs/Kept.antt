@@ -3,25 +3,30 @@ use mathlib.Core.Path.{_≡_, refl, ap, sym, _∙_}
 use mathlib.Core.Bool.{Bool, true, false, cond}
 use mathlib.Core.List.{List, []}
 use lib.Dec.{leb}
-use Rattle.lists.specs.Fold.{fold}
-use Rattle.lists.specs.Order.{_∈_}
-use Rattle.lists.proofs.Pads.{take-pad}
-use Rattle.lists.proofs.Sides.{fold-keeps}
+use Rattle.listlaws.specs.Fold.{fold}
+use Rattle.listlaws.specs.Order.{_∈_}
+use Rattle.listlaws.proofs.Pads.{take-pad}
+use Rattle.listlaws.proofs.Sides.{fold-keeps}
 use Rattle.clock.specs.declared.Dot.{Dot}
-use Rattle.clock.specs.Dots.{dotLimit, noDot, dotsOf, clockOf, isEmpty, counterIn, joinDots, addDot}
+use Rattle.limits.specs.Limits.{dotLimit}
+use Rattle.clock.specs.Dots.{noDot, dotsOf, clockOf, isEmpty, counterIn, joinDots, addDot}
 use Rattle.clock.specs.Lawful.{Lawful}
 use Rattle.clock.proofs.Cuts.{lawful-cut}
 use Rattle.clock.proofs.Joins.{lawful-join, lawful-add}
-use Rattle.parts.specs.declared.Entry.{Entry}
-use Rattle.parts.specs.declared.Removal.{Removal}
-use Rattle.parts.specs.declared.Update.{Update}
-use Rattle.parts.specs.Model.{entriesAs, waitingAs}
-use Rattle.parts.specs.Entries.{removeEntries, putEntries, mergeEntries}
-use Rattle.parts.specs.Waits.{waits, uniteInto}
-use Rattle.parts.specs.Valid.{ValidValue, ValidEntries, ValidRemoval, ValidWaiting}
-use Rattle.parts.proofs.Pieces.{entries-of, waiting-of}
-use Rattle.parts.proofs.Listed
-use Rattle.parts.proofs.Held.{waits-some, valid-none, valid-unite-into, valid-reset-waiting}
+use Rattle.entries.specs.declared.Entry.{Entry}
+use Rattle.removals.specs.declared.Removal.{Removal}
+use Rattle.entries.specs.declared.Update.{Update}
+use Rattle.entries.specs.Model.{entriesAs}
+use Rattle.removals.specs.Model.{waitingAs}
+use Rattle.entries.specs.Entries.{removeEntries, putEntries, mergeEntries}
+use Rattle.removals.specs.Waits.{waits, uniteInto}
+use Rattle.entries.specs.Valid.{ValidValue, ValidEntries}
+use Rattle.removals.specs.Valid.{ValidRemoval, ValidWaiting}
+use Rattle.entries.proofs.Packs.{entries-of}
+use Rattle.removals.proofs.Packs.{waiting-of}
+use Rattle.entries.proofs.EntriesValid
+use Rattle.removals.proofs.Waits.{waits-some}
+use Rattle.removals.proofs.WaitingValid.{valid-none, valid-unite-into, valid-reset-waiting}
 use Rattle.map.specs.declared.Map.{Map}
 use Rattle.map.specs.declared.Op.{Op}
 use Rattle.map.specs.Model.{seenBy, entriesIn, waitingIn, mapAs}
@@ -75,25 +80,19 @@ valid-held seen {w} {r} v k = go (waits seen r) refl
     go false t = v
 
 -- what a removal lays down
-pub remove-laid : {seen : List Dot} {m : Map} → Under seen m → (r : Removal) → remove m r ≡ mapAs (seenBy m) (removeEntries r (entriesIn m)) (heldAfter (seenBy m) (waitingIn m) r)
+pub remove-laid : {seen : List Dot} {m : Map} → Under seen m → (r : Removal)
+    → remove m r ≡ mapAs (seenBy m) (removeEntries r (entriesIn m)) (heldAfter (seenBy m) (waitingIn m) r)
 unfolding heldAfter
 remove-laid {m = m} v r = ap (λ n. remove n r) (v .laid) ∙ remove-as (seenBy m) (entriesIn m) (waitingIn m) r
 
-pub remove-clock : (m : Map) (r : Removal) → remove m r .clock ≡ m .clock
-unfolding remove
-remove-clock m r = refl
-
 pub under-remove : {seen : List Dot} {m : Map} → Under seen m → {r : Removal} → ValidRemoval r → Under seen (remove m r)
 under-remove {seen} {m} v {r} k =
-    rw (remove-laid v r) (under-as (v .clock) (Listed.valid-remove (v .entries) r) (valid-held (seenBy m) (v .waiting) k))
+    rw (remove-laid v r) (under-as (v .clock) (EntriesValid.valid-remove (v .entries) r) (valid-held (seenBy m) (v .waiting) k))
 
 -- removals one after the other
 module _ {seen : List Dot} {m : Map} (v : Under seen m) (l : List Removal) (f : (r : Removal) → r ∈ l → ValidRemoval r) where
   pub under-removes : Under seen (fold remove m l)
   under-removes = fold-keeps remove (Under seen) l (λ n r i w. under-remove w (f r i)) m v
-
-pub removes-clock : (m : Map) (l : List Removal) → fold remove m l .clock ≡ m .clock
-removes-clock m l = fold-keeps remove (λ n. n .clock ≡ m .clock) l (λ n r i e. remove-clock n r ∙ e) m refl
 
 pub valid-remove : {m : Map} → Valid m → {r : Removal} → ValidRemoval r → Valid (remove m r)
 unfolding remove
@@ -109,7 +108,12 @@ cleared m = record { clock = m .clock; entries = m .entries; waiting = waitingAs
 pub valid-cleared : {m : Map} → Valid m → Valid (cleared m)
 unfolding cleared
 valid-cleared {m} v =
-    let e : cleared m ≡ mapAs (seenBy m) (entriesIn m) [] = λ i. record { clock = v .laid i .clock; entries = v .laid i .entries; waiting = waitingAs [] } in
+    let e : cleared m ≡ mapAs (seenBy m) (entriesIn m) [] = λ i. record {
+      clock = v .laid i .clock;
+      entries = v .laid i .entries;
+      waiting = waitingAs
+          [];
+    } in
     rw e (valid-as (v .clock) (v .entries) valid-none)
 
 pub valid-afresh : {m : Map} → Valid m → Valid (afresh m)
@@ -126,8 +130,14 @@ valid-put k n = record { laid = k .laid; clock = k .clock; some = n }
 pub valid-updated : {m : Map} → Valid m → {u : Update} → ValidUpdate u → Valid (updated m u)
 unfolding updated
 valid-updated {m} v {u} k =
-    let e : updated m u ≡ mapAs (addDot (seenBy m) (u .dot)) (putEntries u (entriesIn m)) (waitingIn m) = λ i. record { clock = clockOf (addDot (seenBy m) (u .dot)); entries = entriesAs (putEntries u (entriesIn m)); waiting = v .laid i .waiting } in
-    rw e (valid-as (lawful-add (v .clock) (u .dot)) (Listed.valid-puts (v .entries) (v .clock) u (k .dot) (valid-put k)) (v .waiting))
+    let e : updated m u ≡ mapAs (addDot (seenBy m) (u .dot)) (putEntries u (entriesIn m))
+    (waitingIn m) = λ i. record {
+      clock = clockOf (addDot (seenBy m) (u .dot));
+      entries = entriesAs
+          (putEntries u (entriesIn m));
+      waiting = v .laid i .waiting;
+    } in
+    rw e (valid-as (lawful-add (v .clock) (u .dot)) (EntriesValid.valid-puts (v .entries) (v .clock) u (k .dot) (valid-put k)) (v .waiting))
 
 pub valid-update : {m : Map} → Valid m → {u : Update} → ValidUpdate u → Valid (update m u)
 unfolding update updated
@@ -159,8 +169,13 @@ module _ {m n : Map} (v : Valid m) (w : Valid n) where
   unfolding mingled
   under-mingled =
       let l = mergeEntries (seenBy m) (seenBy n) (entriesIn m) (entriesIn n) in
-      let e : mingled m n ≡ mapAs (seenBy m) l (waitingIn m) = λ i. record { clock = v .laid i .clock; entries = entriesAs l; waiting = v .laid i .waiting } in
-      rw e (under-as (v .clock) (Listed.valid-merge (v .clock) (w .clock) (v .entries) (w .entries)) (v .waiting))
+      let e : mingled m n ≡ mapAs (seenBy m) l (waitingIn m) = λ i. record {
+        clock = v .laid i .clock;
+        entries = entriesAs l;
+        waiting = v .laid
+            i .waiting;
+      } in
+      rw e (under-as (v .clock) (EntriesValid.valid-merge (v .clock) (w .clock) (v .entries) (w .entries)) (v .waiting))
 
   pub valid-merged : Valid (merged m n)
   unfolding merged
@@ -168,7 +183,11 @@ module _ {m n : Map} (v : Valid m) (w : Valid n) where
       let k = under-removes under-mingled (waitingIn n) (w .waiting .each) in
       let under = fold remove (mingled m n) (waitingIn n) in
       let both = joinDots (seenBy m) (seenBy n) in
-      let e : merged m n ≡ mapAs both (entriesIn under) (waitingIn under) = λ i. record { clock = clockOf both; entries = k .laid i .entries; waiting = k .laid i .waiting } in
+      let e : merged m n ≡ mapAs both (entriesIn under) (waitingIn under) = λ i. record {
+        clock = clockOf both;
+        entries = k .laid i .entries;
+        waiting = k .laid i .waiting;
+      } in
       rw e (valid-as (lawful-join (v .clock) (w .clock)) (k .entries) (k .waiting))
 
   pub valid-merge : Valid (merge m n)
@@ -178,4 +197,4 @@ module _ {m n : Map} (v : Valid m) (w : Valid n) where
 pub valid-reset : {m : Map} → Valid m → (c : List Dot) → Valid (reset m c)
 unfolding reset
 valid-reset {m} v c =
-    valid-as (lawful-cut c (v .clock)) (Listed.valid-resets (v .entries) (v .clock) c) (valid-reset-waiting (v .waiting) c)
+    valid-as (lawful-cut c (v .clock)) (EntriesValid.valid-resets (v .entries) (v .clock) c) (valid-reset-waiting (v .waiting .each) c)

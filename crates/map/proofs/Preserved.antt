@@ -4,26 +4,30 @@ use mathlib.Core.Bool.{Bool, true, false, cond}
 use mathlib.Core.List.{List, [], List·Memᴰ·not-nil}
 use Prim.Native.Nat.{ℕ}
 use lib.Dec.{leb}
-use Rattle.lists.specs.Sift.{sift}
-use Rattle.lists.specs.Fold.{fold}
-use Rattle.lists.specs.Order.{_∈_}
-use Rattle.lists.proofs.Pads.{take-pad}
-use Rattle.lists.proofs.Sides.{fold-keeps}
+use Rattle.listlaws.specs.Sift.{sift}
+use Rattle.listlaws.specs.Fold.{fold}
+use Rattle.listlaws.specs.Order.{_∈_}
+use Rattle.listlaws.proofs.Pads.{take-pad}
+use Rattle.listlaws.proofs.Sides.{fold-keeps}
 use Rattle.clock.specs.declared.Dot.{Dot}
-use Rattle.clock.specs.Dots.{dotLimit, noDot, counterIn, cutDots, joinDots, addDot}
+use Rattle.limits.specs.Limits.{dotLimit}
+use Rattle.clock.specs.Dots.{noDot, counterIn, cutDots, joinDots, addDot}
 use Rattle.register.specs.declared.Value.{Value}
-use Rattle.parts.specs.declared.Entry.{Entry}
-use Rattle.parts.specs.declared.Removal.{Removal}
-use Rattle.parts.specs.declared.Update.{Update}
-use Rattle.parts.specs.Model.{dotsIn, entryAs, underOf, listedIn}
-use Rattle.parts.specs.Entries.{stays, cutEntry, listed, removeFrom, removeEntries, putEntry, putEntries, cutAlone, mergeBoth, mergeEntries}
-use Rattle.parts.specs.Waits.{waits, unite, uniteInto, cutRemoval, resetWaiting}
-use Rattle.parts.specs.Valid.{ValidRemoval, ValidWaiting}
-use Rattle.parts.proofs.Pieces.{entries-of, waiting-of}
-use Rattle.parts.proofs.Preserving.{Closed, Made, entry-cut, entry-put, entry-alone, entry-together}
-use Rattle.parts.proofs.Wholes.{at-every, put-every}
-use Rattle.parts.proofs.Listed.{remove-entries-each, reset-entries-each, merge-entries-each}
-use Rattle.parts.proofs.Held.{waits-some, into-each, reset-each}
+use Rattle.entries.specs.declared.Entry.{Entry}
+use Rattle.removals.specs.declared.Removal.{Removal}
+use Rattle.entries.specs.declared.Update.{Update}
+use Rattle.entries.specs.Model.{dotsIn, entryAs}
+use Rattle.removals.specs.Model.{underOf, listedIn}
+use Rattle.entries.specs.Entries.{stays, cutEntry, removeFrom, removeEntries, putEntry, putEntries, cutAlone, mergeBoth, mergeEntries}
+use Rattle.removals.specs.Waits.{listed, waits, unite, uniteInto, cutRemoval, resetWaiting}
+use Rattle.removals.specs.Valid.{ValidRemoval, ValidWaiting}
+use Rattle.entries.proofs.Packs.{entries-of}
+use Rattle.removals.proofs.Packs.{waiting-of}
+use Rattle.entries.proofs.Preserving.{Closed, Made, entry-cut, entry-put, entry-alone, entry-together}
+use Rattle.entries.proofs.Puts.{at-every, put-every}
+use Rattle.entries.proofs.EntriesValid.{remove-entries-each, reset-entries-each, merge-entries-each}
+use Rattle.removals.proofs.Waits.{waits-some}
+use Rattle.removals.proofs.WaitingValid.{into-each, reset-each}
 use Rattle.map.specs.declared.Map.{Map}
 use Rattle.map.specs.declared.Op.{Op}
 use Rattle.map.specs.Model.{seenBy, entriesIn, waitingIn, mapAs}
@@ -33,7 +37,8 @@ use Rattle.map.specs.Applying.{apply}
 use Rattle.map.specs.Merging.{merge}
 use Rattle.map.specs.Resetting.{reset}
 use Rattle.map.specs.Valid.{Valid, ValidUpdate, ValidOp}
-use Rattle.map.proofs.Kept.{Under, under-own, seen-of, heldAfter, remove-laid, under-remove, cleared, valid-cleared, updated, valid-updated, mingled, under-mingled, merged, valid-merged}
+use Rattle.map.proofs.Kept.{Under, under-own, seen-of, heldAfter, remove-laid, under-remove, cleared, valid-cleared, updated, valid-updated}
+use Rattle.map.proofs.Kept.{mingled, under-mingled, merged, valid-merged}
 
 pub record Each (C : List Dot → Type 0) (E : Entry → Type 0) (R : Removal → Type 0) (m : Map) : Type 0 where
   pub clock : C (seenBy m)
@@ -62,7 +67,8 @@ pub record TakenOp (C : List Dot → Type 0) (E : Entry → Type 0) (R : Removal
 
 -- where an entry's property is one of its key, its clock and its values
 module _ {K : ℕ → Type 0} {C : List Dot → Type 0} {Q : Value → Type 0} {E : Entry → Type 0} (h : Closed C Q) (m : Made K C Q E) where
-  pub rules-of : {R : Removal → Type 0} → ((by : List Dot) (r : Removal) → R r → R (cutRemoval by r)) → ((x y : Removal) → ValidRemoval x → ValidRemoval y → R x → R y → R (unite x y)) → Rules C E R
+  pub rules-of : {R : Removal → Type 0} → ((by : List Dot) (r : Removal) → R r → R (cutRemoval by r))
+      → ((x y : Removal) → ValidRemoval x → ValidRemoval y → R x → R y → R (unite x y)) → Rules C E R
   rules-of cut unites = record {
     cut = h .cut;
     join = h .join;
@@ -81,7 +87,8 @@ module _ {K : ℕ → Type 0} {C : List Dot → Type 0} {Q : Value → Type 0} {
   }
 
 module _ {C : List Dot → Type 0} {E : Entry → Type 0} {R : Removal → Type 0} where
-  pub each-as : (c : List Dot) (l : List Entry) (w : List Removal) → C c → ((e : Entry) → e ∈ l → E e) → ((r : Removal) → r ∈ w → R r) → Each C E R (mapAs c l w)
+  pub each-as : (c : List Dot) (l : List Entry) (w : List Removal) → C c → ((e : Entry) → e ∈ l → E e) → ((r : Removal) → r ∈ w → R r)
+      → Each C E R (mapAs c l w)
   each-as c l w p f g = record { clock = rw (seen-of c l w) p; entries = rw (entries-of l) f; waiting = rw (waiting-of w) g }
 
 module _ {C : List Dot → Type 0} {E : Entry → Type 0} {R : Removal → Type 0} (k : Rules C E R) where
@@ -93,7 +100,8 @@ module _ {C : List Dot → Type 0} {E : Entry → Type 0} {R : Removal → Type 
       go true = k .entry-cut (underOf r) e s
       go false = s
 
-  held-kept : (seen : List Dot) {w : List Removal} {r : Removal} → ValidWaiting w → ValidRemoval r → ((z : Removal) → z ∈ w → R z) → R r → (z : Removal) → z ∈ heldAfter seen w r → R z
+  held-kept : (seen : List Dot) {w : List Removal} {r : Removal} → ValidWaiting w → ValidRemoval r → ((z : Removal) → z ∈ w → R z) → R r
+      → (z : Removal) → z ∈ heldAfter seen w r → R z
   unfolding heldAfter
   held-kept seen {w} {r} v g f s z i = go (waits seen r) refl i
     where
@@ -108,7 +116,8 @@ module _ {C : List Dot → Type 0} {E : Entry → Type 0} {R : Removal → Type 
       (remove-entries-each E r (entriesIn m) (λ e i n. from-kept r e (s .entries e i)))
       (held-kept (seenBy m) (v .waiting) g (s .waiting) t))
 
-  each-removes : {seen : List Dot} {m : Map} → Under seen m → Each C E R m → (l : List Removal) → ((r : Removal) → r ∈ l → ValidRemoval r) → ((r : Removal) → r ∈ l → R r) → Each C E R (fold remove m l)
+  each-removes : {seen : List Dot} {m : Map} → Under seen m → Each C E R m → (l : List Removal) → ((r : Removal) → r ∈ l → ValidRemoval r)
+      → ((r : Removal) → r ∈ l → R r) → Each C E R (fold remove m l)
   each-removes {seen} {m} v s l f g =
       fold-keeps remove (λ n. Under seen n × Each C E R n) l
       (λ n r i b. (under-remove (b .0) (f r i), each-remove (b .0) (b .1) (f r i) (g r i))) m (v, s) .1
@@ -123,7 +132,8 @@ module _ {C : List Dot → Type 0} {E : Entry → Type 0} {R : Removal → Type 
   unfolding updated
   each-updated {m} s {u} t = record {
     clock = rw (take-pad noDot dotLimit (addDot (seenBy m) (u .dot))) (t .added (seenBy m) (s .clock));
-    entries = rw (entries-of (putEntries u (entriesIn m))) (put-every E u (entriesIn m) (s .entries) (at-every (λ e. E (putEntry u e)) (u .key) (entriesIn m) (λ e i q. t .put e (s .entries e i)) (t .put (entryAs (u .key) [] []) (t .new))));
+    entries = rw (entries-of (putEntries u (entriesIn m))) (put-every E u (entriesIn m) (s .entries)
+        (at-every (λ e. E (putEntry u e)) (u .key) (entriesIn m) (λ e i q. t .put e (s .entries e i)) (t .put (entryAs (u .key) [] []) (t .new))));
     waiting = s .waiting;
   }
 
@@ -150,7 +160,8 @@ module _ {C : List Dot → Type 0} {E : Entry → Type 0} {R : Removal → Type 
       clock = s .clock;
       entries =
           rw (entries-of (mergeEntries (seenBy m) (seenBy n) (entriesIn m) (entriesIn n)))
-          (merge-entries-each E (seenBy m) (seenBy n) (v .entries .rising) (w .entries .rising) (λ e i q. k .entry-alone (seenBy n) e (s .entries e i)) (λ e i q. k .entry-alone (seenBy m) e (t .entries e i))
+          (merge-entries-each E (seenBy m) (seenBy n) (v .entries .rising) (w .entries .rising)
+          (λ e i q. k .entry-alone (seenBy n) e (s .entries e i)) (λ e i q. k .entry-alone (seenBy m) e (t .entries e i))
           (λ e f i j q z. k .entry-together (seenBy m) (seenBy n) e f (s .entries e i) (t .entries f j)));
       waiting = s .waiting;
     }
@@ -159,7 +170,12 @@ module _ {C : List Dot → Type 0} {E : Entry → Type 0} {R : Removal → Type 
     unfolding merged
     each-merged =
         let r = each-removes (under-mingled v w) each-mingled (waitingIn n) (w .waiting .each) (t .waiting) in
-        record { clock = rw (take-pad noDot dotLimit (joinDots (seenBy m) (seenBy n))) (k .join (seenBy m) (seenBy n) (s .clock) (t .clock)); entries = r .entries; waiting = r .waiting }
+        record {
+          clock = rw (take-pad noDot dotLimit (joinDots (seenBy m) (seenBy n)))
+              (k .join (seenBy m) (seenBy n) (s .clock) (t .clock));
+          entries = r .entries;
+          waiting = r .waiting;
+        }
 
     pub each-merge : Each C E R (merge m n)
     unfolding merge merged mingled
@@ -169,4 +185,5 @@ module _ {C : List Dot → Type 0} {E : Entry → Type 0} {R : Removal → Type 
   unfolding reset
   each-reset {m} v s c =
       each-as (cutDots c (seenBy m)) (sift stays (cutEntry c) (entriesIn m)) (resetWaiting c (waitingIn m)) (k .cut c (seenBy m) (s .clock))
-      (reset-entries-each E c (entriesIn m) (λ e i n. k .entry-cut c e (s .entries e i))) (reset-each R (k .united) (v .waiting) c (λ r i. k .removal-cut c r (s .waiting r i)) .1)
+      (reset-entries-each E c (entriesIn m) (λ e i n. k .entry-cut c e (s .entries e i)))
+      (reset-each R (k .united) (v .waiting) c (λ r i. k .removal-cut c r (s .waiting r i)) .1)

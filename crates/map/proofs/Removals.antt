@@ -5,31 +5,34 @@ use mathlib.Core.List.{List, [], _∷_}
 use Prim.Native.Nat.{_<_}
 use native.Mathlib.Omega.{arith}
 use borrow.Author.Tests.{not-true, lt-leb}
-use Rattle.lists.specs.Sift.{sift, those}
-use Rattle.lists.specs.Fold.{fold}
-use Rattle.lists.specs.Order.{_∈_, Ascending}
-use Rattle.lists.proofs.Those.{those-means, those-ascends, those-same, those-all, those-those}
-use Rattle.lists.proofs.Twice.{sift-same}
+use Rattle.listlaws.specs.Sift.{sift, those}
+use Rattle.listlaws.specs.Fold.{fold}
+use Rattle.listlaws.specs.Order.{_∈_, Ascending}
+use Rattle.listlaws.proofs.Those.{those-means, those-ascends, those-same, those-all, those-those}
+use Rattle.listlaws.proofs.Twice.{sift-same}
 use Rattle.clock.specs.declared.Dot.{Dot}
 use Rattle.clock.specs.Dots.{clockOf, counterIn, covers, joinDots, addDot}
-use Rattle.clock.specs.Lawful.{Lawful}
 use Rattle.clock.proofs.Packs.{dots-of}
 use Rattle.clock.proofs.Covers.{covers-trans, covers-join-left}
-use Rattle.parts.specs.declared.Entry.{Entry}
-use Rattle.parts.specs.declared.Removal.{Removal}
-use Rattle.parts.specs.declared.Update.{Update}
-use Rattle.parts.specs.Model.{entriesAs, waitingAs, underOf}
-use Rattle.parts.specs.Entries.{stays, removeEntries, putEntries, mergeEntries, run}
-use Rattle.parts.specs.Waits.{waits, removalBefore, uniteAll, uniteInto}
-use Rattle.parts.specs.Valid.{ValidWaiting}
-use Rattle.parts.proofs.Pieces.{entries-of, waiting-of}
-use Rattle.parts.proofs.Cuts.{Whole, whole-valid}
-use Rattle.parts.proofs.Runs.{runs, run-trade, run-whole, removes-run, removes-changed}
-use Rattle.parts.proofs.Waits.{waits-covers, waits-same, unite-behind, unite-afresh, unite-those, unite-ascends, those-valid}
-use Rattle.parts.proofs.Rounds.{clocked-valid, run-unite, run-some}
-use Rattle.parts.proofs.Wholes.{put-stays}
-use Rattle.parts.proofs.Goes.{merge-stays}
-use Rattle.parts.proofs.Listed.{whole-merged}
+use Rattle.entries.specs.declared.Entry.{Entry}
+use Rattle.removals.specs.declared.Removal.{Removal}
+use Rattle.entries.specs.declared.Update.{Update}
+use Rattle.entries.specs.Model.{entriesAs}
+use Rattle.removals.specs.Model.{waitingAs, underOf}
+use Rattle.entries.specs.Entries.{stays, removeEntries, putEntries, mergeEntries, run}
+use Rattle.removals.specs.Waits.{waits, removalBefore, uniteAll, uniteInto}
+use Rattle.removals.specs.Valid.{ValidWaiting}
+use Rattle.entries.proofs.Packs.{entries-of}
+use Rattle.removals.proofs.Packs.{waiting-of}
+use Rattle.entries.proofs.Cuts.{Whole, whole-valid}
+use Rattle.entries.proofs.Runs.{runs, run-trade, run-whole, removes-run, removes-changed, run-unite, run-some}
+use Rattle.removals.proofs.Waits.{waits-covers, waits-same}
+use Rattle.removals.proofs.Uniting.{unite-behind, unite-afresh, unite-those, unite-ascends}
+use Rattle.removals.proofs.WaitingValid.{those-valid}
+use Rattle.removals.proofs.ListingClocks.{clocked-valid}
+use Rattle.entries.proofs.Puts.{put-stays}
+use Rattle.entries.proofs.MergeLeaves.{merge-stays}
+use Rattle.entries.proofs.EntriesValid.{whole-merged}
 use Rattle.map.specs.declared.Map.{Map}
 use Rattle.map.specs.Model.{seenBy, entriesIn, waitingIn, mapAs}
 use Rattle.map.specs.Removing.{remove, afresh}
@@ -38,33 +41,41 @@ use Rattle.map.specs.Merging.{merge}
 use Rattle.map.specs.Valid.{Valid}
 
 -- one removal
-pub remove-as : (c : List Dot) (l : List Entry) (w : List Removal) (r : Removal) → remove (mapAs c l w) r ≡ mapAs c (removeEntries r l) (cond (waits c r) (uniteInto w r) w)
+pub remove-as : (c : List Dot) (l : List Entry) (w : List Removal) (r : Removal)
+    → remove (mapAs c l w) r ≡ mapAs c (removeEntries r l) (cond (waits c r) (uniteInto w r) w)
 unfolding remove
 remove-as c l w r = rw (dots-of {c = clockOf c} c refl, entries-of l, waiting-of w) (go (waits c r))
   where
-    go : (b : Bool) → _≡_ {A = Map} (record { clock = clockOf c; entries = entriesAs (removeEntries r l); waiting = cond b (waitingAs (uniteInto w r)) (waitingAs w) }) (mapAs c (removeEntries r l) (cond b (uniteInto w r) w))
+    go : (b : Bool) → _≡_ {A = Map}
+        (record { clock = clockOf c; entries = entriesAs (removeEntries r l); waiting = cond b (waitingAs (uniteInto w r)) (waitingAs w) })
+        (mapAs c (removeEntries r l) (cond b (uniteInto w r) w))
     go true = refl
     go false = refl
 
 -- a run of removals
-pub removes : (ws : List Removal) (c : List Dot) (l : List Entry) (w : List Removal) → fold remove (mapAs c l w) ws ≡ mapAs c (runs ws l) (fold uniteInto w (those (waits c) ws))
+pub removes : (ws : List Removal) (c : List Dot) (l : List Entry) (w : List Removal)
+    → fold remove (mapAs c l w) ws ≡ mapAs c (runs ws l) (fold uniteInto w (those (waits c) ws))
 unfolding fold sift
 removes [] c l w = refl
-removes (r ∷ ws) c l w = ap (λ m. fold remove m ws) (remove-as c l w r) ∙ removes ws c (removeEntries r l) (cond (waits c r) (uniteInto w r) w) ∙ go (waits c r)
+removes (r ∷ ws) c l w = ap (λ m. fold remove m ws) (remove-as c l w r) ∙ removes ws c (removeEntries r l) (cond (waits c r) (uniteInto w r) w)
+    ∙ go (waits c r)
   where
-    go : (b : Bool) → mapAs c (runs ws (removeEntries r l)) (fold uniteInto (cond b (uniteInto w r) w) (those (waits c) ws)) ≡ mapAs c (runs ws (removeEntries r l)) (fold uniteInto w (cond b (r ∷ those (waits c) ws) (those (waits c) ws)))
+    go : (b : Bool) → mapAs c (runs ws (removeEntries r l)) (fold uniteInto (cond b (uniteInto w r) w) (those (waits c) ws)) ≡ mapAs c
+        (runs ws (removeEntries r l)) (fold uniteInto w (cond b (r ∷ those (waits c) ws) (those (waits c) ws)))
     go true = refl
     go false = refl
 
 -- the waiting removals, afresh
-pub afresh-as : (c : List Dot) (l : List Entry) {w : List Removal} → Ascending removalBefore w → afresh (mapAs c l w) ≡ mapAs c (runs w l) (those (waits c) w)
+pub afresh-as : (c : List Dot) (l : List Entry) {w : List Removal} → Ascending removalBefore w
+    → afresh (mapAs c l w) ≡ mapAs c (runs w l) (those (waits c) w)
 unfolding afresh
 afresh-as c l {w} a =
     ap (fold remove (mapAs c l [])) (waiting-of w) ∙ removes w c l []
     ∙ ap (mapAs c (runs w l)) (unite-afresh (those-ascends (waits c) a))
 
 -- behind a change of all entries
-pub afresh-closed : (c : List Dot) (f : Entry → Entry) (l : List Entry) {w : List Removal} → Ascending removalBefore w → afresh (mapAs c (sift stays f l) w) ≡ mapAs c (sift stays (λ e. run w (f e)) l) (those (waits c) w)
+pub afresh-closed : (c : List Dot) (f : Entry → Entry) (l : List Entry) {w : List Removal} → Ascending removalBefore w
+    → afresh (mapAs c (sift stays f l) w) ≡ mapAs c (sift stays (λ e. run w (f e)) l) (those (waits c) w)
 afresh-closed c f l {w} a =
     afresh-as c (sift stays f l) a ∙ ap (λ s. mapAs c s (those (waits c) w)) (removes-changed w f l)
 
@@ -72,12 +83,9 @@ afresh-closed c f l {w} a =
 pub entries-stay : {m : Map} → Valid m → those stays (entriesIn m) ≡ entriesIn m
 entries-stay {m} h = those-all stays (entriesIn m) (λ e i. ap not (h .entries .each e i .some))
 
-pub afresh-valid : {m : Map} → Valid m → afresh m ≡ mapAs (seenBy m) (sift stays (run (waitingIn m)) (entriesIn m)) (those (waits (seenBy m)) (waitingIn m))
-afresh-valid {m} h =
-    ap afresh (h .laid) ∙ ap (λ l. afresh (mapAs (seenBy m) l (waitingIn m))) (sym (entries-stay h))
-    ∙ afresh-closed (seenBy m) (λ e. e) (entriesIn m) (h .waiting .rising)
-
-pub update-closed : {m : Map} (u : Update) → Valid m → counterIn (seenBy m) (u .dot .actor) < u .dot .counter → update m u ≡ mapAs (addDot (seenBy m) (u .dot)) (sift stays (run (waitingIn m)) (putEntries u (entriesIn m))) (those (waits (addDot (seenBy m) (u .dot))) (waitingIn m))
+pub update-closed : {m : Map} (u : Update) → Valid m → counterIn (seenBy m) (u .dot .actor) < u .dot .counter
+    → update m u ≡ mapAs (addDot (seenBy m) (u .dot)) (sift stays (run (waitingIn m)) (putEntries u (entriesIn m)))
+    (those (waits (addDot (seenBy m) (u .dot))) (waitingIn m))
 unfolding update
 update-closed {m} u h p =
     let c = addDot (seenBy m) (u .dot) in
@@ -88,11 +96,11 @@ update-closed {m} u h p =
     ∙ afresh-closed c (λ x. x) l (h .waiting .rising))
 
 -- what waits under a clock waits under a smaller one
-waits-less : (c d : List Dot) (r : Removal) → covers d c ≡ true → Lawful (underOf r) → waits c r && waits d r ≡ waits d r
-waits-less c d r t h = rw (waits-covers c r, waits-covers d r) (go (covers c (underOf r)) refl)
+waits-less : (c d : List Dot) (r : Removal) → covers d c ≡ true → waits c r && waits d r ≡ waits d r
+waits-less c d r t = rw (waits-covers c r, waits-covers d r) (go (covers c (underOf r)) refl)
   where
     go : (b : Bool) → covers c (underOf r) ≡ b → not b && not (covers d (underOf r)) ≡ not (covers d (underOf r))
-    go true u = ap not (sym (covers-trans d c h t u))
+    go true u = ap not (sym (covers-trans d c (underOf r) t u))
     go false u = refl
 
 -- what waits under a clock is not covered by it
@@ -115,15 +123,20 @@ module _ {m n : Map} (h : Valid m) (k : Valid n) where
   theirs-valid = those-valid (waits (seenBy m)) (k .waiting)
 
   -- their waiting removals under our old clock
-  under : fold remove (record { clock = m .clock; entries = entriesAs mingled; waiting = m .waiting }) (waitingIn n) ≡ mapAs (seenBy m) (sift stays (run (waitingIn n)) mingled) (uniteAll (waitingIn m) theirs)
+  under : fold remove (record { clock = m .clock; entries = entriesAs mingled; waiting = m .waiting }) (waitingIn n) ≡ mapAs (seenBy m)
+      (sift stays (run (waitingIn n)) mingled) (uniteAll (waitingIn m) theirs)
   under =
       (λ i. fold remove (record { clock = h .laid i .clock; entries = entriesAs mingled; waiting = h .laid i .waiting }) (waitingIn n))
       ∙ removes (waitingIn n) (seenBy m) mingled (waitingIn m)
-      ∙ ap₂ (mapAs (seenBy m)) (ap (runs (waitingIn n)) (sym (merge-stays (seenBy m) (seenBy n) (entriesIn m) (entriesIn n))) ∙ removes-run (waitingIn n) mingled) (unite-behind (waitingIn m) (theirs-valid .rising))
+      ∙ ap₂ (mapAs (seenBy m)) (ap (runs (waitingIn n)) (sym (merge-stays (seenBy m) (seenBy n) (entriesIn m) (entriesIn n)))
+      ∙ removes-run (waitingIn n) mingled) (unite-behind (waitingIn m) (theirs-valid .rising))
 
   -- ours then, with those of theirs that joined them
-  entries-closed : sift stays (λ e. run (uniteAll (waitingIn m) theirs) (run (waitingIn n) e)) mingled ≡ sift stays (λ e. run (waitingIn m) (run (waitingIn n) e)) mingled
-  entries-closed = sift-same stays _ _ mingled (λ e i. each e (whole-merged (seenBy m) (seenBy n) (h .entries .rising) (k .entries .rising) (λ x j. whole-valid (h .entries .each x j)) (λ x j. whole-valid (k .entries .each x j)) e i))
+  entries-closed : sift stays (λ e. run (uniteAll (waitingIn m) theirs) (run (waitingIn n) e)) mingled ≡ sift stays
+      (λ e. run (waitingIn m) (run (waitingIn n) e)) mingled
+  entries-closed = sift-same stays _ _ mingled
+      (λ e i. each e (whole-merged (seenBy m) (seenBy n) (h .entries .rising) (k .entries .rising) (λ x j. whole-valid (h .entries .each x j))
+      (λ x j. whole-valid (k .entries .each x j)) e i))
     where
       each : (e : Entry) → Whole e → run (uniteAll (waitingIn m) theirs) (run (waitingIn n) e) ≡ run (waitingIn m) (run (waitingIn n) e)
       each e q =
@@ -132,14 +145,16 @@ module _ {m n : Map} (h : Valid m) (k : Valid n) where
           ∙ ap (run (waitingIn m)) (run-some (waits (seenBy m)) (clocked-valid (k .waiting)) q)
 
   -- what our old clock covers the joined clock covers
-  waiting-closed : those (waits joined) (uniteAll (waitingIn m) theirs) ≡ uniteAll (those (waits joined) (waitingIn m)) (those (waits joined) (waitingIn n))
+  waiting-closed : those (waits joined) (uniteAll (waitingIn m) theirs) ≡ uniteAll (those (waits joined) (waitingIn m))
+      (those (waits joined) (waitingIn n))
   waiting-closed =
       unite-those (h .waiting .rising) (theirs-valid .rising) (waits joined) (λ x y e. waits-same joined x y e)
       ∙ ap (uniteAll (those (waits joined) (waitingIn m)))
       (those-those (waits joined) (waits (seenBy m)) (waitingIn n)
-      ∙ those-same _ _ (waitingIn n) (λ r i. waits-less (seenBy m) joined r (covers-join-left (h .clock) (k .clock)) (k .waiting .each r i .clock)))
+      ∙ those-same _ _ (waitingIn n) (λ r i. waits-less (seenBy m) joined r (covers-join-left (h .clock) (k .clock))))
 
-  pub merge-closed : merge m n ≡ mapAs (joinDots (seenBy m) (seenBy n)) (sift stays (λ e. run (waitingIn m) (run (waitingIn n) e)) (mingled)) (uniteAll (those (waits (joinDots (seenBy m) (seenBy n))) (waitingIn m)) (those (waits (joinDots (seenBy m) (seenBy n))) (waitingIn n)))
+  pub merge-closed : merge m n ≡ mapAs (joinDots (seenBy m) (seenBy n)) (sift stays (λ e. run (waitingIn m) (run (waitingIn n) e)) (mingled))
+      (uniteAll (those (waits (joinDots (seenBy m) (seenBy n))) (waitingIn m)) (those (waits (joinDots (seenBy m) (seenBy n))) (waitingIn n)))
   unfolding merge
   merge-closed =
       ap (λ x. afresh (record { clock = clockOf joined; entries = x .entries; waiting = x .waiting })) under
@@ -155,12 +170,13 @@ module _ {m n : Map} (h : Valid m) (k : Valid n) where
   pub merge-seen : seenBy (merge m n) ≡ joinDots (seenBy m) (seenBy n)
   merge-seen = ap (λ x. seenBy x) merge-closed ∙ dots-of joined refl
 
-  -- "After a merge no waiting removal is covered by the map clock."
+  -- an end theorem: "After a merge no waiting removal is covered by the map clock."
   pub merge-uncovered : (r : Removal) → r ∈ waitingIn (merge m n) → covers (seenBy (merge m n)) (underOf r) ≡ false
   merge-uncovered r i = rw merge-seen (uncovered joined (uniteAll (waitingIn m) (waitingIn n)) r (rw merge-waits at i))
 
--- "or an update that was not yet seen"
-pub update-uncovered : {m : Map} (u : Update) → Valid m → counterIn (seenBy m) (u .dot .actor) < u .dot .counter → (r : Removal) → r ∈ waitingIn (update m u) → covers (seenBy (update m u)) (underOf r) ≡ false
+-- another: "or an update that was not yet seen"
+pub update-uncovered : {m : Map} (u : Update) → Valid m → counterIn (seenBy m) (u .dot .actor) < u .dot .counter → (r : Removal)
+    → r ∈ waitingIn (update m u) → covers (seenBy (update m u)) (underOf r) ≡ false
 update-uncovered {m} u h p r i =
     let c = addDot (seenBy m) (u .dot) in
     let e = update-closed u h p in

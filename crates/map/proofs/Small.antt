@@ -1,28 +1,31 @@
--- The limit on dots: where every value's clock and every waiting clock is within it, the map's clock alone decides; and every operation keeps them within it.
+-- The limit on dots: where every value's clock and every waiting clock is within it, the map's clock alone decides; and every operation
+-- keeps them within it.
 use mathlib.Core.Path.{_≡_, refl}
 use mathlib.Core.Bool.{Bool, true, false, _||_}
 use Prim.Native.Nat.{_≤_}
 use native.Mathlib.Omega.{arith}
 use borrow.Author.Tests.{ltb-false, le-ltb}
 use lib.ListN.{length}
-use Rattle.lists.specs.First.{some}
-use Rattle.lists.specs.Order.{_∈_}
-use Rattle.lists.proofs.Firsts.{first-none}
-use Rattle.lists.proofs.Pads.{take-pad}
-use Rattle.clock.specs.Dots.{dotLimit, noDot, dotsOf, cutDots}
+use Rattle.listlaws.specs.First.{some}
+use Rattle.listlaws.specs.Order.{_∈_}
+use Rattle.listlaws.proofs.Firsts.{first-none}
+use Rattle.listlaws.proofs.Pads.{take-pad}
+use Rattle.limits.specs.Limits.{dotLimit}
+use Rattle.clock.specs.Dots.{noDot, dotsOf, cutDots}
 use Rattle.clock.proofs.Packs.{cut-length}
 use Rattle.clock.proofs.Within.{covered-length}
 use Rattle.register.specs.declared.Value.{Value}
-use Rattle.parts.specs.declared.Entry.{Entry}
-use Rattle.parts.specs.declared.Removal.{Removal}
-use Rattle.parts.specs.declared.Update.{Update}
-use Rattle.parts.specs.Model.{dotsIn, valuesIn, underOf}
-use Rattle.parts.proofs.Pieces.{values-in}
+use Rattle.entries.specs.declared.Entry.{Entry}
+use Rattle.removals.specs.declared.Removal.{Removal}
+use Rattle.entries.specs.declared.Update.{Update}
+use Rattle.entries.specs.Model.{dotsIn, valuesIn}
+use Rattle.removals.specs.Model.{underOf}
+use Rattle.entries.proofs.Packs.{values-in}
 use Rattle.map.specs.declared.Map.{Map}
 use Rattle.map.specs.Model.{seenBy, entriesIn, waitingIn}
 use Rattle.map.specs.Judging.{exceeding, overDots}
 use Rattle.map.specs.Valid.{Valid}
-use Rattle.parts.proofs.Preserving.{Closed, Made}
+use Rattle.entries.proofs.Preserving.{Closed, Made}
 use Rattle.map.proofs.Preserved.{Each, Rules, Taken, rules-of, taken-of}
 
 -- a value, and a removal, under a clock within the limit
@@ -51,13 +54,16 @@ small-over {m} v s = go (exceeding dotLimit (seenBy m)) refl
         let k = v .entries .each e i in
         let n = ltb-false dotLimit (length (seenBy m)) t in
         rw (le-ltb dotLimit (length (dotsIn e)) (omega (arith, covered-length (k .clock) (v .clock) (k .covered))))
-        (first-none (λ w. exceeding dotLimit (dotsOf (w .clock))) (λ w. true) false (valuesIn e) (λ w j. le-ltb dotLimit (length (dotsOf (w .clock))) (s .entries e i .each w j)))
+        (first-none (λ w. exceeding dotLimit (dotsOf (w .clock))) (λ w. true) false (valuesIn e)
+        (λ w j. le-ltb dotLimit (length (dotsOf (w .clock))) (s .entries e i .each w j)))
 
-    go : (b : Bool) → exceeding dotLimit (seenBy m) ≡ b → (b || (some wide (entriesIn m) || some (λ r. exceeding dotLimit (underOf r)) (waitingIn m))) ≡ b
+    go : (b : Bool) → exceeding dotLimit (seenBy m) ≡ b → (b || (some wide (entriesIn m) || some (λ r. exceeding dotLimit (underOf r)) (waitingIn m)))
+        ≡ b
     go true t = refl
     go false t =
         rw (first-none wide (λ e. true) false (entriesIn m) (narrow t))
-        (first-none (λ r. exceeding dotLimit (underOf r)) (λ r. true) false (waitingIn m) (λ r j. le-ltb dotLimit (length (underOf r)) (s .waiting r j)))
+        (first-none (λ r. exceeding dotLimit (underOf r)) (λ r. true) false (waitingIn m)
+        (λ r j. le-ltb dotLimit (length (underOf r)) (s .waiting r j)))
 
 -- every operation keeps it so
 small-closed : Closed (λ c. Unit {0}) SmallValue

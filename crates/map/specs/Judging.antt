@@ -4,12 +4,13 @@ use mathlib.Core.List.{List}
 use Prim.Native.Nat.{ℕ}
 use lib.Dec.{ltb, eqb}
 use lib.ListN.{length}
-use Rattle.lists.specs.First.{some}
-use Rattle.clock.specs.Dots.{dotLimit, dotsOf}
-use Rattle.register.specs.Values.{valueLimit}
+use Rattle.listlaws.specs.First.{some}
+use Rattle.limits.specs.Limits.{dotLimit, valueLimit, entryLimit, waitingLimit, keyLimit}
+use Rattle.clock.specs.Dots.{dotsOf}
 use Rattle.map.specs.declared.Map.{Map}
 use Rattle.map.specs.declared.Judged.{Judged}
-use Rattle.parts.specs.Model.{entryLimit, waitingLimit, keyLimit, dotsIn, valuesIn, underOf, listedIn}
+use Rattle.entries.specs.Model.{dotsIn, valuesIn}
+use Rattle.removals.specs.Model.{underOf, listedIn}
 use Rattle.map.specs.Model.{seenBy, entriesIn, waitingIn, noMap}
 
 abbrev pub exceeding : {A : Type 0} → ℕ → List A → Bool
@@ -18,7 +19,8 @@ exceeding limit l = ltb limit (length l)
 -- "over the limit on clock dots, entries, values, waiting removals, keys of one"
 unfoldable pub overDots : Map → Bool
 overDots m =
-    exceeding dotLimit (seenBy m) || (some (λ e. exceeding dotLimit (dotsIn e) || some (λ v. exceeding dotLimit (dotsOf (v .clock))) (valuesIn e)) (entriesIn m)
+    exceeding dotLimit (seenBy m) || (some (λ e. exceeding dotLimit (dotsIn e) || some (λ v. exceeding dotLimit (dotsOf (v .clock))) (valuesIn e))
+    (entriesIn m)
     || some (λ r. exceeding dotLimit (underOf r)) (waitingIn m))
 
 unfoldable pub overEntries : Map → Bool

@@ -2,9 +2,10 @@
 use mathlib.Core.List.{List, []}
 use Rattle.clock.specs.declared.Dot.{Dot}
 use Rattle.clock.specs.Dots.{dotsOf, clockOf}
-use Rattle.parts.specs.declared.Entry.{Entry}
-use Rattle.parts.specs.declared.Removal.{Removal}
-use Rattle.parts.specs.Model.{entriesOf, entriesAs, waitingOf, waitingAs}
+use Rattle.entries.specs.declared.Entry.{Entry}
+use Rattle.removals.specs.declared.Removal.{Removal}
+use Rattle.entries.specs.Model.{entriesOf, entriesAs}
+use Rattle.removals.specs.Model.{waitingOf, waitingAs}
 use Rattle.map.specs.declared.Map.{Map}
 
 -- a map's three parts

@@ -1,11 +1,12 @@
 -- 01 "Map": the removal of keys under a clock, and applying every waiting removal afresh.
 use mathlib.Core.Bool.{cond}
 use mathlib.Core.List.{[]}
-use Rattle.lists.specs.Fold.{fold}
-use Rattle.parts.specs.declared.Removal.{Removal}
-use Rattle.parts.specs.Model.{entriesAs, waitingAs}
-use Rattle.parts.specs.Entries.{removeEntries}
-use Rattle.parts.specs.Waits.{waits, uniteInto}
+use Rattle.listlaws.specs.Fold.{fold}
+use Rattle.removals.specs.declared.Removal.{Removal}
+use Rattle.entries.specs.Model.{entriesAs}
+use Rattle.removals.specs.Model.{waitingAs}
+use Rattle.entries.specs.Entries.{removeEntries}
+use Rattle.removals.specs.Waits.{waits, uniteInto}
 use Rattle.map.specs.declared.Map.{Map}
 use Rattle.map.specs.Model.{seenBy, entriesIn, waitingIn}
 

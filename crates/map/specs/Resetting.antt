@@ -1,11 +1,12 @@
 -- 01 "Map": `reset_remove`.
 use mathlib.Core.List.{List}
-use Rattle.lists.specs.Sift.{sift}
+use Rattle.listlaws.specs.Sift.{sift}
 use Rattle.clock.specs.declared.Dot.{Dot}
 use Rattle.clock.specs.Dots.{clockOf, cutDots}
-use Rattle.parts.specs.Model.{entriesAs, waitingAs}
-use Rattle.parts.specs.Entries.{stays, cutEntry}
-use Rattle.parts.specs.Waits.{resetWaiting}
+use Rattle.entries.specs.Model.{entriesAs}
+use Rattle.removals.specs.Model.{waitingAs}
+use Rattle.entries.specs.Entries.{stays, cutEntry}
+use Rattle.removals.specs.Waits.{resetWaiting}
 use Rattle.map.specs.declared.Map.{Map}
 use Rattle.map.specs.Model.{seenBy, entriesIn, waitingIn}
 

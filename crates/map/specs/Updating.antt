@@ -2,9 +2,9 @@
 use mathlib.Core.Bool.{cond}
 use lib.Dec.{leb}
 use Rattle.clock.specs.Dots.{clockOf, counterIn, addDot}
-use Rattle.parts.specs.declared.Update.{Update}
-use Rattle.parts.specs.Model.{entriesAs}
-use Rattle.parts.specs.Entries.{putEntries}
+use Rattle.entries.specs.declared.Update.{Update}
+use Rattle.entries.specs.Model.{entriesAs}
+use Rattle.entries.specs.Entries.{putEntries}
 use Rattle.map.specs.declared.Map.{Map}
 use Rattle.map.specs.Model.{seenBy, entriesIn}
 use Rattle.map.specs.Removing.{afresh}

@@ -3,12 +3,14 @@ use mathlib.Core.Path.{_≡_}
 use mathlib.Core.Bool.{true}
 use Prim.Native.Nat.{_≤_, _<_}
 use lib.ListN.{length}
-use Rattle.clock.specs.Dots.{dotLimit, dotsOf, clockOf}
+use Rattle.limits.specs.Limits.{dotLimit, keyLimit}
+use Rattle.clock.specs.Dots.{dotsOf, clockOf}
 use Rattle.clock.specs.Lawful.{Lawful}
-use Rattle.parts.specs.declared.Removal.{Removal}
-use Rattle.parts.specs.declared.Update.{Update}
-use Rattle.parts.specs.Model.{keyLimit, underOf, listedIn}
-use Rattle.parts.specs.Valid.{ValidEntries, ValidRemoval, ValidWaiting}
+use Rattle.removals.specs.declared.Removal.{Removal}
+use Rattle.entries.specs.declared.Update.{Update}
+use Rattle.removals.specs.Model.{underOf, listedIn}
+use Rattle.entries.specs.Valid.{ValidEntries}
+use Rattle.removals.specs.Valid.{ValidRemoval, ValidWaiting}
 use Rattle.map.specs.declared.Map.{Map}
 use Rattle.map.specs.declared.Op.{Op}
 use Rattle.map.specs.Model.{seenBy, entriesIn, waitingIn, mapAs}

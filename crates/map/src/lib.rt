@@ -1,12 +1,11 @@
 // The map: a clock, entries by key, and removals that wait. The Rust's map.rs, on arrays with a count, by value.
-mod applying;
-mod merging;
+mod changes;
 
 use clock::Clock;
-use parts::Entries;
-use parts::Removal;
-use parts::Update;
-use parts::Waiting;
+use entries::Entries;
+use entries::Update;
+use removals::Removal;
+use removals::Waiting;
 
 pub struct Map {
     pub clock: Clock,
@@ -23,6 +22,6 @@ pub struct Op {
 
 // The new map, or the number of the limit that it breaks, with an empty map.
 pub struct Judged {
-    pub number: u64,
+    pub number: u8,
     pub map: Map,
 }

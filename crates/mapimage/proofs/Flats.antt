@@ -6,18 +6,15 @@ use Rattle.scan.specs.Each.{every}
 use mathlib.Core.List.{List, [], _∷_, _++_}
 use Prim.Native.Nat.{ℕ, _+_, _≤_, _<_}
 use lib.ListN.{length, take, drop, getD}
-use Rattle.lists.specs.Fold.{fold}
-use Rattle.lists.proofs.Folds.{fold-append}
-use Rattle.lists.proofs.Rests.{drop-step, drop-end}
-use Rattle.register.specs.declared.Value.{Value}
-use Rattle.register.specs.Values.{noContent}
-use Rattle.parts.specs.declared.Entry.{Entry}
-use Rattle.parts.specs.declared.Removal.{Removal}
-use Rattle.mapimage.specs.Sorted.{lesser, leastFrom}
+use Rattle.listlaws.specs.Fold.{fold}
+use Rattle.listlaws.proofs.Folds.{fold-append}
+use Rattle.listlaws.proofs.Rests.{drop-step, drop-end}
+use Rattle.mapimage.specs.Least.{lesser, leastFrom}
 use Rattle.mapimage.specs.MapImage.{flatFrom}
 
 module _ {A B : Type 0} (f : ℕ → A → List B) where
-  pub flat-on : (xs : List A) (n i : ℕ) (d : A) → i < length (take n xs) → flatFrom f i (drop i (take n xs)) ≡ f i (getD xs i d) ++ flatFrom f (i + 1) (drop (i + 1) (take n xs))
+  pub flat-on : (xs : List A) (n i : ℕ) (d : A) → i < length (take n xs)
+      → flatFrom f i (drop i (take n xs)) ≡ f i (getD xs i d) ++ flatFrom f (i + 1) (drop (i + 1) (take n xs))
   unfolding flatFrom
   flat-on xs n i d h = rw (drop-step xs n i d h)
 
@@ -40,27 +37,20 @@ module _ {end low m : ℕ} {whole : List ℕ} where
   least-start = record { left = refl; below = refl }
 
   -- some numbers at once
-  pub least-all : {rest now : List ℕ} {best next : ℕ} (more : List ℕ) → Least end low m whole rest best → rest ≡ more ++ now → every (λ x. ltb x end) more ≡ true → next ≡ leastFrom low best more → Least end low m whole now next
+  pub least-all : {rest now : List ℕ} {best next : ℕ} (more : List ℕ) → Least end low m whole rest best → rest ≡ more ++ now
+      → every (λ x. ltb x end) more ≡ true → next ≡ leastFrom low best more → Least end low m whole now next
   unfolding leastFrom
   least-all {now = now} {best = best} more h e b n = record {
     left = h .left ∙ ap (leastFrom low best) e ∙ fold-append (lesser low) best more now ∙ ap (λ k. leastFrom low k now) (sym n);
     below = h .below ∙ ap (every (λ x. ltb x end)) e ∙ every-append (λ x. ltb x end) more now ∙ rw b;
   }
 
-  pub least-on : {rest now : List ℕ} {best next x : ℕ} → Least end low m whole rest best → rest ≡ x ∷ now → ltb x end ≡ true → next ≡ lesser low best x → Least end low m whole now next
+  pub least-on : {rest now : List ℕ} {best next x : ℕ} → Least end low m whole rest best → rest ≡ x ∷ now → ltb x end ≡ true
+      → next ≡ lesser low best x → Least end low m whole now next
   unfolding leastFrom fold every
   least-on {x = x} h e b n = least-all (x ∷ []) h e (rw b) n
 
-  pub least-end : {rest : List ℕ} {best : ℕ} → Least end low m whole rest best → rest ≡ [] → (best ≡ leastFrom low m whole) × (every (λ x. ltb x end) whole ≡ true)
+  pub least-end : {rest : List ℕ} {best : ℕ} → Least end low m whole rest best → rest ≡ []
+      → (best ≡ leastFrom low m whole) × (every (λ x. ltb x end) whole ≡ true)
   unfolding leastFrom fold every
   least-end {best = best} h e = (sym (h .left ∙ ap (leastFrom low best) e), h .below ∙ ap (every (λ x. ltb x end)) e)
-
--- what a read past the end of an array would give
-abbrev pub noValueRead : Value
-noValueRead = record { clock = record { dots = []; len = 0 }; value = noContent }
-
-abbrev pub noEntryRead : Entry
-noEntryRead = record { key = 0; clock = record { dots = []; len = 0 }; register = record { values = []; len = 0 } }
-
-abbrev pub noRemovalRead : Removal
-noRemovalRead = record { clock = record { dots = []; len = 0 }; keys = record { items = []; len = 0 } }

@@ -7,17 +7,18 @@ use Prim.Native.Nat.{ℕ, _+_, _≤_, _<_}
 use native.Mathlib.Omega.{arith}
 use lib.Dec.{eqb, ltb, leb}
 use borrow.Author.Tests.{ltb-true, ltb-false, leb-true, leb-false, eqb-true, eqb-false, lt-ltb, le-leb, lt-leb}
-use Rattle.lists.specs.Order.{_∈_, Ascending, nil, next, by}
-use Rattle.lists.specs.Fold.{fold}
-use Rattle.lists.specs.Sift.{sift, those}
-use Rattle.lists.proofs.Orders.{head-before, tail-ascends}
-use Rattle.lists.proofs.Those.{those-same}
+use Rattle.listlaws.specs.Order.{_∈_, Ascending, nil, next, by}
+use Rattle.listlaws.specs.Fold.{fold}
+use Rattle.listlaws.specs.Sift.{sift, those}
+use Rattle.listlaws.proofs.Orders.{head-before, tail-ascends}
+use Rattle.listlaws.proofs.Those.{those-same}
 use Rattle.scan.specs.Each.{every}
 use Rattle.scan.proofs.Eachs.{decide, every-at, both-left, both-right}
-use Rattle.mapimage.specs.Sorted.{insert, inOrder, lesser, leastFrom}
+use Rattle.mapimage.specs.Sorted.{insert, inOrder}
+use Rattle.mapimage.specs.Least.{lesser, leastFrom}
 
 -- members of what is put in order
-inserted : (x : ℕ) (l : List ℕ) (z : ℕ) → z ∈ insert x l → (z ≡ x) ⊎ (z ∈ l)
+pub inserted : (x : ℕ) (l : List ℕ) (z : ℕ) → z ∈ insert x l → (z ≡ x) ⊎ (z ∈ l)
 unfolding insert
 inserted x [] z i = List·Memᴰ·cases-cons i
 inserted x (y ∷ l) z i =
@@ -25,7 +26,8 @@ inserted x (y ∷ l) z i =
     (λ a. List·Memᴰ·cases-cons (rw a at i))
     (λ a. decide (eqb x y)
     (λ b. inr (rw (a, b) at i))
-    (λ b. ⊎-elim (λ (q : z ≡ y). inr (List·Memᴰ·head q)) (λ j. ⊎-elim (λ q. inl q) (λ k. inr (List·Memᴰ·tail k)) (inserted x l z j)) (List·Memᴰ·cases-cons (rw (a, b) at i))))
+    (λ b. ⊎-elim (λ (q : z ≡ y). inr (List·Memᴰ·head q)) (λ j. ⊎-elim (λ q. inl q) (λ k. inr (List·Memᴰ·tail k)) (inserted x l z j))
+    (List·Memᴰ·cases-cons (rw (a, b) at i))))
 
 insert-keeps : (x : ℕ) (l : List ℕ) (z : ℕ) → z ∈ l → z ∈ insert x l
 unfolding insert
@@ -55,7 +57,8 @@ insert-ascends x (y ∷ l) a =
     (λ p. rw p (next (λ z i. ⊎-elim (λ (q : z ≡ y). ap (ltb x) q ∙ p) (λ j. lt-ltb x z (below p z j)) (List·Memᴰ·cases-cons i)) a))
     (λ p. decide (eqb x y)
     (λ b. rw (p, b) a)
-    (λ b. rw (p, b) (next (λ z i. ⊎-elim (λ (q : z ≡ x). ap (ltb y) q ∙ lt-ltb y x (above p b)) (λ j. head-before a z j) (inserted x l z i)) (insert-ascends x l (tail-ascends a)))))
+    (λ b. rw (p, b) (next (λ z i. ⊎-elim (λ (q : z ≡ x). ap (ltb y) q ∙ lt-ltb y x (above p b)) (λ j. head-before a z j) (inserted x l z i))
+    (insert-ascends x l (tail-ascends a)))))
   where
     below : ltb x y ≡ true → (z : ℕ) → z ∈ l → x < z
     below p z j = let h = ltb-true x y p in let k = ltb-true y z (head-before a z j) in omega arith
@@ -79,7 +82,8 @@ from-has : (s l : List ℕ) (z : ℕ) → z ∈ fold (λ s x. insert x s) s l �
 unfolding fold
 from-has s [] z i = inl i
 from-has s (x ∷ l) z i =
-    ⊎-elim (λ j. ⊎-elim (λ (q : z ≡ x). inr (List·Memᴰ·head q)) (λ k. inl k) (inserted x s z j)) (λ j. inr (List·Memᴰ·tail j)) (from-has (insert x s) l z i)
+    ⊎-elim (λ j. ⊎-elim (λ (q : z ≡ x). inr (List·Memᴰ·head q)) (λ k. inl k) (inserted x s z j)) (λ j. inr (List·Memᴰ·tail j))
+    (from-has (insert x s) l z i)
 
 module _ (l : List ℕ) where
   pub order-ascends : Ascending (by (λ n. n)) (inOrder l)
@@ -102,7 +106,8 @@ module _ (low : ℕ) where
   least-most m (x ∷ l) = let h = least-most (lesser low m x) l in let k = one m x in omega arith
     where
       one : (m x : ℕ) → lesser low m x ≤ m
-      one m x = decide (leb low x && ltb x m) (λ t. rw t (let h = ltb-true x m (both-right (leb low x) (ltb x m) t) in omega arith)) (λ f. rw f (omega arith))
+      one m x = decide (leb low x && ltb x m) (λ t. rw t (let h = ltb-true x m (both-right (leb low x) (ltb x m) t) in omega arith))
+          (λ f. rw f (omega arith))
 
   pub least-least : (m : ℕ) (l : List ℕ) (x : ℕ) → x ∈ l → low ≤ x → leastFrom low m l ≤ x
   unfolding leastFrom fold
@@ -125,20 +130,23 @@ module _ (low : ℕ) where
   least-one m (x ∷ l) =
       ⊎-elim
       (λ e. decide (leb low x && ltb x m)
-      (λ t. let q : fold (lesser low) (lesser low m x) l ≡ x = e ∙ rw t in inr (List·Memᴰ·head q, rw q (leb-true low x (both-left (leb low x) (ltb x m) t))))
+      (λ t. let q : fold (lesser low) (lesser low m x) l ≡ x = e ∙ rw t in
+      inr (List·Memᴰ·head q, rw q (leb-true low x (both-left (leb low x) (ltb x m) t))))
       (λ f. inl (e ∙ rw f)))
       (λ p. inr (List·Memᴰ·tail (p .0), p .1))
       (least-one (lesser low m x) l)
 
 -- the numbers from `low` on, in order: the least, and those above it
-split-least : (low m : ℕ) (w : List ℕ) → Ascending (by (λ n. n)) w → m ∈ w → low ≤ m → ((x : ℕ) → x ∈ w → low ≤ x → m ≤ x) → those (leb low) w ≡ m ∷ those (leb (m + 1)) w
+split-least : (low m : ℕ) (w : List ℕ) → Ascending (by (λ n. n)) w → m ∈ w → low ≤ m → ((x : ℕ) → x ∈ w → low ≤ x → m ≤ x)
+    → those (leb low) w ≡ m ∷ those (leb (m + 1)) w
 unfolding sift
 split-least low m [] a i h f = absurd (List·Memᴰ·not-nil i)
 split-least low m (y ∷ w) a i h f =
     ⊎-elim
     (λ (q : m ≡ y).
     rw (le-leb low y (omega arith), lt-leb (m + 1) y (omega arith), q)
-    (ap (λ t. y ∷ t) (those-same (leb low) (leb (y + 1)) w (λ x j. let k = ltb-true y x (head-before a x j) in le-leb low x (omega arith) ∙ sym (le-leb (y + 1) x (omega arith))))))
+    (ap (λ t. y ∷ t) (those-same (leb low) (leb (y + 1)) w (λ x j. let k = ltb-true y x (head-before a x j) in
+    le-leb low x (omega arith) ∙ sym (le-leb (y + 1) x (omega arith))))))
     (λ j. let k = ltb-true y m (head-before a m j) in
     rw (lt-leb low y (passed k), lt-leb (m + 1) y (omega arith)) (split-least low m w (tail-ascends a) j h (λ x e. f x (List·Memᴰ·tail e))))
     (List·Memᴰ·cases-cons i)
@@ -157,7 +165,8 @@ module _ (end low : ℕ) (l : List ℕ) (below : every (λ x. ltb x end) l ≡ t
   next-least h =
       ⊎-elim
       (λ e. absurd (omega arith))
-      (λ p. split-least low (leastFrom low end l) (inOrder l) (order-ascends l) (order-has l _ (p .0)) (p .1) (λ x i k. least-least low end l x (order-from-list l x i) k))
+      (λ p. split-least low (leastFrom low end l) (inOrder l) (order-ascends l) (order-has l _ (p .0)) (p .1)
+      (λ x i k. least-least low end l x (order-from-list l x i) k))
       (least-one low end l)
 
   -- there is none left
@@ -166,7 +175,8 @@ module _ (end low : ℕ) (l : List ℕ) (below : every (λ x. ltb x end) l ≡ t
       none-left low (inOrder l)
       (λ x i. let j = order-from-list l x i in
       decide (leb low x)
-      (λ t. absurd (let k = least-least low end l x j (leb-true low x t) in let b = ltb-true x end (every-at (λ x. ltb x end) l x below j) in omega arith))
+      (λ t. absurd (let k = least-least low end l x j (leb-true low x t) in let b = ltb-true x end (every-at (λ x. ltb x end) l x below j) in
+      omega arith))
       (λ n. leb-false low x n))
 
 pub from-start : (w : List ℕ) → those (leb 0) w ≡ w

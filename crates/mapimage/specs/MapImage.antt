@@ -4,16 +4,18 @@ use mathlib.Core.Bool.{cond}
 use mathlib.Core.List.{List, [], _∷_, _++_, map}
 use lib.Dec.{eqb}
 use Rattle.clock.specs.declared.Dot.{Dot}
-use Rattle.clock.specs.Dots.{dotLimit, dotsOf}
+use Rattle.limits.specs.Limits.{dotLimit, valueLimit, keyLimit}
+use Rattle.clock.specs.Dots.{dotsOf}
 use Rattle.register.specs.declared.Value.{Value}
-use Rattle.register.specs.Values.{valueLimit}
-use Rattle.parts.specs.declared.Entry.{Entry}
-use Rattle.parts.specs.declared.Removal.{Removal}
-use Rattle.parts.specs.Model.{keyLimit, dotsIn, valuesIn, underOf, listedIn}
+use Rattle.entries.specs.declared.Entry.{Entry}
+use Rattle.removals.specs.declared.Removal.{Removal}
+use Rattle.removals.specs.Model.{underOf, listedIn}
+use Rattle.entries.specs.Model.{dotsIn, valuesIn}
 use Rattle.map.specs.declared.Map.{Map}
 use Rattle.map.specs.Model.{seenBy, entriesIn, waitingIn}
 use Rattle.records.specs.declared.Record.{Record}
 use Rattle.records.specs.Records.{bytesOf}
+use Rattle.records.specs.Kinds.{clockDotKind, entryDotKind, valueKind, valueDotKind, waitingDotKind, waitingKeyKind}
 use Rattle.scan.specs.Limits.{Limits, today}
 use Rattle.clockimage.specs.Image.{dotRecords, contentRecord}
 use Rattle.mapimage.specs.Sorted.{inOrder}
@@ -31,19 +33,19 @@ flatFrom f i [] = []
 flatFrom f i (x ∷ l) = f i x ++ flatFrom f (i + 1) l
 
 abbrev pub valueRecord : ℕ → ℕ → Value → Record
-valueRecord key index v = contentRecord 3 index key (v .value)
+valueRecord key index v = contentRecord valueKind index key (v .value)
 
 -- of a value, the record of kind 3 or the dots of kind 4
 abbrev pub valueRecords : ℕ → ℕ → ℕ → Value → List Record
-valueRecords kind key index v = cond (eqb kind 3) (valueRecord key index v ∷ []) (dotRecords 4 index key (dotsOf (v .clock)))
+valueRecords kind key index v = cond (eqb kind valueKind) (valueRecord key index v ∷ []) (dotRecords valueDotKind index key (dotsOf (v .clock)))
 
 -- of an entry, the dots of kind 2, the values of kind 3 or the value dots of kind 4
 abbrev pub entryRecords : ℕ → ℕ → Entry → List Record
 entryRecords kind place e =
-    cond (eqb kind 2) (dotRecords 2 0 (e .key) (dotsIn e)) (flatFrom (valueRecords kind (e .key)) 0 (valuesIn e))
+    cond (eqb kind entryDotKind) (dotRecords entryDotKind 0 (e .key) (dotsIn e)) (flatFrom (valueRecords kind (e .key)) 0 (valuesIn e))
 
 abbrev pub waitingDots : ℕ → Removal → List Record
-waitingDots index w = dotRecords 5 index 0 (underOf w)
+waitingDots index w = dotRecords waitingDotKind index 0 (underOf w)
 
 -- a waiting key and its index as one number, by which they ascend
 abbrev pub keyNumber : ℕ → ℕ → ℕ
@@ -53,7 +55,7 @@ abbrev pub keyNumbers : ℕ → Removal → List ℕ
 keyNumbers index w = map (keyNumber index) (listedIn w)
 
 abbrev pub numberRecord : ℕ → Record
-numberRecord n = record { kind = 6; index = n % 256; actor = 0; key = n / 256; number = 0 }
+numberRecord n = record { kind = waitingKeyKind; index = n % 256; actor = 0; key = n / 256; number = 0 }
 
 -- the keys of waiting removals: by key, then by index
 abbrev pub waitingKeys : List Removal → List Record
@@ -61,7 +63,8 @@ waitingKeys l = map numberRecord (inOrder (flatFrom keyNumbers 0 l))
 
 abbrev pub recordsIn : List Dot → List Entry → List Removal → List Record
 recordsIn c e w =
-    dotRecords 1 0 0 c ++ (flatFrom (entryRecords 2) 0 e ++ (flatFrom (entryRecords 3) 0 e ++ (flatFrom (entryRecords 4) 0 e
+    dotRecords clockDotKind 0 0 c ++ (flatFrom (entryRecords entryDotKind) 0
+    e ++ (flatFrom (entryRecords valueKind) 0 e ++ (flatFrom (entryRecords valueDotKind) 0 e
     ++ (flatFrom waitingDots 0 w ++ waitingKeys w))))
 
 abbrev pub mapRecords : Map → List Record

@@ -6,24 +6,32 @@ ghost use lib.Dec.{ltb};
 ghost use Rattle.scan.specs.Each.{every};
 ghost use lib.ListN.{length};
 ghost use Rattle.register.specs.Values.{valuesOf};
-ghost use Rattle.parts.specs.Model.{entriesOf, waitingOf};
-ghost use Rattle.records.specs.Records.{bytesOf, Wrote};
-ghost use Rattle.mapimage.specs.Sorted.{lesser, leastFrom};
+ghost use Rattle.entries.specs.Model.{entriesOf};
+ghost use Rattle.removals.specs.Model.{waitingOf};
+ghost use Rattle.records.specs.Records.{bytesOf};
+ghost use Rattle.records.specs.Writing.{Wrote};
+ghost use Rattle.mapimage.specs.Least.{lesser, leastFrom};
 ghost use Rattle.mapimage.specs.MapImage.{flatFrom, valueRecords, entryRecords, waitingDots, keyNumber, keyNumbers, waitingKeys, mapImage};
-use clock::DOTS;
+use entries::Entries;
+use entries::Entry;
+use limits::DOTS;
+use limits::ENTRIES;
+use limits::KEYS;
+use limits::VALUES;
+use limits::WAITING;
 use map::Map;
-use parts::ENTRIES;
-use parts::Entries;
-use parts::Entry;
-use parts::KEYS;
-use parts::Keys;
-use parts::Removal;
-use parts::WAITING;
-use parts::Waiting;
+use records::CLOCK_DOT;
+use records::ENTRY_DOT;
 use records::Record;
+use records::VALUE;
+use records::VALUE_DOT;
+use records::WAITING_DOT;
+use records::WAITING_KEY;
 use register::Register;
-use register::VALUES;
 use register::Value;
+use removals::Keys;
+use removals::Removal;
+use removals::Waiting;
 
 // The longest image of a map.
 pub const MAP_LONGEST: usize = (DOTS
@@ -38,10 +46,10 @@ fn write_value(out: &mut [u8], at: usize, kind: u8, key: u32, index: u8, v: Valu
     requires { ⌜ at + length (valueRecords kind key index v) * 16 ≤ length (now out) ⌝ }
     ensures { λ next. ⌜ Wrote at (bytesOf (valueRecords kind key index v)) (now (out .entry)) (now (out .exit)) next ⌝ }
 {
-    if kind == 3 {
+    if kind == VALUE {
         let x = v.value;
         let r = Record {
-            kind: 3,
+            kind: VALUE,
             index,
             actor: x.origin,
             key,
@@ -50,7 +58,7 @@ fn write_value(out: &mut [u8], at: usize, kind: u8, key: u32, index: u8, v: Valu
         return records::write_record(out, at, r);
     }
     let clock = v.clock;
-    clockimage::write_dots(out, at, 4, index, key, clock)
+    clockimage::write_dots(out, at, VALUE_DOT, index, key, clock)
 }
 
 fn write_values(out: &mut [u8], at: usize, kind: u8, key: u32, register: Register) -> usize
@@ -73,9 +81,9 @@ pub fn write_entry(out: &mut [u8], at: usize, kind: u8, e: Entry) -> usize
     requires { ⌜ at + length (entryRecords kind 0 e) * 16 ≤ length (now out) ⌝ }
     ensures { λ next. ⌜ Wrote at (bytesOf (entryRecords kind 0 e)) (now (out .entry)) (now (out .exit)) next ⌝ }
 {
-    if kind == 2 {
+    if kind == ENTRY_DOT {
         let clock = e.clock;
-        return clockimage::write_dots(out, at, 2, 0, e.key, clock);
+        return clockimage::write_dots(out, at, ENTRY_DOT, 0, e.key, clock);
     }
     let register = e.register;
     write_values(out, at, kind, e.key, register)
@@ -108,7 +116,7 @@ fn write_waiting(out: &mut [u8], at: usize, waiting: Waiting) -> usize
         let index = i as u8;
         i += 1;
         let clock = w.clock;
-        next = clockimage::write_dots(out, next, 5, index, 0, clock);
+        next = clockimage::write_dots(out, next, WAITING_DOT, index, 0, clock);
     }
     next
 }
@@ -169,7 +177,7 @@ fn write_waiting_keys(out: &mut [u8], at: usize, waiting: Waiting) -> usize
     let mut best = least(waiting, 0);
     while best < NO_KEY {
         let r = Record {
-            kind: 6,
+            kind: WAITING_KEY,
             index: (best % 256) as u8,
             actor: 0,
             key: (best / 256) as u32,
@@ -189,10 +197,10 @@ pub fn write_map(map: Map, out: &mut [u8]) -> usize
     let clock = map.clock;
     let entries = map.entries;
     let waiting = map.waiting;
-    let first = clockimage::write_dots(out, 0, 1, 0, 0, clock);
-    let second = write_entries(out, first, 2, entries);
-    let third = write_entries(out, second, 3, entries);
-    let fourth = write_entries(out, third, 4, entries);
+    let first = clockimage::write_dots(out, 0, CLOCK_DOT, 0, 0, clock);
+    let second = write_entries(out, first, ENTRY_DOT, entries);
+    let third = write_entries(out, second, VALUE, entries);
+    let fourth = write_entries(out, third, VALUE_DOT, entries);
     let fifth = write_waiting(out, fourth, waiting);
     write_waiting_keys(out, fifth, waiting)
 }

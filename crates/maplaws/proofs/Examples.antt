@@ -3,17 +3,17 @@ use mathlib.Core.Path.{_≡_, refl}
 use mathlib.Core.Bool.{true}
 use mathlib.Core.List.{List, [], _∷_, flatten}
 use Prim.Native.Nat.{ℕ}
-use Rattle.lists.specs.Pad.{pad}
-use Rattle.lists.specs.Sift.{sift}
-use Rattle.lists.specs.First.{firstIn}
-use Rattle.lists.specs.Fold.{fold}
-use Rattle.lists.specs.Weave.{weave}
+use Rattle.listlaws.specs.Pad.{pad}
+use Rattle.listlaws.specs.Sift.{sift}
+use Rattle.listlaws.specs.First.{firstIn}
+use Rattle.listlaws.specs.Fold.{fold}
+use Rattle.listlaws.specs.Weave.{weave}
 use Rattle.clock.specs.declared.Dot.{Dot}
 use Rattle.clock.specs.Dots.{clockOf, isEmpty, counterIn, covers, cutDots, joinDots, commonDots}
 use Rattle.register.specs.declared.Value.{Value}
-use Rattle.parts.specs.declared.Removal.{Removal}
-use Rattle.parts.specs.Model.{entryAs}
-use Rattle.parts.specs.Entries.{alone, keepDots, together, mergeEntries}
+use Rattle.removals.specs.declared.Removal.{Removal}
+use Rattle.entries.specs.Model.{entryAs}
+use Rattle.entries.specs.Entries.{alone, keepDots, together, mergeEntries}
 use Rattle.map.specs.declared.Map.{Map}
 use Rattle.asking.specs.declared.CmRDTValidation.{CmRDTValidation}
 use Rattle.asking.specs.declared.CmRDTValidation.the-variants.{Missing}
@@ -51,8 +51,10 @@ pub record Wider : Type 0 where
   pub w10-start : (put : Value) (unused : Removal) → orderStart (asked put unused) ≡ 1
   pub w10-end : (put : Value) (unused : Removal) → orderEnd (asked put unused) ≡ 2
 
+-- the end theorem of this file
 pub wider : Wider
-unfolding pad sift firstIn fold weave isEmpty counterIn covers cutDots joinDots commonDots remove afresh update alone keepDots together flatten mergeEntries merge clockAt following validateUpdate validateOp
+unfolding pad sift firstIn fold weave isEmpty counterIn covers cutDots joinDots commonDots remove afresh update alone keepDots together flatten
+    mergeEntries merge clockAt following validateUpdate validateOp
 wider = record {
   w4 = λ key put. refl;
   w7 = λ l h. refl;

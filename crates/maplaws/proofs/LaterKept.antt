@@ -3,16 +3,16 @@ use mathlib.Core.Path.{_≡_, refl}
 use mathlib.Core.List.{List, [], _∷_, List·Memᴰ·head, List·Memᴰ·eq-of-singleton}
 use Prim.Native.Nat.{ℕ}
 use native.Mathlib.Omega.{arith}
-use Rattle.lists.specs.Pad.{pad}
-use Rattle.lists.specs.Sift.{sift}
-use Rattle.lists.specs.First.{firstIn}
-use Rattle.lists.specs.Fold.{fold}
-use Rattle.lists.specs.Weave.{weave}
-use Rattle.lists.specs.Order.{_∈_}
+use Rattle.listlaws.specs.Pad.{pad}
+use Rattle.listlaws.specs.Sift.{sift}
+use Rattle.listlaws.specs.First.{firstIn}
+use Rattle.listlaws.specs.Fold.{fold}
+use Rattle.listlaws.specs.Weave.{weave}
+use Rattle.listlaws.specs.Order.{_∈_}
 use Rattle.clock.specs.Dots.{isEmpty, counterIn, cutDots}
-use Rattle.parts.specs.declared.Removal.{Removal}
-use Rattle.parts.specs.Model.{removalAs, listedIn}
-use Rattle.parts.specs.Waits.{clockBefore}
+use Rattle.removals.specs.declared.Removal.{Removal}
+use Rattle.removals.specs.Model.{removalAs, listedIn}
+use Rattle.removals.specs.Waits.{clockBefore}
 use Rattle.maplaws.specs.Ties.{TieBreak, laterKept}
 use Rattle.maplaws.proofs.Examples.{dot, one}
 
@@ -31,7 +31,7 @@ not-listed r i j =
     let z : _≡_ {A = ℕ} 6 5 = List·Memᴰ·eq-of-singleton (rw same at j) in
     omega arith
 
--- 6 was listed, and is not listed after
+-- an end theorem: 6 was listed, and is not listed after
 pub key-lost : TieBreak (one 1 5) waiting (laterKept (one 1 5) waiting) → ⊥
 unfolding pad sift firstIn isEmpty counterIn cutDots
 key-lost t =

@@ -1,24 +1,27 @@
 -- The twelve settled examples of 01, as a single table under a single theorem.
 use mathlib.Core.Path.{_≡_, refl}
 use mathlib.Core.List.{List, [], _∷_, _++_, flatten}
-use Prim.Native.Nat.{ℕ, zero, suc, _+_, _-_, _^_}
-use Rattle.lists.specs.Pad.{pad}
-use Rattle.lists.specs.Sift.{sift}
-use Rattle.lists.specs.First.{firstIn}
-use Rattle.lists.specs.Fold.{fold}
-use Rattle.lists.specs.Weave.{weave}
+use Prim.Native.Nat.{ℕ, zero, suc, _-_, _^_}
+use Rattle.listlaws.specs.Pad.{pad}
+use Rattle.listlaws.specs.Sift.{sift}
+use Rattle.listlaws.specs.First.{firstIn}
+use Rattle.listlaws.specs.Fold.{fold}
+use Rattle.listlaws.specs.Weave.{weave}
 use Rattle.clock.specs.declared.Dot.{Dot}
-use Rattle.clock.specs.Dots.{clockOf, isEmpty, counterIn, covers, orderOf, cutDots, joinDots, commonDots, addDot}
-use Rattle.register.specs.declared.Value.{Value}
+use Rattle.clock.specs.Dots.{isEmpty, counterIn, covers, orderOf, cutDots, joinDots, commonDots, addDot}
+use Rattle.clock.proofs.Examples.{dot, one}
+use Rattle.register.proofs.Examples.{value}
 use Rattle.register.specs.Values.{noContent, yields, outdone, remaining, putValues, cutValues, oursLeft, mergeValues}
-use Rattle.parts.specs.declared.Entry.{Entry}
-use Rattle.parts.specs.declared.Update.{Update}
+use Rattle.entries.specs.declared.Entry.{Entry}
+use Rattle.entries.specs.declared.Update.{Update}
 use Rattle.map.specs.declared.Map.{Map}
 use Rattle.asking.specs.declared.CmRDTValidation.the-variants.{Missing}
-use Rattle.parts.specs.Model.{entryAs, removalAs}
+use Rattle.entries.specs.Model.{entryAs}
+use Rattle.removals.specs.Model.{removalAs}
 use Rattle.map.specs.Model.{mapAs, noMap}
-use Rattle.parts.specs.Entries.{cutEntry, listed, removeFrom, removeEntries, putEntry, entryAt, putEntries, cutAlone, alone, keepDots, mergeBoth, together, mergeEntries}
-use Rattle.parts.specs.Waits.{waits, clockBefore, unionKeys, uniteAll, resetWaiting}
+use Rattle.entries.specs.Entries.{cutEntry, removeFrom, removeEntries, putEntry, entryAt, putEntries, cutAlone, alone, keepDots, mergeBoth, together}
+use Rattle.entries.specs.Entries.{mergeEntries}
+use Rattle.removals.specs.Waits.{listed, waits, clockBefore, unionKeys, uniteAll, resetWaiting}
 use Rattle.map.specs.Removing.{remove, afresh}
 use Rattle.map.specs.Updating.{update}
 use Rattle.map.specs.Merging.{merge}
@@ -28,15 +31,6 @@ use Rattle.asking.specs.Contexts.{addContext}
 use Rattle.asking.specs.Asking.{clockAt, following, validateUpdate, updateUnder, makeUpdate, noOp}
 
 -- actor : counter
-abbrev dot : ℕ → ℕ → Dot
-dot a n = record { actor = a; counter = n }
-
-abbrev one : ℕ → ℕ → List Dot
-one a n = dot a n ∷ []
-
-abbrev value : List Dot → ℕ → Value
-value c x = record { clock = clockOf c; value = record { number = x; origin = 0 } }
-
 abbrev updates : ℕ → ℕ → ℕ → ℕ → Update
 updates a n k x = record { dot = dot a n; key = k; put = value (one a n) x }
 
@@ -58,15 +52,40 @@ pub record Settled : Type 0 where
   pub w3 : update (mapAs (one 1 1) [] (removalAs (one 1 2) (5 ∷ []) ∷ [])) (updates 1 2 5 41) ≡ mapAs (one 1 2) [] []
   pub w4 : update M (updates 1 1 5 41) ≡ M
   pub w5 : remove M (removalAs [] (5 ∷ [])) ≡ M
-  pub w6 : remove M (removalAs (one 2 1) []) ≡ record { clock = M .clock; entries = M .entries; waiting = mapAs [] [] (removalAs (one 2 1) [] ∷ []) .waiting }
+  pub w6 : remove M (removalAs (one 2 1) []) ≡ record {
+    clock = M .clock;
+    entries = M .entries;
+    waiting = mapAs [] []
+        (removalAs (one 2 1) [] ∷ []) .waiting;
+  }
   pub w7 : merge (mapAs both (entryAs 5 (one 1 1) [] ∷ []) []) (mapAs both (entryAs 5 (one 2 1) [] ∷ []) []) ≡ mapAs both [] []
-  pub w8 : reset (mapAs [] [] (removalAs (dot 1 4 ∷ dot 2 1 ∷ []) (6 ∷ []) ∷ removalAs (dot 1 5 ∷ dot 2 1 ∷ []) (5 ∷ []) ∷ [])) (one 1 5) ≡ mapAs [] [] (removalAs (one 2 1) (5 ∷ 6 ∷ []) ∷ [])
-  pub w9 : judged (update (mapAs (one 1 32) (entriesTo 32) (removalAs (one 9 1) (77 ∷ []) ∷ [])) (updates 9 1 77 7)) ≡ record { number = 0; map = mapAs (dot 1 32 ∷ dot 9 1 ∷ []) (entriesTo 32) [] }
+  pub w8 : reset (mapAs [] [] (removalAs (dot 1 4 ∷ dot 2 1 ∷ []) (6 ∷ []) ∷ removalAs (dot 1 5 ∷ dot 2 1 ∷ []) (5 ∷ []) ∷ [])) (one 1 5)
+      ≡ mapAs [] [] (removalAs (one 2 1) (5 ∷ 6 ∷ []) ∷ [])
+  pub w9 : judged (update (mapAs (one 1 32) (entriesTo 32) (removalAs (one 9 1) (77 ∷ []) ∷ [])) (updates 9 1 77 7))
+      ≡ record { number = 0; map = mapAs (dot 1 32 ∷ dot 9 1 ∷ []) (entriesTo 32) [] }
   pub w9-without : judged (update (mapAs (one 1 32) (entriesTo 32) []) (updates 9 1 77 7)) ≡ record { number = 5; map = noMap }
   pub w10 : validateUpdate M (updates 1 2 6 0) ≡ Missing 1 2
   pub w11 : makeUpdate (mapAs (one 1 (2 ^ 64 - 1)) [] []) 1 5 noContent ≡ record { number = 9; op = noOp }
   pub w12 : putValues (value (one 1 1) 7 ∷ []) (value (one 1 1) 8) ≡ value (one 1 1) 8 ∷ []
 
+-- the end theorem: the whole table
 pub settled : Settled
-unfolding pad sift firstIn fold weave isEmpty counterIn covers orderOf cutDots joinDots commonDots addDot yields outdone remaining putValues cutValues oursLeft mergeValues cutEntry listed removeFrom removeEntries waits clockBefore unionKeys uniteAll remove afresh putEntry entryAt putEntries update cutAlone alone keepDots mergeBoth together flatten mergeEntries merge resetWaiting reset overDots overEntries overValues overWaiting overKeys overNumber judged clockAt following validateUpdate addContext updateUnder makeUpdate
-settled = record { w1 = refl; w2 = refl; w3 = refl; w4 = refl; w5 = refl; w6 = refl; w7 = refl; w8 = refl; w9 = refl; w9-without = refl; w10 = refl; w11 = refl; w12 = refl }
+unfolding pad sift firstIn fold weave isEmpty counterIn covers orderOf cutDots joinDots commonDots addDot yields outdone remaining putValues cutValues
+    oursLeft mergeValues cutEntry listed removeFrom removeEntries waits clockBefore unionKeys uniteAll remove afresh putEntry entryAt putEntries
+    update cutAlone alone keepDots mergeBoth together flatten mergeEntries merge resetWaiting reset overDots overEntries overValues overWaiting
+    overKeys overNumber judged clockAt following validateUpdate addContext updateUnder makeUpdate
+settled = record {
+  w1 = refl;
+  w2 = refl;
+  w3 = refl;
+  w4 = refl;
+  w5 = refl;
+  w6 = refl;
+  w7 = refl;
+  w8 = refl;
+  w9 = refl;
+  w9-without = refl;
+  w10 = refl;
+  w11 = refl;
+  w12 = refl;
+}

@@ -3,20 +3,19 @@ use mathlib.Core.Path.{_≡_, ap, sym, _∙_}
 use mathlib.Core.Bool.{true, false, not}
 use mathlib.Core.Logic.{inr, ⊎-elim}
 use mathlib.Core.List.{List, List·Memᴰ·not-nil}
-use borrow.Author.Tests.{not-true}
-use Rattle.lists.specs.Sift.{sift}
-use Rattle.lists.specs.Order.{_∈_}
-use Rattle.lists.proofs.Pads.{take-pad}
-use Rattle.lists.proofs.Those.{sift-means, sift-holds}
+use Rattle.listlaws.specs.Sift.{sift}
+use Rattle.listlaws.specs.Order.{_∈_}
+use Rattle.listlaws.proofs.Pads.{take-pad}
+use Rattle.listlaws.proofs.Those.{sift-means, sift-holds}
 use Rattle.clock.specs.declared.Dot.{Dot}
-use Rattle.clock.specs.Dots.{dotLimit, noDot, isEmpty, cutDots}
-use Rattle.parts.specs.declared.Removal.{Removal}
-use Rattle.parts.specs.Model.{underOf}
-use Rattle.parts.specs.Waits.{cutRemoval, remains, resetWaiting}
-use Rattle.parts.specs.Valid.{ValidRemoval, ValidWaiting}
-use Rattle.parts.proofs.Pieces.{waiting-of}
-use Rattle.parts.proofs.Held.{valid-none, valid-cut-removal}
-use Rattle.parts.proofs.Trades.{Ready, into-all}
+use Rattle.limits.specs.Limits.{dotLimit}
+use Rattle.clock.specs.Dots.{noDot, isEmpty, cutDots}
+use Rattle.removals.specs.declared.Removal.{Removal}
+use Rattle.removals.specs.Model.{underOf}
+use Rattle.removals.specs.Waits.{cutRemoval, remains, resetWaiting}
+use Rattle.removals.specs.Valid.{ValidRemoval}
+use Rattle.removals.proofs.Packs.{waiting-of}
+use Rattle.removals.proofs.WaitingValid.{valid-none, ready-cut, valid-reset-waiting}
 use Rattle.map.specs.declared.Map.{Map}
 use Rattle.map.specs.Model.{waitingIn}
 use Rattle.map.specs.Resetting.{reset}
@@ -32,25 +31,17 @@ module _ (c : List Dot) {l : List Removal} (f : (r : Removal) → r ∈ l → Va
   cut-clock : (r : Removal) → underOf (cutRemoval c r) ≡ cutDots c (underOf r)
   cut-clock r = take-pad noDot dotLimit (cutDots c (underOf r))
 
-  cuts-ready : Ready cuts
-  cuts-ready z i =
-      let s = sift-means remains (cutRemoval c) l i in
-      (rw (s .changed) (valid-cut-removal (f (s .source) (s .stands)) c), not-true (isEmpty (underOf z)) (s .passes))
-
   -- one of those that are left, or one of those that were cut
   module _ {Such : Removal → Type 0} (s : Shared Such) where
     left-exactly : Exactly (OneOf (resetWaiting c l) Such) (OneOf l (λ r. (remains (cutRemoval c r) ≡ true) × Such (cutRemoval c r)))
     unfolding resetWaiting
     left-exactly =
-        let u = united-exactly s cuts valid-none cuts-ready in (
+        let u = united-exactly s cuts valid-none (ready-cut c f) in (
           λ q. ⊎-elim (λ t. absurd (List·Memᴰ·not-nil (t .1)))
-              (λ t. let w = sift-means remains (cutRemoval c) l (t .1) in (w .source, w .stands, (ap remains (sym (w .changed)) ∙ w .passes, rw (w .changed) at (t .2)))) (u .0 q),
+              (λ t. let w = sift-means remains (cutRemoval c) l (t .1) in
+              (w .source, w .stands, (ap remains (sym (w .changed)) ∙ w .passes, rw (w .changed) at (t .2)))) (u .0 q),
           λ q. u .1 (inr (cutRemoval c (q .0), sift-holds remains (cutRemoval c) (q .1) (q .2 .0), q .2 .1)),
         )
-
-  left-valid : ValidWaiting (resetWaiting c l)
-  unfolding resetWaiting
-  left-valid = into-all cuts valid-none cuts-ready
 
   stays : (r : Removal) (d : List Dot) → isEmpty d ≡ false → cutDots c (underOf r) ≡ d → remains (cutRemoval c r) ≡ true
   stays r d n e = ap not (ap isEmpty (cut-clock r ∙ e) ∙ n)
@@ -66,8 +57,8 @@ module _ (c : List Dot) {l : List Removal} (f : (r : Removal) → r ∈ l → Va
       λ q. let t = u .0 q in (t .0, t .1, sym (cut-clock (t .0)) ∙ t .2 .1),
       λ q. u .1 (q .0, q .1, (stays (q .0) d n (q .2), cut-clock (q .0) ∙ q .2)),
     );
-    emptied = left-valid .some;
-    one = λ r s i j e. one-clock left-valid i j e;
+    emptied = valid-reset-waiting f c .some;
+    one = λ r s i j e. one-clock (valid-reset-waiting f c) i j e;
   }
 
 -- of a map

@@ -1,24 +1,22 @@
 -- Removals united one after the other into those that wait: what is so of one of them is so of one that went in, and the other way round.
 use mathlib.Core.Path.{_≡_, refl, sym, _∙_}
-use mathlib.Core.Bool.{Bool}
 use mathlib.Core.Logic.{_⊎_, inl, inr, ⊎-elim}
 use mathlib.Core.List.{List, [], _∷_, List·Memᴰ·head, List·Memᴰ·tail, List·Memᴰ·not-nil, List·Memᴰ·eq-of-singleton, List·Memᴰ·cases-cons}
 use Prim.Native.Nat.{ℕ}
-use Rattle.lists.specs.Fold.{fold}
-use Rattle.lists.specs.Order.{_∈_, Ascending, nil, next}
-use Rattle.lists.proofs.Orders.{apart}
-use Rattle.lists.proofs.Levels.{Level}
-use Rattle.lists.proofs.Sides.{one-ascends}
+use Rattle.listlaws.specs.Fold.{fold}
+use Rattle.listlaws.specs.Order.{_∈_}
+use Rattle.listlaws.proofs.Levels.{level-same}
+use Rattle.listlaws.proofs.Sides.{one-ascends}
 use Rattle.clock.specs.declared.Dot.{Dot}
-use Rattle.parts.specs.declared.Removal.{Removal}
-use Rattle.parts.specs.Model.{underOf}
-use Rattle.parts.specs.Waits.{unite, uniteInto}
-use Rattle.parts.specs.Valid.{ValidRemoval, ValidWaiting}
-use Rattle.parts.proofs.Clocks.{level-removal}
-use Rattle.parts.proofs.Waits.{unite-each, unite-left, unite-right, unite-keys, union-means, union-left, union-right}
-use Rattle.parts.proofs.Held.{valid-unite-into}
-use Rattle.parts.proofs.Trades.{Ready}
-use Rattle.maplaws.specs.Among.{OneOf, Under, Lists, Exactly}
+use Rattle.removals.specs.declared.Removal.{Removal}
+use Rattle.removals.specs.Model.{underOf}
+use Rattle.removals.specs.Waits.{unite, uniteInto}
+use Rattle.removals.specs.Valid.{ValidRemoval, ValidWaiting}
+use Rattle.removals.proofs.ClockOrder.{level-removal}
+use Rattle.removals.proofs.Uniting.{unite-each, unite-left, unite-right, unite-keys}
+use Rattle.removals.proofs.Unions.{union-means, union-left, union-right}
+use Rattle.removals.proofs.WaitingValid.{valid-unite-into, Ready}
+use Rattle.maplaws.specs.Among.{OneOf, UnderClock, Lists, Exactly}
 
 -- what two removals under one clock share with their union
 pub record Shared (Such : Removal → Type 0) : Type 0 where
@@ -40,7 +38,8 @@ module _ {Such : Removal → Type 0} (s : Shared Such) where
     into-old : OneOf l Such → OneOf (uniteInto l r) Such
     into-old q =
         ⊎-elim (λ i. (q .0, i, q .2))
-        (λ t. let same : t .0 ≡ r = List·Memᴰ·eq-of-singleton (t .1) in (unite (q .0) (t .0), t .3, s .left (q .0) (t .0) (h .each (q .0) (q .1)) (rw same k) (t .2) (q .2)))
+        (λ t. let same : t .0 ≡ r = List·Memᴰ·eq-of-singleton (t .1) in
+        (unite (q .0) (t .0), t .3, s .left (q .0) (t .0) (h .each (q .0) (q .1)) (rw same k) (t .2) (q .2)))
         (unite-left (h .rising) (one-ascends r) (q .1))
 
     into-new : Such r → OneOf (uniteInto l r) Such
@@ -74,11 +73,12 @@ module _ {Such : Removal → Type 0} (s : Shared Such) where
       (List·Memᴰ·cases-cons i)
 
   -- of those that waited before, or of those that joined them
-  pub united-exactly : (ws : List Removal) {l : List Removal} → ValidWaiting l → Ready ws → Exactly (OneOf (fold uniteInto l ws) Such) (OneOf l Such ⊎ OneOf ws Such)
+  pub united-exactly : (ws : List Removal) {l : List Removal} → ValidWaiting l → Ready ws
+      → Exactly (OneOf (fold uniteInto l ws) Such) (OneOf l Such ⊎ OneOf ws Such)
   united-exactly ws h g = (all-means ws h g, λ q. ⊎-elim (λ t. all-old ws h g t) (λ t. all-new ws h g (t .0) (t .1) (t .2)) q)
 
 -- the clock
-pub shared-clock : (c : List Dot) → Shared (Under c)
+pub shared-clock : (c : List Dot) → Shared (UnderClock c)
 shared-clock c = record { split = λ x y h k e q. inl q; left = λ x y h k e q. q; right = λ x y h k e q. e ∙ q }
 
 -- the clock and a key
@@ -88,15 +88,6 @@ shared-key c k = record {
   left = λ x y h q e p. (p .0, rw (unite-keys x y) (union-left (h .keys) (q .keys) (p .1)));
   right = λ x y h q e p. (e ∙ p .0, rw (unite-keys x y) (union-right (h .keys) (q .keys) (p .1)));
 }
-
--- of two that stand level in an ascending list, each is the other
-level-same : {A : Type 0} {before : A → A → Bool} {l : List A} → Ascending before l → {x y : A} → x ∈ l → y ∈ l → Level before x y → x ≡ y
-level-same nil i j e = absurd (List·Memᴰ·not-nil i)
-level-same (next {x = z} {l = l} f a) {x} {y} i j e =
-    ⊎-elim
-    (λ (p : x ≡ z). ⊎-elim (λ (q : y ≡ z). p ∙ sym q) (λ k. apart (sym (f y k) ∙ (rw p at (e .0)))) (List·Memᴰ·cases-cons j))
-    (λ k. ⊎-elim (λ (q : y ≡ z). apart (sym (f x k) ∙ (rw q at (e .1)))) (λ m. level-same a k m e) (List·Memᴰ·cases-cons j))
-    (List·Memᴰ·cases-cons i)
 
 -- those that wait stand under different clocks
 pub one-clock : {l : List Removal} → ValidWaiting l → {r s : Removal} → r ∈ l → s ∈ l → underOf r ≡ underOf s → r ≡ s

@@ -2,18 +2,18 @@
 use mathlib.Core.Path.{_≡_}
 use mathlib.Core.List.{List}
 use Prim.Native.Nat.{ℕ}
-use Rattle.lists.specs.Order.{_∈_}
+use Rattle.listlaws.specs.Order.{_∈_}
 use Rattle.clock.specs.declared.Dot.{Dot}
-use Rattle.parts.specs.declared.Removal.{Removal}
-use Rattle.parts.specs.Model.{underOf, listedIn}
+use Rattle.removals.specs.declared.Removal.{Removal}
+use Rattle.removals.specs.Model.{underOf, listedIn}
 
 -- one of these removals is such
 abbrev pub OneOf : List Removal → (Removal → Type 0) → Type 0
 OneOf l Such = (r : Removal) × (r ∈ l) × Such r
 
 -- a removal under this clock, and one that lists this key besides
-abbrev pub Under : List Dot → Removal → Type 0
-Under c r = underOf r ≡ c
+abbrev pub UnderClock : List Dot → Removal → Type 0
+UnderClock c r = underOf r ≡ c
 
 abbrev pub Lists : List Dot → ℕ → Removal → Type 0
 Lists c k r = (underOf r ≡ c) × (k ∈ listedIn r)

@@ -3,16 +3,16 @@ use mathlib.Core.Path.{_≡_}
 use mathlib.Core.Bool.{false}
 use mathlib.Core.List.{List, [], _∷_}
 use Prim.Native.Nat.{ℕ}
-use Rattle.lists.specs.Fold.{fold}
-use Rattle.lists.specs.Sift.{sift}
-use Rattle.lists.specs.Weave.{weave}
-use Rattle.lists.specs.Order.{_∈_}
+use Rattle.listlaws.specs.Fold.{fold}
+use Rattle.listlaws.specs.Sift.{sift}
+use Rattle.listlaws.specs.Weave.{weave}
+use Rattle.listlaws.specs.Order.{_∈_}
 use Rattle.clock.specs.declared.Dot.{Dot}
 use Rattle.clock.specs.Dots.{isEmpty, cutDots}
-use Rattle.parts.specs.declared.Removal.{Removal}
-use Rattle.parts.specs.Model.{underOf, listedIn}
-use Rattle.parts.specs.Waits.{removalBefore, cutRemoval, remains}
-use Rattle.maplaws.specs.Among.{OneOf, Under, Lists, Exactly}
+use Rattle.removals.specs.declared.Removal.{Removal}
+use Rattle.removals.specs.Model.{underOf, listedIn}
+use Rattle.removals.specs.Waits.{removalBefore, cutRemoval, remains}
+use Rattle.maplaws.specs.Among.{OneOf, UnderClock, Lists, Exactly}
 
 -- the removals that wait before a reset by c, and after it
 pub record TieBreak (c : List Dot) (before after : List Removal) : Type 0 where
@@ -21,7 +21,7 @@ pub record TieBreak (c : List Dot) (before after : List Removal) : Type 0 where
       → Exactly (OneOf after (Lists clock key)) (OneOf before (λ r. (cutDots c (underOf r) ≡ clock) × (key ∈ listedIn r)))
   -- a clock waits exactly when one of the removals was cut to it, also where none listed a key
   pub waits : (clock : List Dot) → isEmpty clock ≡ false
-      → Exactly (OneOf after (Under clock)) (OneOf before (λ r. cutDots c (underOf r) ≡ clock))
+      → Exactly (OneOf after (UnderClock clock)) (OneOf before (λ r. cutDots c (underOf r) ≡ clock))
   -- "drop waiting removals whose clocks are emptied"
   pub emptied : (r : Removal) → r ∈ after → isEmpty (underOf r) ≡ false
   -- "united": one removal for each clock

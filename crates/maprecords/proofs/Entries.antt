@@ -8,19 +8,19 @@ use lib.Dec.{eqb}
 use lib.ListN.{length, getD, set, length-set}
 use lib.Seq.{ext-getD, getD-set-same, getD-set-other}
 use borrow.Author.Tests.{eq-eqb, ne-eqb, eqb-true, eqb-false}
-use Rattle.lists.specs.Order.{_∈_}
-use Rattle.lists.specs.Sift.{those}
-use Rattle.lists.specs.Fold.{fold}
-use Rattle.lists.proofs.Folds.{fold-append}
-use Rattle.lists.proofs.Those.{those-none}
+use Rattle.listlaws.specs.Order.{_∈_}
+use Rattle.listlaws.specs.Sift.{those}
+use Rattle.listlaws.specs.Fold.{fold}
+use Rattle.listlaws.proofs.Folds.{fold-append}
+use Rattle.listlaws.proofs.Those.{those-none}
 use Rattle.clock.specs.Dots.{clockOf}
 use Rattle.register.specs.declared.Value.{Value}
 use Rattle.register.specs.Values.{noValue}
-use Rattle.parts.specs.Model.{entryAs}
+use Rattle.entries.specs.Model.{entryAs}
 use Rattle.records.specs.declared.Record.{Record}
 use Rattle.scan.proofs.Eachs.{decide, both}
 use Rattle.scan.proofs.Rooms.{those-yes, those-no}
-use Rattle.clockimage.specs.Image.{isKind, dotOf, contentOf, dotsIn}
+use Rattle.clockimage.specs.Image.{isKind, dotOf, contentOf, dotsFrom}
 use Rattle.clockimage.proofs.Dots.{dots-more, dots-same}
 use Rattle.maprecords.specs.Reading.{underKey, underBoth, addNew, valueIn, valuesUnder, entryIn, entryKeys, entriesFor, placesFrom}
 use Rattle.maprecords.proofs.Keys.{Unique, unique-add, unique-none, fold-keeps, map-same, length-places, places-snoc, get-places}
@@ -72,44 +72,59 @@ pub entry-other : (l : List Record) (r : Record) (key : ℕ) → (r .key ≡ key
 entry-other l r key n = entry-same l r key (other-key 2 key r n) (other-key 3 key r n) (other-key 4 key r n)
 
 -- a record that is no part of an entry
-pub entries-same : (l : List Record) (r : Record) → (r .kind ≡ 2 → ⊥) → (r .kind ≡ 3 → ⊥) → (r .kind ≡ 4 → ⊥) → entriesFor (l ++ (r ∷ [])) ≡ entriesFor l
+pub entries-same : (l : List Record) (r : Record) → (r .kind ≡ 2 → ⊥) → (r .kind ≡ 3 → ⊥) → (r .kind ≡ 4 → ⊥)
+    → entriesFor (l ++ (r ∷ [])) ≡ entriesFor l
 entries-same l r a b c =
     ap (map (entryIn (l ++ (r ∷ [])))) (keys-same l r a)
-    ∙ map-same (entryIn l) (entryIn (l ++ (r ∷ []))) (entryKeys l) (λ key. entry-same l r key (other-kind 2 key r a) (other-kind 3 key r b) (other-kind 4 key r c))
+    ∙ map-same (entryIn l) (entryIn (l ++ (r ∷ []))) (entryKeys l) (λ key. entry-same l r key (other-kind 2 key r a) (other-kind 3 key r b)
+    (other-kind 4 key r c))
 
 module _ (l : List Record) (r : Record) where
-  pub dot-entry : r .kind ≡ 2 → entryIn (l ++ (r ∷ [])) (r .key) ≡ entryAs (r .key) (dotsIn (underKey 2 (r .key)) l ++ (dotOf r ∷ [])) (valuesUnder l (r .key))
+  pub dot-entry : r .kind ≡ 2 → entryIn (l ++ (r ∷ [])) (r .key) ≡ entryAs (r .key) (dotsFrom (underKey 2 (r .key)) l ++ (dotOf r ∷ []))
+      (valuesUnder l (r .key))
   dot-entry k =
       ap₂ (entryAs (r .key)) (dots-more (underKey 2 (r .key)) l r (own 2 r k))
       (values-same l r (r .key) (other-kind 3 (r .key) r (λ e. omega arith)) (other-kind 4 (r .key) r (λ e. omega arith)))
 
   -- nothing of a later kind stands before r
-  none-later : ((s : Record) → s ∈ l → s .kind ≤ r .kind) → (kind key place : ℕ) → r .kind < kind → dotsIn (underBoth kind key place) l ≡ []
+  none-later : ((s : Record) → s ∈ l → s .kind ≤ r .kind) → (kind key place : ℕ) → r .kind < kind → dotsFrom (underBoth kind key place) l ≡ []
   none-later h kind key place k =
       ap (map dotOf) (those-none (underBoth kind key place) l (λ s i. let b = h s i in rw (ne-eqb (s .kind) kind (λ e. omega arith))))
 
   pub value-entry : ((s : Record) → s ∈ l → s .kind ≤ r .kind) → r .kind ≡ 3 → entryIn (l ++ (r ∷ [])) (r .key)
-      ≡ entryAs (r .key) (dotsIn (underKey 2 (r .key)) l) (valuesUnder l (r .key) ++ (record { clock = clockOf []; value = contentOf r } ∷ []))
+      ≡ entryAs (r .key) (dotsFrom (underKey 2 (r .key)) l) (valuesUnder l (r .key) ++ (record { clock = clockOf []; value = contentOf r } ∷ []))
   value-entry h k =
       ap₂ (entryAs (r .key)) (dots-same (underKey 2 (r .key)) l r (other-kind 2 (r .key) r (λ e. omega arith)))
-      (ap₂ (λ f m. placesFrom f 0 m) (clocks-same l r (r .key) (other-kind 4 (r .key) r (λ e. omega arith))) (those-yes (underKey 3 (r .key)) l r (own 3 r k))
+      (ap₂ (λ f m. placesFrom f 0 m) (clocks-same l r (r .key) (other-kind 4 (r .key) r (λ e. omega arith)))
+      (those-yes (underKey 3 (r .key)) l r (own 3 r k))
       ∙ places-snoc (valueIn l (r .key)) 0 (those (underKey 3 (r .key)) l) r
-      ∙ ap (λ d. valuesUnder l (r .key) ++ (record { clock = clockOf d; value = contentOf r } ∷ [])) (none-later h 4 (r .key) (0 + length (those (underKey 3 (r .key)) l)) (omega arith)))
+      ∙ ap (λ d. valuesUnder l (r .key) ++ (record { clock = clockOf d; value = contentOf r } ∷ []))
+      (none-later h 4 (r .key) (0 + length (those (underKey 3 (r .key)) l)) (omega arith)))
 
   -- a value dot goes to the value at its index
   pub value-dot-entry : r .kind ≡ 4 → r .index < length (valuesUnder l (r .key)) → entryIn (l ++ (r ∷ [])) (r .key)
-      ≡ entryAs (r .key) (dotsIn (underKey 2 (r .key)) l)
-      (set (valuesUnder l (r .key)) (r .index) (record { clock = clockOf (dotsIn (underBoth 4 (r .key) (r .index)) l ++ (dotOf r ∷ [])); value = getD (valuesUnder l (r .key)) (r .index) noValue .value }))
+      ≡ entryAs (r .key) (dotsFrom (underKey 2 (r .key)) l)
+      (set (valuesUnder l (r .key)) (r .index)
+      (record {
+        clock = clockOf (dotsFrom (underBoth 4 (r .key) (r .index)) l ++ (dotOf r ∷ []));
+        value = getD (valuesUnder l (r .key))
+            (r .index) noValue .value;
+      }))
   value-dot-entry k h =
       ap₂ (entryAs (r .key)) (dots-same (underKey 2 (r .key)) l r (other-kind 2 (r .key) r (λ e. omega arith)))
       (ap (placesFrom (valueIn (l ++ (r ∷ [])) (r .key)) 0) (those-no (underKey 3 (r .key)) l r (other-kind 3 (r .key) r (λ e. omega arith)))
-      ∙ ext-getD noValue _ _ (length-places (valueIn (l ++ (r ∷ [])) (r .key)) 0 vs ∙ sym (length-set (valuesUnder l (r .key)) (r .index) new ∙ length-places (valueIn l (r .key)) 0 vs)) each)
+      ∙ ext-getD noValue _ _ (length-places (valueIn (l ++ (r ∷ [])) (r .key)) 0 vs
+      ∙ sym (length-set (valuesUnder l (r .key)) (r .index) new ∙ length-places (valueIn l (r .key)) 0 vs)) each)
     where
       vs : List Record
       vs = those (underKey 3 (r .key)) l
 
       new : Value
-      new = record { clock = clockOf (dotsIn (underBoth 4 (r .key) (r .index)) l ++ (dotOf r ∷ [])); value = getD (valuesUnder l (r .key)) (r .index) noValue .value }
+      new = record {
+        clock = clockOf (dotsFrom (underBoth 4 (r .key) (r .index)) l ++ (dotOf r ∷ []));
+        value = getD (valuesUnder l (r .key))
+            (r .index) noValue .value;
+      }
 
       none : Record
       none = record { kind = 0; index = 0; actor = 0; key = 0; number = 0 }
@@ -117,7 +132,8 @@ module _ (l : List Record) (r : Record) where
       old : (i : ℕ) → i < length vs → getD (valuesUnder l (r .key)) i noValue ≡ valueIn l (r .key) (0 + i) (getD vs i none)
       old i g = get-places (valueIn l (r .key)) 0 vs i none noValue g
 
-      each : (i : ℕ) → i < length (placesFrom (valueIn (l ++ (r ∷ [])) (r .key)) 0 vs) → getD (placesFrom (valueIn (l ++ (r ∷ [])) (r .key)) 0 vs) i noValue ≡ getD (set (valuesUnder l (r .key)) (r .index) new) i noValue
+      each : (i : ℕ) → i < length (placesFrom (valueIn (l ++ (r ∷ [])) (r .key)) 0 vs)
+          → getD (placesFrom (valueIn (l ++ (r ∷ [])) (r .key)) 0 vs) i noValue ≡ getD (set (valuesUnder l (r .key)) (r .index) new) i noValue
       each i b =
           let g = rw (length-places (valueIn (l ++ (r ∷ [])) (r .key)) 0 vs) at b in
           let at : 0 + i ≡ i = omega arith in
@@ -125,9 +141,12 @@ module _ (l : List Record) (r : Record) where
           decide (eqb i (r .index))
           (λ t. let e = eqb-true i (r .index) t in
           now ∙ ap₂ (λ d n. record { clock = clockOf d; value = n })
-          (ap (λ k. dotsIn (underBoth 4 (r .key) k) (l ++ (r ∷ []))) (at ∙ e) ∙ dots-more (underBoth 4 (r .key) (r .index)) l r (both (underKey 4 (r .key) r) (eqb (r .index) (r .index)) (own 4 r k) (eq-eqb (r .index) (r .index) refl)))
+          (ap (λ k. dotsFrom (underBoth 4 (r .key) k) (l ++ (r ∷ []))) (at ∙ e)
+          ∙ dots-more (underBoth 4 (r .key) (r .index)) l r (both (underKey 4 (r .key) r) (eqb (r .index) (r .index)) (own 4 r k)
+          (eq-eqb (r .index) (r .index) refl)))
           (ap (λ j. contentOf (getD vs j none)) e ∙ sym (ap (λ v. v .value) (old (r .index) (rw e at g))))
-          ∙ sym (ap (λ j. getD (set (valuesUnder l (r .key)) (r .index) new) j noValue) e ∙ getD-set-same (valuesUnder l (r .key)) (r .index) new noValue h))
+          ∙ sym (ap (λ j. getD (set (valuesUnder l (r .key)) (r .index) new) j noValue) e
+          ∙ getD-set-same (valuesUnder l (r .key)) (r .index) new noValue h))
           (λ f. let n = eqb-false i (r .index) f in
           now ∙ ap (λ d. record { clock = clockOf d; value = contentOf (getD vs i none) })
           (dots-same (underBoth 4 (r .key) (0 + i)) l r (rw (own 4 r k) (ne-eqb (r .index) (0 + i) (λ q. n (sym (q ∙ at))))))

@@ -1,8 +1,9 @@
-pub mod Packs
-pub mod Places
 pub mod Keys
 pub mod Entries
 pub mod Counts
 pub mod Finding
-pub mod Everys
+pub mod SoFar
+pub mod Steps
+pub mod Waits
+pub mod Readers
 pub mod Examples

@@ -9,8 +9,8 @@ use borrow.Author.Tests.{leb-true, leb-false, lt-ltb, le-ltb}
 use lib.Dec.{leb}
 use lib.ListN.{length, take, getD, set}
 use lib.Seq.{take-length}
-use Rattle.lists.proofs.Rests.{in-list}
-use Rattle.lists.proofs.Beside.{beside-start, beside-past, beside-both, beside-next}
+use Rattle.listlaws.proofs.Rests.{in-list}
+use Rattle.listlaws.proofs.Beside.{beside-start, beside-past, beside-both, beside-next}
 use Rattle.clock.specs.declared.Dot.{Dot}
 use Rattle.clock.specs.Dots.{noDot, beyond, cutDots}
 use Rattle.clock.specs.Lawful.{Lawful}

@@ -1,6 +1,6 @@
 -- A loop that clears, place by place, the marks of those elements that fail a test.
 use mathlib.Core.Path.{_≡_, refl, ap, sym, _∙_}
-use mathlib.Core.Bool.{Bool, true, false, _&&_}
+use mathlib.Core.Bool.{Bool, true, false, _&&_, and-false, and-true}
 use mathlib.Core.List.{List}
 use Prim.Native.Nat.{ℕ, _+_, _≤_, _<_}
 use native.Mathlib.Omega.{arith}
@@ -8,7 +8,7 @@ use borrow.Author.Tests.{eqb-true, eqb-false}
 use lib.Dec.{eqb}
 use lib.ListN.{length, getD, set, length-set}
 use lib.Seq.{getD-set-same, getD-set-other}
-use Rattle.lists.specs.Sift.{those}
+use Rattle.listlaws.specs.Sift.{those}
 use Rattle.marks.specs.Marks.{picked}
 use Rattle.marks.proofs.Picks.{picked-those}
 
@@ -17,14 +17,6 @@ pub record Marking {A : Type 0} (test : A → Bool) (d : A) (l : List A) (bs : L
   pub long : length cs ≡ length bs
   pub passed : (k : ℕ) → k < i → getD cs k false ≡ (getD bs k false && test (getD l k d))
   pub ahead : (k : ℕ) → i ≤ k → getD cs k false ≡ getD bs k false
-
-and-false : (b : Bool) → (b && false) ≡ false
-and-false true = refl
-and-false false = refl
-
-and-true : (b : Bool) → (b && true) ≡ b
-and-true true = refl
-and-true false = refl
 
 module _ {A : Type 0} {test : A → Bool} {d : A} {l : List A} {bs : List Bool} where
   pub marking-start : Marking test d l bs 0 bs

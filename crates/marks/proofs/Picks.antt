@@ -1,18 +1,14 @@
 -- Laws of the elements whose marks are set: which they are, their order, their number, and a test of them told mark by mark.
 use mathlib.Core.Path.{_≡_, refl, ap, sym, _∙_}
 use mathlib.Core.Bool.{Bool, true, false, cond, _&&_}
-use mathlib.Core.Logic.{⊎-elim}
-use mathlib.Core.List.{List, [], _∷_, List·Memᴰ·head, List·Memᴰ·tail, List·Memᴰ·not-nil, List·Memᴰ·cases-cons}
+use mathlib.Core.List.{List, [], _∷_}
 use Prim.Native.Nat.{ℕ, zero, suc, _+_, _≤_, _<_}
 use native.Mathlib.Numerals.{add-one}
 use native.Mathlib.Omega.{arith}
 use lib.ListN.{length, take, drop, getD, replicate}
 use lib.Seq.{drop-cons}
-use Rattle.lists.specs.Sift.{sift, those}
-use Rattle.lists.specs.Order.{_∈_, Ascending, nil, next}
-use Rattle.lists.proofs.Rests.{drop-end}
-use Rattle.clock.specs.declared.Dot.{Dot}
-use Rattle.clock.specs.Lawful.{Lawful}
+use Rattle.listlaws.specs.Sift.{sift, those}
+use Rattle.listlaws.proofs.Rests.{drop-end}
 use Rattle.marks.specs.Marks.{picked, marksSet}
 
 module _ {A : Type 0} where
@@ -27,22 +23,6 @@ module _ {A : Type 0} where
   picked-all [] n h = picked-nil (replicate n true)
   picked-all (x ∷ l) zero h = absurd (omega arith)
   picked-all (x ∷ l) (suc n) h = ap (λ m. x ∷ m) (picked-all l n (omega arith))
-
-  -- what is picked stands in the list
-  pub picked-means : (bs : List Bool) (l : List A) {z : A} → z ∈ picked bs l → z ∈ l
-  unfolding picked
-  picked-means [] l i = absurd (List·Memᴰ·not-nil i)
-  picked-means (b ∷ bs) [] i = i
-  picked-means (true ∷ bs) (x ∷ l) {z} i =
-      ⊎-elim (λ (e : z ≡ x). List·Memᴰ·head e) (λ j. List·Memᴰ·tail (picked-means bs l j)) (List·Memᴰ·cases-cons i)
-  picked-means (false ∷ bs) (x ∷ l) i = List·Memᴰ·tail (picked-means bs l i)
-
-  pub picked-ascends : {before : A → A → Bool} (bs : List Bool) {l : List A} → Ascending before l → Ascending before (picked bs l)
-  unfolding picked
-  picked-ascends [] a = nil
-  picked-ascends (b ∷ bs) nil = nil
-  picked-ascends (true ∷ bs) (next {l = l} f a) = next (λ y i. f y (picked-means bs l i)) (picked-ascends bs a)
-  picked-ascends (false ∷ bs) (next f a) = picked-ascends bs a
 
   -- as many are picked as marks are set, of the marks that have an element
   pub length-picked : (bs : List Bool) (l : List A) → length (picked bs l) ≡ marksSet (take (length l) bs)
@@ -88,7 +68,3 @@ module _ {A : Type 0} where
 
   pub picked-end : (bs : List Bool) (l : List A) (i : ℕ) → length l ≤ i → picked (drop i bs) (drop i l) ≡ []
   picked-end bs l i h = ap (picked (drop i bs)) (drop-end l i h) ∙ picked-nil (drop i bs)
-
--- marked dots of a clock are a clock
-pub lawful-picked : (bs : List Bool) {l : List Dot} → Lawful l → Lawful (picked bs l)
-lawful-picked bs {l} h = record { rising = picked-ascends bs (h .rising); positive = λ d i. h .positive d (picked-means bs l i) }

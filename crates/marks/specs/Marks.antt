@@ -3,7 +3,7 @@ use mathlib.Core.Bool.{Bool, cond}
 use mathlib.Core.List.{List, [], _∷_}
 use Prim.Native.Nat.{ℕ}
 use lib.ListN.{length}
-use Rattle.lists.specs.Sift.{those}
+use Rattle.listlaws.specs.Sift.{those}
 
 -- the elements whose marks are set, in order
 unfoldable pub picked : {A : Type 0} → List Bool → List A → List A

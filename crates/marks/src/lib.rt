@@ -2,16 +2,18 @@
 ghost use mathlib.Core.Path.{_≡_};
 ghost use Prim.Native.Nat.{_+_, _*_, _≤_};
 ghost use lib.ListN.{length, take};
-ghost use Rattle.lists.specs.First.{some};
-ghost use Rattle.clock.specs.Dots.{dotLimit, dotsOf, clockOf, cutDots};
+ghost use Rattle.listlaws.specs.First.{some};
+ghost use Rattle.limits.specs.Limits.{dotLimit};
+ghost use Rattle.clock.specs.Dots.{dotsOf, clockOf, cutDots};
 ghost use Rattle.clock.specs.Lawful.{Lawful};
-ghost use Rattle.records.specs.Records.{recordFrom, bytesOf, Wrote};
+ghost use Rattle.records.specs.Records.{recordFrom, bytesOf};
+ghost use Rattle.records.specs.Writing.{Wrote};
 ghost use Rattle.clockimage.specs.Image.{dotRecords, dotOf};
 ghost use Rattle.runs.specs.Run.{runDots};
 ghost use Rattle.marks.specs.Marks.{picked, marksSet};
 use clock::Clock;
-use clock::DOTS;
 use clock::Dot;
+use limits::DOTS;
 use records::Record;
 
 // How many of the first n marks are set.

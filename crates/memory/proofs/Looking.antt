@@ -7,38 +7,38 @@ use native.Mathlib.Omega.{arith}
 use lib.Dec.{eqb}
 use lib.ListN.{length, take}
 use lib.Seq.{take-all}
-use Rattle.lists.specs.First.{firstIn}
-use Rattle.lists.proofs.Passing.{Passing, passing-here, passing-on, passing-end}
-use Rattle.maprecords.specs.Reading.{below}
+use Rattle.listlaws.specs.First.{firstIn}
+use Rattle.listlaws.proofs.Passing.{Passing, passing-here, passing-on, passing-end}
+use Rattle.maprecords.specs.Reading.{numbersBelow}
 use Rattle.maprecords.proofs.Keys.{length-below, get-below}
 use Rattle.memory.specs.Memory.{keyAt, entryCount}
-use Rattle.memory.specs.Putting.{placeOf}
+use Rattle.memory.specs.Putting.{entryPlaceOf}
 
 -- j of the n entries are passed, and none of them has the key
 abbrev pub Looking : List ℕ → ℕ → ℕ → ℕ → Type 0
-Looking w n key j = (j ≤ n) × Passing (λ k. eqb (keyAt w k) key) (λ k. k) n (below n) n j
+Looking w n key j = (j ≤ n) × Passing (λ k. eqb (keyAt w k) key) (λ k. k) n (numbersBelow n) n j
 
 module _ (w : List ℕ) (n key : ℕ) where
   abbrev hit : ℕ → Bool
   hit k = eqb (keyAt w k) key
 
-  used : take n (below n) ≡ below n
-  used = take-all n (below n) (omega (arith, length-below n))
+  used : take n (numbersBelow n) ≡ numbersBelow n
+  used = take-all n (numbersBelow n) (omega (arith, length-below n))
 
-  whole : n ≡ entryCount w → firstIn hit (λ k. k) n (take n (below n)) ≡ placeOf w key
-  unfolding placeOf
-  whole e = ap (firstIn hit (λ k. k) n) used ∙ ap (λ m. firstIn hit (λ k. k) m (below m)) e
+  whole : n ≡ entryCount w → firstIn hit (λ k. k) n (take n (numbersBelow n)) ≡ entryPlaceOf w key
+  unfolding entryPlaceOf
+  whole e = ap (firstIn hit (λ k. k) n) used ∙ ap (λ m. firstIn hit (λ k. k) m (numbersBelow m)) e
 
-  module _ (j : ℕ) (p : Passing hit (λ k. k) n (below n) n j) where
+  module _ (j : ℕ) (p : Passing hit (λ k. k) n (numbersBelow n) n j) where
     module _ (h : j < n) where
-      in-use : j < length (take n (below n))
+      in-use : j < length (take n (numbersBelow n))
       in-use = omega (arith, ap length used, length-below n)
 
-      pub look-here : n ≡ entryCount w → hit j ≡ true → j ≡ placeOf w key
+      pub look-here : n ≡ entryCount w → hit j ≡ true → j ≡ entryPlaceOf w key
       look-here e t = sym (get-below n j h) ∙ passing-here 0 p in-use (ap hit (get-below n j h) ∙ t) ∙ whole e
 
-      pub look-on : hit j ≡ false → Passing hit (λ k. k) n (below n) n (j + 1)
+      pub look-on : hit j ≡ false → Passing hit (λ k. k) n (numbersBelow n) n (j + 1)
       look-on f = passing-on 0 p in-use (ap hit (get-below n j h) ∙ f)
 
-    pub look-end : n ≡ entryCount w → n ≤ j → n ≡ placeOf w key
+    pub look-end : n ≡ entryCount w → n ≤ j → n ≡ entryPlaceOf w key
     look-end e h = passing-end p (omega (arith, ap length used, length-below n)) ∙ whole e

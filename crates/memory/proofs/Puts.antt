@@ -3,25 +3,30 @@ use mathlib.Core.Path.{_≡_, ap, ap₂, sym, _∙_}
 use mathlib.Core.List.{List, [], _∷_, _++_, map}
 use Prim.Native.Nat.{ℕ, _+_, _*_, _≤_, _<_, min}
 use native.Mathlib.Omega.{arith}
-use lib.Dec.{eqb, ltb}
+use lib.Dec.{ltb}
 use lib.ListN.{length, set}
-use borrow.Author.Tests.{lt-ltb, eq-eqb, eqb-true, eqb-false, ltb-true, ltb-false}
+use borrow.Author.Tests.{lt-ltb, eq-eqb, ltb-true, ltb-false}
 use Rattle.clock.specs.declared.Dot.{Dot}
-use Rattle.clock.specs.Dots.{dotLimit, clockOf}
+use Rattle.limits.specs.Limits.{dotLimit, valueLimit, entryLimit, waitingLimit, keyLimit}
+use Rattle.clock.specs.Dots.{clockOf}
 use Rattle.register.specs.declared.Value.{Value}
-use Rattle.register.specs.Values.{valueLimit, noValue}
-use Rattle.parts.specs.Model.{noEntry, noRemoval, entryLimit, waitingLimit, keyLimit, entryAs, removalAs}
+use Rattle.register.specs.Values.{noValue}
+use Rattle.entries.specs.Model.{noEntry, entryAs}
+use Rattle.removals.specs.Model.{noRemoval, removalAs}
 use Rattle.records.specs.declared.Record.{Record}
 use Rattle.records.specs.Bytes.{numAt}
 use Rattle.records.proofs.RoundTrips.{Fitting}
 use Rattle.scan.proofs.Eachs.{decide}
 use Rattle.clockimage.specs.Image.{dotOf, contentOf}
-use Rattle.maprecords.specs.Reading.{below}
-use Rattle.memory.specs.Memory.{readerRoom, clockRoom, dotRoom, valueRoom, entryRoom, removalRoom, entriesPlace, waitsPlace, entryPlace, ownPlace, valuesPlace, valuePlace, removalPlace, keysPlace, keyPlace, countAt, dotAt, dotsAt, contentAt, valueAt, valuesAt, keyAt, entryAt, entryCount, entriesAt, listedAt, removalAt, waitingCountAt, waitingAt}
-use Rattle.memory.specs.Reader.{keysIn}
+use Rattle.maprecords.specs.Reading.{numbersBelow}
+use Rattle.memory.specs.Memory.{readerRoom, clockRoom, dotRoom, valueRoom, entryRoom, removalRoom, entriesPlace, waitsPlace, entryPlace}
+use Rattle.memory.specs.Memory.{ownPlace, valuesPlace, valuePlace, removalPlace, keysPlace, keyPlace, countAt, dotAt, dotsAt, contentAt}
+use Rattle.memory.specs.Memory.{valueAt, valuesAt, keyAt, entryHeldAt, entryCount, entriesAt, listedAt, removalAt, waitingCountAt, waitingAt}
 use Rattle.memory.specs.Putting.{put, dotPut, entryBegun, valuePut, valueDotPut, removalBegun, keyPut}
-use Rattle.memory.proofs.Regions.{Same, same-num, Touched, touched-none, touched-then, touched-wide, below-touched, above-touched, touched-put, put-read}
-use Rattle.memory.proofs.Views.{below-same, below-more, length-of, below-set, same-count, same-dot, same-dots, same-value, same-values, same-key, same-entry, same-listed, same-removal}
+use Rattle.memory.proofs.Regions.{Same, same-num, Touched, touched-none, touched-then, touched-wide, below-touched, above-touched}
+use Rattle.memory.proofs.Regions.{touched-put, put-read}
+use Rattle.memory.proofs.Views.{below-same, below-more, length-of, below-set, same-count, same-dot, same-dots, same-value, same-values}
+use Rattle.memory.proofs.Views.{same-key, same-entry, same-listed, same-removal}
 
 -- a dot
 module _ (p : ℕ) (r : Record) (w : List ℕ) (f : Fitting r) (room : p + clockRoom ≤ length w) where
@@ -62,7 +67,8 @@ module _ (p : ℕ) (r : Record) (w : List ℕ) (f : Fitting r) (room : p + clock
     new-dot : dotAt counted place ≡ dotOf r
     new-dot =
         let a = same-num 1 place (above-touched place 2 third (omega arith)) (omega arith) (omega arith)
-        ∙ same-num 1 place (below-touched place 2 second (omega arith)) (omega arith) (omega arith) ∙ put-read 1 place (r .actor) w (f .actor) (omega arith) in
+        ∙ same-num 1 place (below-touched place 2 second (omega arith)) (omega arith) (omega arith)
+        ∙ put-read 1 place (r .actor) w (f .actor) (omega arith) in
         let b = same-num 3 (place + 2) (above-touched (place + 2) 8 third (omega arith)) (omega arith) (omega arith)
         ∙ put-read 3 (place + 2) (r .number) actored (f .number) (omega (arith, first .long)) in
         λ i. record { actor = a i; counter = b i }
@@ -78,12 +84,13 @@ module _ (p : ℕ) (r : Record) (w : List ℕ) (f : Fitting r) (room : p + clock
     unfolding dotsAt
     more-dots =
         let n = numAt 0 p w in
-        let now : countAt dotLimit p counted ≡ n + 1 = ap (λ x. min x dotLimit) (put-read 0 p (n + 1) dotted (omega arith) (omega (arith, long))) ∙ omega arith in
+        let now : countAt dotLimit p counted ≡ n + 1 = ap (λ x. min x dotLimit) (put-read 0 p (n + 1) dotted (omega arith) (omega (arith, long)))
+        ∙ omega arith in
         let was : countAt dotLimit p w ≡ n = omega arith in
-        ap (λ c. map (λ i. dotAt counted (p + 1 + i * dotRoom)) (below c)) now
+        ap (λ c. map (λ i. dotAt counted (p + 1 + i * dotRoom)) (numbersBelow c)) now
         ∙ below-more (λ i. dotAt counted (p + 1 + i * dotRoom)) n
         ∙ ap₂ (λ l x. l ++ (x ∷ [])) (below-same (λ i. dotAt counted (p + 1 + i * dotRoom)) (λ i. dotAt w (p + 1 + i * dotRoom)) n old-dot) new-dot
-        ∙ ap (λ c. map (λ i. dotAt w (p + 1 + i * dotRoom)) (below c) ++ (dotOf r ∷ [])) (sym was)
+        ∙ ap (λ c. map (λ i. dotAt w (p + 1 + i * dotRoom)) (numbersBelow c) ++ (dotOf r ∷ [])) (sym was)
 
   pub dot-touched : Touched p clockRoom w (dotPut p r w)
   unfolding dotPut
@@ -98,8 +105,8 @@ module _ (p : ℕ) (r : Record) (w : List ℕ) (f : Fitting r) (room : p + clock
 
 -- a clock whose count is 0
 pub no-dots : (p : ℕ) (w : List ℕ) → numAt 0 p w ≡ 0 → dotsAt w p ≡ []
-unfolding dotsAt below
-no-dots p w e = ap (λ c. map (λ i. dotAt w (p + 1 + i * dotRoom)) (below (min c dotLimit))) e
+unfolding dotsAt numbersBelow
+no-dots p w e = ap (λ c. map (λ i. dotAt w (p + 1 + i * dotRoom)) (numbersBelow (min c dotLimit))) e
 
 -- the entry at a place changed, and nothing else
 pub record EntryNow (j : ℕ) (w v : List ℕ) (ds : List Dot) (vs : List Value) : Type 0 where
@@ -109,7 +116,8 @@ pub record EntryNow (j : ℕ) (w v : List ℕ) (ds : List Dot) (vs : List Value)
   pub values : valuesAt v j ≡ vs
 
 module _ (j : ℕ) (r : Record) (w : List ℕ) (f : Fitting r) (long : length w ≡ readerRoom) (low : j < entryLimit) where
-  pub own-now : length (dotsAt w (ownPlace j)) < dotLimit → EntryNow j w (dotPut (ownPlace j) r w) (dotsAt w (ownPlace j) ++ (dotOf r ∷ [])) (valuesAt w j)
+  pub own-now : length (dotsAt w (ownPlace j)) < dotLimit → EntryNow j w (dotPut (ownPlace j) r w) (dotsAt w (ownPlace j) ++ (dotOf r ∷ []))
+      (valuesAt w j)
   own-now few =
       let t = dot-touched (ownPlace j) r w f (omega arith) in
       record {
@@ -162,13 +170,15 @@ module _ (j : ℕ) (r : Record) (w : List ℕ) (f : Fitting r) (long : length w 
         let n = 1 + valueLimit * valueRoom in
         touched-then (touched-wide (valuesPlace j) n number-put (omega arith) (omega arith))
         (touched-then (touched-wide (valuesPlace j) n blank-put (omega arith) (omega arith))
-        (touched-then (touched-wide (valuesPlace j) n origin-put (omega arith) (omega arith)) (touched-wide (valuesPlace j) n count-put (omega arith) (omega arith))))
+        (touched-then (touched-wide (valuesPlace j) n origin-put (omega arith) (omega arith))
+        (touched-wide (valuesPlace j) n count-put (omega arith) (omega arith))))
 
     new-value : valueAt valued at ≡ record { clock = clockOf []; value = contentOf r }
     new-value =
         let x = same-num 3 at (above-touched at 8 count-put (omega arith)) (omega arith) (omega arith)
         ∙ same-num 3 at (below-touched at 8 origin-put (omega arith)) (omega arith) (omega arith)
-        ∙ same-num 3 at (below-touched at 8 blank-put (omega arith)) (omega arith) (omega arith) ∙ put-read 3 at (r .number) w (f .number) (omega arith) in
+        ∙ same-num 3 at (below-touched at 8 blank-put (omega arith)) (omega arith) (omega arith)
+        ∙ put-read 3 at (r .number) w (f .number) (omega arith) in
         let o = same-num 1 (at + 8 + clockRoom) (above-touched (at + 8 + clockRoom) 2 count-put (omega arith)) (omega arith) (omega arith)
         ∙ put-read 1 (at + 8 + clockRoom) (r .actor) blank (f .actor) (omega (arith, blank-long)) in
         let z = same-num 0 (at + 8) (above-touched (at + 8) 1 count-put (omega arith)) (omega arith) (omega arith)
@@ -188,14 +198,16 @@ module _ (j : ℕ) (r : Record) (w : List ℕ) (f : Fitting r) (long : length w 
     more-values : valuesAt valued j ≡ valuesAt w j ++ (record { clock = clockOf []; value = contentOf r } ∷ [])
     unfolding valuesAt
     more-values =
-        let now : countAt valueLimit (valuesPlace j) valued ≡ count + 1 = ap (λ x. min x valueLimit) (put-read 0 (valuesPlace j) (count + 1) named (omega arith) (omega (arith, named-long))) ∙ omega arith in
+        let now : countAt valueLimit (valuesPlace j) valued ≡ count + 1 = ap (λ x. min x valueLimit)
+        (put-read 0 (valuesPlace j) (count + 1) named (omega arith) (omega (arith, named-long))) ∙ omega arith in
         let was : countAt valueLimit (valuesPlace j) w ≡ count = omega arith in
-        ap (λ c. map (λ i. valueAt valued (valuePlace j i)) (below c)) now
+        ap (λ c. map (λ i. valueAt valued (valuePlace j i)) (numbersBelow c)) now
         ∙ below-more (λ i. valueAt valued (valuePlace j i)) count
         ∙ ap₂ (λ l x. l ++ (x ∷ [])) (below-same (λ i. valueAt valued (valuePlace j i)) (λ i. valueAt w (valuePlace j i)) count old-value) new-value
-        ∙ ap (λ c. map (λ i. valueAt w (valuePlace j i)) (below c) ++ (record { clock = clockOf []; value = contentOf r } ∷ [])) (sym was)
+        ∙ ap (λ c. map (λ i. valueAt w (valuePlace j i)) (numbersBelow c) ++ (record { clock = clockOf []; value = contentOf r } ∷ [])) (sym was)
 
-    pub value-now : count ≡ r .index → EntryNow j w (valuePut j r w) (dotsAt w (ownPlace j)) (valuesAt w j ++ (record { clock = clockOf []; value = contentOf r } ∷ []))
+    pub value-now : count ≡ r .index → EntryNow j w (valuePut j r w) (dotsAt w (ownPlace j))
+        (valuesAt w j ++ (record { clock = clockOf []; value = contentOf r } ∷ []))
     unfolding valuePut
     value-now e = rw (eq-eqb count (r .index) e, lt-ltb count valueLimit h) (record {
       touched = touched-wide (entryPlace j) entryRoom value-touched (omega arith) (omega arith);
@@ -222,7 +234,8 @@ module _ (j : ℕ) (r : Record) (w : List ℕ) (f : Fitting r) (long : length w 
         let c = dot-more (its + 8) r w f (omega arith) few in
         λ i. record { clock = clockOf (c i); value = record { number = x i; origin = o i } }
 
-    other-value : (i : ℕ) → i < countAt valueLimit (valuesPlace j) w → (i ≡ r .index → ⊥) → valueAt (dotPut (its + 8) r w) (valuePlace j i) ≡ valueAt w (valuePlace j i)
+    other-value : (i : ℕ) → i < countAt valueLimit (valuesPlace j) w → (i ≡ r .index → ⊥)
+        → valueAt (dotPut (its + 8) r w) (valuePlace j i) ≡ valueAt w (valuePlace j i)
     other-value i l n =
         let q = valuePlace j i in
         decide (ltb i (r .index))
@@ -238,43 +251,31 @@ module _ (j : ℕ) (r : Record) (w : List ℕ) (f : Fitting r) (long : length w 
           touched = touched-wide (entryPlace j) entryRoom t (omega arith) (omega arith);
           key = same-key (below-touched (entryPlace j) 4 t (omega arith)) j (omega arith) (omega arith);
           dots = same-dots (below-touched (ownPlace j) clockRoom t (omega arith)) (ownPlace j) (omega arith) (omega arith);
-          values = ap (λ c. map (λ i. valueAt v (valuePlace j i)) (below c)) (same-count (below-touched (valuesPlace j) 1 t (omega arith)) valueLimit (valuesPlace j) (omega arith) (omega arith))
-              ∙ below-set noValue (λ i. valueAt w (valuePlace j i)) (λ i. valueAt v (valuePlace j i)) (countAt valueLimit (valuesPlace j) w) (r .index) known other-value
-              ∙ ap (set (map (λ i. valueAt w (valuePlace j i)) (below (countAt valueLimit (valuesPlace j) w))) (r .index)) its-value;
+          values = ap (λ c. map (λ i. valueAt v (valuePlace j i)) (numbersBelow c))
+              (same-count (below-touched (valuesPlace j) 1 t (omega arith)) valueLimit (valuesPlace j) (omega arith) (omega arith))
+              ∙ below-set noValue (λ i. valueAt w (valuePlace j i)) (λ i. valueAt v (valuePlace j i)) (countAt valueLimit (valuesPlace j) w)
+              (r .index) known other-value
+              ∙ ap (set (map (λ i. valueAt w (valuePlace j i)) (numbersBelow (countAt valueLimit (valuesPlace j) w))) (r .index)) its-value;
         })
 
 -- an entry changed in its place
-pub entry-stored : (j : ℕ) {w v : List ℕ} {ds : List Dot} {vs : List Value} → EntryNow j w v ds vs → j < entryCount w → entriesAt v ≡ set (entriesAt w) j (entryAs (keyAt w j) ds vs)
+pub entry-stored : (j : ℕ) {w v : List ℕ} {ds : List Dot} {vs : List Value} → EntryNow j w v ds vs → j < entryCount w
+    → entriesAt v ≡ set (entriesAt w) j (entryAs (keyAt w j) ds vs)
 unfolding entriesAt
 entry-stored j {w} {v} {ds} {vs} e h =
     let t = e .touched in
-    let now : entryAt v j ≡ entryAs (keyAt w j) ds vs = rw (e .key, e .dots, e .values) in
-    ap (λ c. map (entryAt v) (below c)) (same-count (below-touched entriesPlace 1 t (omega arith)) entryLimit entriesPlace (omega arith) (omega arith))
-    ∙ below-set noEntry (entryAt w) (entryAt v) (entryCount w) j h others
-    ∙ ap (set (map (entryAt w) (below (entryCount w))) j) now
+    let now : entryHeldAt v j ≡ entryAs (keyAt w j) ds vs = rw (e .key, e .dots, e .values) in
+    ap (λ c. map (entryHeldAt v) (numbersBelow c)) (same-count (below-touched entriesPlace 1 t (omega arith)) entryLimit entriesPlace (omega arith)
+    (omega arith))
+    ∙ below-set noEntry (entryHeldAt w) (entryHeldAt v) (entryCount w) j h others
+    ∙ ap (set (map (entryHeldAt w) (numbersBelow (entryCount w))) j) now
   where
-    others : (i : ℕ) → i < entryCount w → (i ≡ j → ⊥) → entryAt v i ≡ entryAt w i
+    others : (i : ℕ) → i < entryCount w → (i ≡ j → ⊥) → entryHeldAt v i ≡ entryHeldAt w i
     others i l n =
         let t = e .touched in
         decide (ltb i j)
         (λ x. let b = ltb-true i j x in same-entry (below-touched (entryPlace i) entryRoom t (omega arith)) i (omega arith) (omega arith))
         (λ x. let b = ltb-false i j x in same-entry (above-touched (entryPlace i) entryRoom t (omega (arith, n))) i (omega arith) (omega arith))
-
-pub keys-stored : (j : ℕ) {w v : List ℕ} {ds : List Dot} {vs : List Value} → EntryNow j w v ds vs → j < entryCount w → keysIn v ≡ keysIn w
-unfolding keysIn
-keys-stored j {w} {v} e h =
-    ap (λ c. map (keyAt v) (below c)) (same-count (below-touched entriesPlace 1 (e .touched) (omega arith)) entryLimit entriesPlace (omega arith) (omega arith))
-    ∙ below-same (keyAt v) (keyAt w) (entryCount w) each
-  where
-    each : (i : ℕ) → i < entryCount w → keyAt v i ≡ keyAt w i
-    each i l =
-        let t = e .touched in
-        decide (eqb i j)
-        (λ x. let q = eqb-true i j x in ap (keyAt v) q ∙ e .key ∙ sym (ap (keyAt w) q))
-        (λ x. let n = eqb-false i j x in
-        decide (ltb i j)
-        (λ y. let b = ltb-true i j y in same-key (below-touched (entryPlace i) entryRoom t (omega arith)) i (omega arith) (omega arith))
-        (λ y. let b = ltb-false i j y in same-key (above-touched (entryPlace i) entryRoom t (omega (arith, n))) i (omega arith) (omega arith)))
 
 -- an entry behind the last
 module _ (r : Record) (w : List ℕ) (f : Fitting r) (long : length w ≡ readerRoom) (n : ℕ) (few : n < entryLimit) where
@@ -315,7 +316,8 @@ module _ (r : Record) (w : List ℕ) (f : Fitting r) (long : length w ≡ reader
   made-touched =
       touched-then (touched-wide (entryPlace n) entryRoom key-put (omega arith) (omega arith))
       (touched-then (touched-wide (entryPlace n) entryRoom clear-put (omega arith) (omega arith))
-      (touched-then (touched-wide (entryPlace n) entryRoom own-put (omega arith) (omega arith)) (touched-wide (entryPlace n) entryRoom none-put (omega arith) (omega arith))))
+      (touched-then (touched-wide (entryPlace n) entryRoom own-put (omega arith) (omega arith))
+      (touched-wide (entryPlace n) entryRoom none-put (omega arith) (omega arith))))
 
   pub begun-touched : Touched entriesPlace 1 made (entryBegun n r w)
   unfolding entryBegun
@@ -330,7 +332,8 @@ module _ (r : Record) (w : List ℕ) (f : Fitting r) (long : length w ≡ reader
       same-key (above-touched (entryPlace n) 4 begun-touched (omega arith)) n (omega arith) (omega arith)
       ∙ same-key (below-touched (entryPlace n) 4 none-put (omega arith)) n (omega arith) (omega arith)
       ∙ same-key (below-touched (entryPlace n) 4 own-put (omega arith)) n (omega arith) (omega arith)
-      ∙ same-key (below-touched (entryPlace n) 4 clear-put (omega arith)) n (omega arith) (omega arith) ∙ put-read 2 (entryPlace n) (r .key) w (f .key) (omega arith)
+      ∙ same-key (below-touched (entryPlace n) 4 clear-put (omega arith)) n (omega arith) (omega arith)
+      ∙ put-read 2 (entryPlace n) (r .key) w (f .key) (omega arith)
 
   begun-dots : dotsAt (entryBegun n r w) (ownPlace n) ≡ dotOf r ∷ []
   begun-dots =
@@ -340,35 +343,28 @@ module _ (r : Record) (w : List ℕ) (f : Fitting r) (long : length w ≡ reader
       ∙ dot-more (ownPlace n) r cleared f (omega (arith, cleared-long)) (rw none (omega arith)) ∙ ap (λ l. l ++ (dotOf r ∷ [])) none
 
   begun-values : valuesAt (entryBegun n r w) n ≡ []
-  unfolding valuesAt below
+  unfolding valuesAt numbersBelow
   begun-values =
       let none = same-num 0 (valuesPlace n) (above-touched (valuesPlace n) 1 begun-touched (omega arith)) (omega arith) (omega arith)
       ∙ put-read 0 (valuesPlace n) 0 owned (omega arith) (omega (arith, owned-long)) in
-      ap (λ c. map (λ i. valueAt (entryBegun n r w) (valuePlace n i)) (below (min c valueLimit))) none
+      ap (λ c. map (λ i. valueAt (entryBegun n r w) (valuePlace n i)) (numbersBelow (min c valueLimit))) none
 
   module _ (count : entryCount w ≡ n) where
     before : (i : ℕ) → i < n → Same (entryPlace i) entryRoom (entryBegun n r w) w
     before i h = record {
       at = λ k x y.
-          above-touched (entryPlace i) entryRoom begun-touched (omega arith) .at k x y ∙ below-touched (entryPlace i) entryRoom made-touched (omega arith) .at k x y;
+          above-touched (entryPlace i) entryRoom begun-touched (omega arith) .at k x y
+          ∙ below-touched (entryPlace i) entryRoom made-touched (omega arith) .at k x y;
     }
 
     pub entry-added : entriesAt (entryBegun n r w) ≡ entriesAt w ++ (entryAs (r .key) (dotOf r ∷ []) [] ∷ [])
     unfolding entriesAt
     entry-added =
         let v = entryBegun n r w in
-        let now : entryAt v n ≡ entryAs (r .key) (dotOf r ∷ []) [] = rw (begun-key, begun-dots, begun-values) in
-        ap (λ c. map (entryAt v) (below c)) begun-count ∙ below-more (entryAt v) n
-        ∙ ap₂ (λ l x. l ++ (x ∷ [])) (below-same (entryAt v) (entryAt w) n (λ i h. same-entry (before i h) i (omega arith) (omega arith))) now
-        ∙ ap (λ c. map (entryAt w) (below c) ++ (entryAs (r .key) (dotOf r ∷ []) [] ∷ [])) (sym count)
-
-    pub key-added : keysIn (entryBegun n r w) ≡ keysIn w ++ (r .key ∷ [])
-    unfolding keysIn
-    key-added =
-        let v = entryBegun n r w in
-        ap (λ c. map (keyAt v) (below c)) begun-count ∙ below-more (keyAt v) n
-        ∙ ap₂ (λ l x. l ++ (x ∷ [])) (below-same (keyAt v) (keyAt w) n (λ i h. same-key (before i h) i (omega arith) (omega arith))) begun-key
-        ∙ ap (λ c. map (keyAt w) (below c) ++ (r .key ∷ [])) (sym count)
+        let now : entryHeldAt v n ≡ entryAs (r .key) (dotOf r ∷ []) [] = rw (begun-key, begun-dots, begun-values) in
+        ap (λ c. map (entryHeldAt v) (numbersBelow c)) begun-count ∙ below-more (entryHeldAt v) n
+        ∙ ap₂ (λ l x. l ++ (x ∷ [])) (below-same (entryHeldAt v) (entryHeldAt w) n (λ i h. same-entry (before i h) i (omega arith) (omega arith))) now
+        ∙ ap (λ c. map (entryHeldAt w) (numbersBelow c) ++ (entryAs (r .key) (dotOf r ∷ []) [] ∷ [])) (sym count)
 
 -- the waiting removal at a place changed, and nothing else
 pub record RemovalNow (k : ℕ) (w v : List ℕ) (ds : List Dot) (ks : List ℕ) : Type 0 where
@@ -377,7 +373,8 @@ pub record RemovalNow (k : ℕ) (w v : List ℕ) (ds : List Dot) (ks : List ℕ)
   pub keys : listedAt v k ≡ ks
 
 module _ (k : ℕ) (r : Record) (w : List ℕ) (f : Fitting r) (long : length w ≡ readerRoom) (low : k < waitingLimit) where
-  pub waiting-dot-now : length (dotsAt w (removalPlace k)) < dotLimit → RemovalNow k w (dotPut (removalPlace k) r w) (dotsAt w (removalPlace k) ++ (dotOf r ∷ [])) (listedAt w k)
+  pub waiting-dot-now : length (dotsAt w (removalPlace k)) < dotLimit → RemovalNow k w (dotPut (removalPlace k) r w)
+      (dotsAt w (removalPlace k) ++ (dotOf r ∷ [])) (listedAt w k)
   waiting-dot-now few =
       let t = dot-touched (removalPlace k) r w f (omega arith) in
       record {
@@ -410,17 +407,19 @@ module _ (k : ℕ) (r : Record) (w : List ℕ) (f : Fitting r) (long : length w 
     more-keys : listedAt more-listed k ≡ listedAt w k ++ (r .key ∷ [])
     unfolding listedAt
     more-keys =
-        let now : countAt keyLimit (keysPlace k) more-listed ≡ listed + 1 = ap (λ x. min x keyLimit) (put-read 0 (keysPlace k) (listed + 1) keyed-there (omega arith) (omega (arith, there-put .long))) ∙ omega arith in
+        let now : countAt keyLimit (keysPlace k) more-listed ≡ listed + 1 = ap (λ x. min x keyLimit)
+        (put-read 0 (keysPlace k) (listed + 1) keyed-there (omega arith) (omega (arith, there-put .long))) ∙ omega arith in
         let was : countAt keyLimit (keysPlace k) w ≡ listed = omega arith in
-        let new = same-num 2 (keyPlace k listed) (above-touched (keyPlace k listed) 4 listed-put (omega arith)) (omega arith) (omega arith) ∙ put-read 2 (keyPlace k listed) (r .key) w (f .key) (omega arith) in
-        ap (λ c. map (λ i. numAt 2 (keyPlace k i) more-listed) (below c)) now
+        let new = same-num 2 (keyPlace k listed) (above-touched (keyPlace k listed) 4 listed-put (omega arith)) (omega arith) (omega arith)
+        ∙ put-read 2 (keyPlace k listed) (r .key) w (f .key) (omega arith) in
+        ap (λ c. map (λ i. numAt 2 (keyPlace k i) more-listed) (numbersBelow c)) now
         ∙ below-more (λ i. numAt 2 (keyPlace k i) more-listed) listed
         ∙ ap₂ (λ l x. l ++ (x ∷ []))
         (below-same (λ i. numAt 2 (keyPlace k i) more-listed) (λ i. numAt 2 (keyPlace k i) w) listed
         (λ i l. same-num 2 (keyPlace k i) (above-touched (keyPlace k i) 4 listed-put (omega arith)) (omega arith) (omega arith)
         ∙ same-num 2 (keyPlace k i) (below-touched (keyPlace k i) 4 there-put (omega arith)) (omega arith) (omega arith)))
         new
-        ∙ ap (λ c. map (λ i. numAt 2 (keyPlace k i) w) (below c) ++ (r .key ∷ [])) (sym was)
+        ∙ ap (λ c. map (λ i. numAt 2 (keyPlace k i) w) (numbersBelow c) ++ (r .key ∷ [])) (sym was)
 
     pub waiting-key-now : RemovalNow k w (keyPut k r w) (dotsAt w (removalPlace k)) (listedAt w k ++ (r .key ∷ []))
     unfolding keyPut
@@ -431,14 +430,16 @@ module _ (k : ℕ) (r : Record) (w : List ℕ) (f : Fitting r) (long : length w 
     })
 
 -- a waiting removal changed in its place
-pub removal-stored : (k : ℕ) {w v : List ℕ} {ds : List Dot} {ks : List ℕ} → RemovalNow k w v ds ks → k < waitingCountAt w → waitingAt v ≡ set (waitingAt w) k (removalAs ds ks)
+pub removal-stored : (k : ℕ) {w v : List ℕ} {ds : List Dot} {ks : List ℕ} → RemovalNow k w v ds ks → k < waitingCountAt w
+    → waitingAt v ≡ set (waitingAt w) k (removalAs ds ks)
 unfolding waitingAt
 removal-stored k {w} {v} {ds} {ks} e h =
     let t = e .touched in
     let now : removalAt v k ≡ removalAs ds ks = rw (e .dots, e .keys) in
-    ap (λ c. map (removalAt v) (below c)) (same-count (below-touched waitsPlace 1 t (omega arith)) waitingLimit waitsPlace (omega arith) (omega arith))
+    ap (λ c. map (removalAt v) (numbersBelow c)) (same-count (below-touched waitsPlace 1 t (omega arith)) waitingLimit waitsPlace (omega arith)
+    (omega arith))
     ∙ below-set noRemoval (removalAt w) (removalAt v) (waitingCountAt w) k h others
-    ∙ ap (set (map (removalAt w) (below (waitingCountAt w))) k) now
+    ∙ ap (set (map (removalAt w) (numbersBelow (waitingCountAt w))) k) now
   where
     others : (i : ℕ) → i < waitingCountAt w → (i ≡ k → ⊥) → removalAt v i ≡ removalAt w i
     others i l n =
@@ -479,7 +480,8 @@ module _ (r : Record) (w : List ℕ) (f : Fitting r) (long : length w ≡ reader
   pub laid-touched : Touched (removalPlace n) removalRoom w laid
   laid-touched =
       touched-then (touched-wide (removalPlace n) removalRoom wipe-put (omega arith) (omega arith))
-      (touched-then (touched-wide (removalPlace n) removalRoom clock-put (omega arith) (omega arith)) (touched-wide (removalPlace n) removalRoom unlisted-put (omega arith) (omega arith)))
+      (touched-then (touched-wide (removalPlace n) removalRoom clock-put (omega arith) (omega arith))
+      (touched-wide (removalPlace n) removalRoom unlisted-put (omega arith) (omega arith)))
 
   pub removal-touched : Touched waitsPlace 1 laid (removalBegun n r w)
   unfolding removalBegun
@@ -497,11 +499,11 @@ module _ (r : Record) (w : List ℕ) (f : Fitting r) (long : length w ≡ reader
       ∙ dot-more (removalPlace n) r wiped f (omega (arith, wiped-long)) (rw none (omega arith)) ∙ ap (λ l. l ++ (dotOf r ∷ [])) none
 
   removal-keys : listedAt (removalBegun n r w) n ≡ []
-  unfolding listedAt below
+  unfolding listedAt numbersBelow
   removal-keys =
       let none = same-num 0 (keysPlace n) (above-touched (keysPlace n) 1 removal-touched (omega arith)) (omega arith) (omega arith)
       ∙ put-read 0 (keysPlace n) 0 clocked (omega arith) (omega (arith, clocked-long)) in
-      ap (λ c. map (λ i. numAt 2 (keyPlace n i) (removalBegun n r w)) (below (min c keyLimit))) none
+      ap (λ c. map (λ i. numAt 2 (keyPlace n i) (removalBegun n r w)) (numbersBelow (min c keyLimit))) none
 
   module _ (count : waitingCountAt w ≡ n) where
     pub removal-added : waitingAt (removalBegun n r w) ≡ waitingAt w ++ (removalAs (dotOf r ∷ []) [] ∷ [])
@@ -509,9 +511,9 @@ module _ (r : Record) (w : List ℕ) (f : Fitting r) (long : length w ≡ reader
     removal-added =
         let v = removalBegun n r w in
         let now : removalAt v n ≡ removalAs (dotOf r ∷ []) [] = rw (removal-dots, removal-keys) in
-        ap (λ c. map (removalAt v) (below c)) removal-count ∙ below-more (removalAt v) n
+        ap (λ c. map (removalAt v) (numbersBelow c)) removal-count ∙ below-more (removalAt v) n
         ∙ ap₂ (λ l x. l ++ (x ∷ []))
         (below-same (removalAt v) (removalAt w) n
         (λ i h. same-removal (above-touched (removalPlace i) removalRoom removal-touched (omega arith)) i (omega arith) (omega arith)
         ∙ same-removal (below-touched (removalPlace i) removalRoom laid-touched (omega arith)) i (omega arith) (omega arith))) now
-        ∙ ap (λ c. map (removalAt w) (below c) ++ (removalAs (dotOf r ∷ []) [] ∷ [])) (sym count)
+        ∙ ap (λ c. map (removalAt w) (numbersBelow c) ++ (removalAs (dotOf r ∷ []) [] ∷ [])) (sym count)

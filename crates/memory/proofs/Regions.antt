@@ -114,7 +114,8 @@ module _ (a : ℕ) (b w : List ℕ) (room : a + length b ≤ length w) where
   where-is i =
       decide (ltb i a) (λ x. inl (ltb-true i a x))
       (λ x. let low = ltb-false i a x in
-      decide (ltb i (a + length b)) (λ y. let high = ltb-true i (a + length b) y in inr (inr (i - a, omega arith, omega arith))) (λ y. inr (inl (ltb-false i (a + length b) y))))
+      decide (ltb i (a + length b)) (λ y. let high = ltb-true i (a + length b) y in inr (inr (i - a, omega arith, omega arith)))
+      (λ y. inr (inl (ltb-false i (a + length b) y))))
 
   pub touched-placed : Bytes b → Touched a (length b) w (placed a b w)
   touched-placed small = record {
@@ -159,4 +160,5 @@ touched-record p r w f room =
     touched-placed p (recordBytes r) w room
     (bytes-append (numBytes 0 (r .kind)) (i ++ (a ++ (y ++ m))) (num-small 0 (r .kind) (f .kind))
     (bytes-append i (a ++ (y ++ m)) (num-small 0 (r .index) (f .index))
-    (bytes-append a (y ++ m) (num-small 1 (r .actor) (f .actor)) (bytes-append y m (num-small 2 (r .key) (f .key)) (num-small 3 (r .number) (f .number))))))
+    (bytes-append a (y ++ m) (num-small 1 (r .actor) (f .actor)) (bytes-append y m (num-small 2 (r .key) (f .key))
+    (num-small 3 (r .number) (f .number))))))

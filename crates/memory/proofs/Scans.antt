@@ -9,22 +9,25 @@ use lib.ListN.{length, getD, set, take, drop}
 use lib.Seq.{length-take-le}
 use borrow.Author.Tests.{lt-ltb, ltb-true, ltb-false, eq-eqb, ne-eqb}
 use Rattle.records.specs.declared.Record.{Record}
-use Rattle.records.specs.Bytes.{numAt, placed, Bytes}
+use Rattle.records.specs.Bytes.{numAt, placed, Bytes, flagOf}
 use Rattle.records.specs.Records.{recordFrom, recordBytes}
 use Rattle.records.proofs.RoundTrips.{Fitting, read-record, read-fits}
 use Rattle.scan.specs.declared.Scan.{Scan}
 use Rattle.scan.specs.Formed.{wellFormed}
 use Rattle.scan.specs.Limits.{outer, middle, inner, within}
-use Rattle.scan.specs.Scanned.{scanNumber, Scanned, Under, behindLast, scanOn}
+use Rattle.scan.specs.Numbers.{scanNumber}
+use Rattle.scan.specs.Scanned.{Scanned, CountedUnder}
+use Rattle.scan.specs.Stepping.{behindLast, scanOn, underOn}
 use Rattle.scan.proofs.Eachs.{decide, both-right}
 use Rattle.scan.proofs.Scanning.{scanned-more}
-use Rattle.maprecords.specs.Reading.{below}
-use Rattle.mapreader.specs.SoFar.{MapSoFar}
-use Rattle.mapreader.proofs.Readers.{counted, recounted}
+use Rattle.maprecords.specs.Reading.{numbersBelow}
+use Rattle.maprecords.specs.SoFar.{MapSoFar}
+use Rattle.maprecords.proofs.Readers.{counted, recounted}
 use Rattle.memory.specs.Memory.{readerRoom, numberPlace, anyPlace, lastPlace, countsPlace, underPlace, lostPlace, scanAt}
-use Rattle.memory.specs.Putting.{put, flagOf, scanPut, underOn}
+use Rattle.memory.specs.Putting.{put, scanPut}
 use Rattle.memory.specs.Reader.{underAt, readerAt}
-use Rattle.memory.proofs.Regions.{Same, same-num, same-record, Touched, touched-then, touched-wide, below-touched, above-touched, touched-put, put-read, touched-record}
+use Rattle.memory.proofs.Regions.{Same, same-num, same-record, Touched, touched-then, touched-wide, below-touched, above-touched, touched-put}
+use Rattle.memory.proofs.Regions.{put-read, touched-record}
 use Rattle.memory.proofs.Views.{below-same, length-of, below-set, below-at}
 
 -- they depend on the bytes where they stand
@@ -41,7 +44,8 @@ scan-same s h k =
 pub under-same : {u v : List ℕ} {a n : ℕ} → Same a n u v → a ≤ underPlace → lostPlace ≤ a + n → underAt u ≡ underAt v
 unfolding underAt
 under-same {u} {v} s h k =
-    below-same (λ i. numAt 0 (underPlace + i) u) (λ i. numAt 0 (underPlace + i) v) 256 (λ i l. same-num 0 (underPlace + i) s (omega arith) (omega arith))
+    below-same (λ i. numAt 0 (underPlace + i) u) (λ i. numAt 0 (underPlace + i) v) 256
+    (λ i l. same-num 0 (underPlace + i) s (omega arith) (omega arith))
 
 -- a scan that was put in place
 module _ (s : Scan) (w : List ℕ) (long : length w ≡ readerRoom) (small : s .number < 256) (f : Fitting (s .last)) where
@@ -126,13 +130,24 @@ module _ (s : Scan) (w : List ℕ) (long : length w ≡ readerRoom) (small : s .
       same-record lastPlace (below-touched lastPlace 16 t6 (omega arith)) (omega arith) (omega arith)
       ∙ same-record lastPlace (below-touched lastPlace 16 t5 (omega arith)) (omega arith) (omega arith)
       ∙ same-record lastPlace (below-touched lastPlace 16 t4 (omega arith)) (omega arith) (omega arith)
-      ∙ read-record (s .last) lastPlace three (take lastPlace two) (drop (lastPlace + 16) two) refl (length-take-le lastPlace two (omega (arith, long2))) f
+      ∙ read-record (s .last) lastPlace three (take lastPlace two) (drop (lastPlace + 16) two) refl
+      (length-take-le lastPlace two (omega (arith, long2))) f
 
-  pub scan-read : scanAt (scanPut s w) ≡ record { number = s .number; any = s .any; last = s .last; outer = s .outer % 2 ^ 16; middle = s .middle % 2 ^ 16; inner = s .inner % 2 ^ 16 }
+  pub scan-read : scanAt (scanPut s w) ≡ record {
+    number = s .number;
+    any = s .any;
+    last = s .last;
+    outer = s .outer % 2 ^ 16;
+    middle = s .middle % 2
+        ^ 16;
+    inner = s .inner % 2 ^ 16;
+  }
   unfolding scanPut
   scan-read =
-      let a = upto2 0 numberPlace (omega arith) ∙ same-num 0 numberPlace (below-touched numberPlace 1 t2 (omega arith)) (omega arith) (omega arith) ∙ put-read 0 numberPlace (s .number) w small (omega arith) in
-      let b = ap (λ x. eqb x 1) (upto2 0 anyPlace (omega arith) ∙ put-read 0 anyPlace (flagOf (s .any)) one (flag-small (s .any)) (omega (arith, t1 .long))) ∙ flag-read (s .any) in
+      let a = upto2 0 numberPlace (omega arith) ∙ same-num 0 numberPlace (below-touched numberPlace 1 t2 (omega arith)) (omega arith) (omega arith)
+      ∙ put-read 0 numberPlace (s .number) w small (omega arith) in
+      let b = ap (λ x. eqb x 1) (upto2 0 anyPlace (omega arith) ∙ put-read 0 anyPlace (flagOf (s .any)) one (flag-small (s .any))
+      (omega (arith, t1 .long))) ∙ flag-read (s .any) in
       let d = upto4 1 countsPlace (omega arith) ∙ put-read 1 countsPlace (s .outer % 2 ^ 16) three (omega arith) (omega (arith, long3)) in
       let e = upto5 1 (countsPlace + 2) (omega arith) ∙ put-read 1 (countsPlace + 2) (s .middle % 2 ^ 16) four (omega arith) (omega (arith, long4)) in
       let g = put-read 1 (countsPlace + 4) (s .inner % 2 ^ 16) five (omega arith) (omega (arith, long5)) in
@@ -141,7 +156,14 @@ module _ (s : Scan) (w : List ℕ) (long : length w ≡ readerRoom) (small : s .
 
 -- counts that are small are kept in two bytes
 stays : (low high : ℕ) (l : List Record) (s : Scan) → Scanned low high l s
-    → Scanned low high l (record { number = s .number; any = s .any; last = s .last; outer = s .outer % 2 ^ 16; middle = s .middle % 2 ^ 16; inner = s .inner % 2 ^ 16 })
+    → Scanned low high l (record {
+      number = s .number;
+      any = s .any;
+      last = s .last;
+      outer = s .outer % 2 ^ 16;
+      middle = s .middle % 2 ^ 16;
+      inner = s .inner % 2 ^ 16;
+    })
 stays low high l s sc = record {
   number = sc .number;
   ends = sc .ends;
@@ -155,7 +177,8 @@ stays low high l s sc = record {
 
 number-small : (low high : ℕ) (l : List Record) → scanNumber low high l < 256
 unfolding scanNumber
-number-small low high l = decide (wellFormed low high l) (λ a. decide (within l) (λ b. rw (a, b) (omega arith)) (λ b. rw (a, b) (omega arith))) (λ a. rw a (omega arith))
+number-small low high l = decide (wellFormed low high l) (λ a. decide (within l) (λ b. rw (a, b) (omega arith)) (λ b. rw (a, b) (omega arith)))
+    (λ a. rw a (omega arith))
 
 fits-on : (low high : ℕ) (s : Scan) (r : Record) (n : ℕ) → Fitting (s .last) → Fitting r → Fitting (scanOn low high s r n .last)
 unfolding scanOn
@@ -164,7 +187,8 @@ fits-on low high s r n a b =
     (λ t. decide (behindLast low high s r) (λ u. decide (eqb (s .number) 0) (λ z. rw (t, u, z) b) (λ z. rw (t, u, z) b)) (λ u. rw (t, u) a))
 
 -- a whole record
-module _ (l : List Record) (w : List ℕ) (long : length w ≡ readerRoom) (bytes : Bytes w) (m : MapSoFar l (readerAt w)) (r : Record) (f : Fitting r) where
+module _ (l : List Record) (w : List ℕ) (long : length w ≡ readerRoom) (bytes : Bytes w) (m : MapSoFar l (readerAt w)) (r : Record)
+    (f : Fitting r) where
   abbrev at : ℕ
   at = underPlace + r .index
 
@@ -216,19 +240,22 @@ module _ (l : List Record) (w : List ℕ) (long : length w ≡ readerRoom) (byte
   under-put =
       under-same (above-touched underPlace 256 (scan-touched scanned more more-long small last-fits) (omega arith)) (omega arith) (omega arith)
       ∙ below-set 0 (λ i. numAt 0 (underPlace + i) w) (λ i. numAt 0 (underPlace + i) more) 256 (r .index) (f .index) others
-      ∙ ap (set (map (λ i. numAt 0 (underPlace + i) w) (below 256)) (r .index)) (put-read 0 at (underOn (numAt 0 at w) (r .kind)) w (under-small (numAt 0 at w) (r .kind) (bytes at)) (omega (arith, f .index)))
+      ∙ ap (set (map (λ i. numAt 0 (underPlace + i) w) (numbersBelow 256)) (r .index))
+      (put-read 0 at (underOn (numAt 0 at w) (r .kind)) w (under-small (numAt 0 at w) (r .kind) (bytes at)) (omega (arith, f .index)))
     where
       others : (i : ℕ) → i < 256 → (i ≡ r .index → ⊥) → numAt 0 (underPlace + i) more ≡ numAt 0 (underPlace + i) w
       others i h n =
           decide (ltb i (r .index))
-          (λ t. let b = ltb-true i (r .index) t in same-num 0 (underPlace + i) (below-touched (underPlace + i) 1 more-touched (omega arith)) (omega arith) (omega arith))
-          (λ t. let b = ltb-false i (r .index) t in same-num 0 (underPlace + i) (above-touched (underPlace + i) 1 more-touched (omega (arith, n))) (omega arith) (omega arith))
+          (λ t. let b = ltb-true i (r .index) t in same-num 0 (underPlace + i) (below-touched (underPlace + i) 1 more-touched (omega arith))
+          (omega arith) (omega arith))
+          (λ t. let b = ltb-false i (r .index) t in same-num 0 (underPlace + i) (above-touched (underPlace + i) 1 more-touched (omega (arith, n)))
+          (omega arith) (omega arith))
 
   long-under : length (underAt w) ≡ 256
   unfolding underAt
   long-under = length-of (λ i. numAt 0 (underPlace + i) w) 256
 
-  pub under-now : scanAt next .number ≡ 0 → Under (l ++ (r ∷ [])) (underAt next)
+  pub under-now : scanAt next .number ≡ 0 → CountedUnder (l ++ (r ∷ [])) (underAt next)
   under-now z =
       let u = numAt 0 at w in
       rw under-put

@@ -3,17 +3,18 @@ use mathlib.Core.List.{List, map}
 use Prim.Native.Nat.{ℕ, _+_, _*_, min}
 use lib.Dec.{eqb}
 use Rattle.clock.specs.declared.Dot.{Dot}
-use Rattle.clock.specs.Dots.{dotLimit, clockOf}
+use Rattle.limits.specs.Limits.{dotLimit, valueLimit, entryLimit, waitingLimit, keyLimit}
+use Rattle.clock.specs.Dots.{clockOf}
 use Rattle.register.specs.declared.Content.{Content}
 use Rattle.register.specs.declared.Value.{Value}
-use Rattle.register.specs.Values.{valueLimit}
-use Rattle.parts.specs.declared.Entry.{Entry}
-use Rattle.parts.specs.declared.Removal.{Removal}
-use Rattle.parts.specs.Model.{entryLimit, waitingLimit, keyLimit, entryAs, removalAs}
+use Rattle.entries.specs.declared.Entry.{Entry}
+use Rattle.removals.specs.declared.Removal.{Removal}
+use Rattle.entries.specs.Model.{entryAs}
+use Rattle.removals.specs.Model.{removalAs}
 use Rattle.records.specs.Bytes.{numAt}
 use Rattle.records.specs.Records.{recordFrom}
 use Rattle.scan.specs.declared.Scan.{Scan}
-use Rattle.maprecords.specs.Reading.{below}
+use Rattle.maprecords.specs.Reading.{numbersBelow}
 
 -- whether it is open (1), the length so far in four bytes, a record that is not whole yet
 abbrev pub openPlace : ℕ
@@ -117,7 +118,7 @@ abbrev pub dotAt : List ℕ → ℕ → Dot
 dotAt w at = record { actor = numAt 1 at w; counter = numAt 3 (at + 2) w }
 
 unfoldable pub dotsAt : List ℕ → ℕ → List Dot
-dotsAt w at = map (λ i. dotAt w (at + 1 + i * dotRoom)) (below (countAt dotLimit at w))
+dotsAt w at = map (λ i. dotAt w (at + 1 + i * dotRoom)) (numbersBelow (countAt dotLimit at w))
 
 -- as entries
 abbrev pub contentAt : List ℕ → ℕ → Content
@@ -127,23 +128,23 @@ abbrev pub valueAt : List ℕ → ℕ → Value
 valueAt w at = record { clock = clockOf (dotsAt w (at + 8)); value = contentAt w at }
 
 unfoldable pub valuesAt : List ℕ → ℕ → List Value
-valuesAt w j = map (λ i. valueAt w (valuePlace j i)) (below (countAt valueLimit (valuesPlace j) w))
+valuesAt w j = map (λ i. valueAt w (valuePlace j i)) (numbersBelow (countAt valueLimit (valuesPlace j) w))
 
 abbrev pub keyAt : List ℕ → ℕ → ℕ
 keyAt w j = numAt 2 (entryPlace j) w
 
-abbrev pub entryAt : List ℕ → ℕ → Entry
-entryAt w j = entryAs (keyAt w j) (dotsAt w (ownPlace j)) (valuesAt w j)
+abbrev pub entryHeldAt : List ℕ → ℕ → Entry
+entryHeldAt w j = entryAs (keyAt w j) (dotsAt w (ownPlace j)) (valuesAt w j)
 
 abbrev pub entryCount : List ℕ → ℕ
 entryCount w = countAt entryLimit entriesPlace w
 
 unfoldable pub entriesAt : List ℕ → List Entry
-entriesAt w = map (entryAt w) (below (entryCount w))
+entriesAt w = map (entryHeldAt w) (numbersBelow (entryCount w))
 
 -- as waiting removals
 unfoldable pub listedAt : List ℕ → ℕ → List ℕ
-listedAt w k = map (λ i. numAt 2 (keyPlace k i) w) (below (countAt keyLimit (keysPlace k) w))
+listedAt w k = map (λ i. numAt 2 (keyPlace k i) w) (numbersBelow (countAt keyLimit (keysPlace k) w))
 
 abbrev pub removalAt : List ℕ → ℕ → Removal
 removalAt w k = removalAs (dotsAt w (removalPlace k)) (listedAt w k)
@@ -152,4 +153,4 @@ abbrev pub waitingCountAt : List ℕ → ℕ
 waitingCountAt w = countAt waitingLimit waitsPlace w
 
 unfoldable pub waitingAt : List ℕ → List Removal
-waitingAt w = map (removalAt w) (below (waitingCountAt w))
+waitingAt w = map (removalAt w) (numbersBelow (waitingCountAt w))

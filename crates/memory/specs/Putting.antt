@@ -3,16 +3,17 @@ use mathlib.Core.Bool.{Bool, cond, _&&_}
 use mathlib.Core.List.{List}
 use Prim.Native.Nat.{ℕ, _+_, _*_, _%_, _^_}
 use lib.Dec.{eqb, ltb}
-use Rattle.lists.specs.First.{firstIn}
-use Rattle.clock.specs.Dots.{dotLimit}
-use Rattle.register.specs.Values.{valueLimit}
-use Rattle.parts.specs.Model.{entryLimit, waitingLimit, keyLimit}
+use Rattle.listlaws.specs.First.{firstIn}
+use Rattle.limits.specs.Limits.{dotLimit, valueLimit, entryLimit, waitingLimit, keyLimit}
 use Rattle.records.specs.declared.Record.{Record}
-use Rattle.records.specs.Bytes.{numAt, numBytes, placed}
+use Rattle.records.specs.Bytes.{numAt, numBytes, placed, flagOf}
 use Rattle.records.specs.Records.{recordBytes}
+use Rattle.records.specs.Kinds.{clockDotKind, entryDotKind, valueKind, waitingDotKind}
 use Rattle.scan.specs.declared.Scan.{Scan}
-use Rattle.maprecords.specs.Reading.{below}
-use Rattle.memory.specs.Memory.{numberPlace, anyPlace, lastPlace, countsPlace, lostPlace, entriesPlace, waitsPlace, dotRoom, clockRoom, clockPlace, entryPlace, ownPlace, valuesPlace, valuePlace, removalPlace, keysPlace, keyPlace, keyAt, entryCount, waitingCountAt}
+use Rattle.maprecords.specs.Reading.{numbersBelow}
+use Rattle.memory.specs.Memory.{numberPlace, anyPlace, lastPlace, countsPlace, lostPlace, entriesPlace, waitsPlace, dotRoom, clockRoom}
+use Rattle.memory.specs.Memory.{clockPlace, entryPlace, ownPlace, valuesPlace, valuePlace, removalPlace, keysPlace, keyPlace, keyAt}
+use Rattle.memory.specs.Memory.{entryCount, waitingCountAt}
 
 -- a number of 2 ^ k bytes in place
 abbrev pub put : ℕ → ℕ → ℕ → List ℕ → List ℕ
@@ -31,32 +32,34 @@ lose w = put 0 lostPlace 1 w
 
 -- an entry with its first dot, behind the last
 unfoldable pub entryBegun : ℕ → Record → List ℕ → List ℕ
-entryBegun j r w = put 0 entriesPlace (j + 1) (put 0 (valuesPlace j) 0 (dotPut (ownPlace j) r (put 0 (ownPlace j) 0 (put 2 (entryPlace j) (r .key) w))))
+entryBegun j r w = put 0 entriesPlace (j + 1) (put 0 (valuesPlace j) 0
+    (dotPut (ownPlace j) r (put 0 (ownPlace j) 0 (put 2 (entryPlace j) (r .key) w))))
 
 -- a value of an entry, where it is the next; a dot of a value, where that is there
 unfoldable pub valuePut : ℕ → Record → List ℕ → List ℕ
 valuePut j r w =
     let k = numAt 0 (valuesPlace j) w in
     cond (eqb k (r .index) && ltb k valueLimit)
-    (put 0 (valuesPlace j) (k + 1) (put 1 (valuePlace j k + 8 + clockRoom) (r .actor) (put 0 (valuePlace j k + 8) 0 (put 3 (valuePlace j k) (r .number) w)))) (lose w)
+    (put 0 (valuesPlace j) (k + 1) (put 1 (valuePlace j k + 8 + clockRoom) (r .actor)
+    (put 0 (valuePlace j k + 8) 0 (put 3 (valuePlace j k) (r .number) w)))) (lose w)
 
 unfoldable pub valueDotPut : ℕ → Record → List ℕ → List ℕ
 valueDotPut j r w =
     cond (ltb (r .index) (numAt 0 (valuesPlace j) w) && ltb (r .index) valueLimit) (dotPut (valuePlace j (r .index) + 8) r w) (lose w)
 
 -- the first entry of a key, or how many there are
-unfoldable pub placeOf : List ℕ → ℕ → ℕ
-placeOf w key = firstIn (λ j. eqb (keyAt w j) key) (λ j. j) (entryCount w) (below (entryCount w))
+unfoldable pub entryPlaceOf : List ℕ → ℕ → ℕ
+entryPlaceOf w key = firstIn (λ j. eqb (keyAt w j) key) (λ j. j) (entryCount w) (numbersBelow (entryCount w))
 
 -- a record of the entry at a place
 unfoldable pub knownPut : ℕ → Record → List ℕ → List ℕ
-knownPut j r w = cond (eqb (r .kind) 2) (dotPut (ownPlace j) r w) (cond (eqb (r .kind) 3) (valuePut j r w) (valueDotPut j r w))
+knownPut j r w = cond (eqb (r .kind) entryDotKind) (dotPut (ownPlace j) r w) (cond (eqb (r .kind) valueKind) (valuePut j r w) (valueDotPut j r w))
 
 unfoldable pub entryPut : Record → List ℕ → List ℕ
 entryPut r w =
     let n = entryCount w in
-    let j = placeOf w (r .key) in
-    cond (ltb j n) (knownPut j r w) (cond (eqb (r .kind) 2 && ltb n entryLimit) (entryBegun n r w) (lose w))
+    let j = entryPlaceOf w (r .key) in
+    cond (ltb j n) (knownPut j r w) (cond (eqb (r .kind) entryDotKind && ltb n entryLimit) (entryBegun n r w) (lose w))
 
 -- a waiting removal with its first dot; a key of one
 unfoldable pub removalBegun : ℕ → Record → List ℕ → List ℕ
@@ -70,22 +73,16 @@ keyPut k r w =
 unfoldable pub waitingPut : ℕ → Record → List ℕ → List ℕ
 waitingPut k r w =
     let n = waitingCountAt w in
-    cond (ltb k n) (cond (eqb (r .kind) 5) (dotPut (removalPlace k) r w) (keyPut k r w))
-    (cond (eqb (r .kind) 5 && (eqb k n && ltb k waitingLimit)) (removalBegun k r w) (lose w))
+    cond (ltb k n) (cond (eqb (r .kind) waitingDotKind) (dotPut (removalPlace k) r w) (keyPut k r w))
+    (cond (eqb (r .kind) waitingDotKind && (eqb k n && ltb k waitingLimit)) (removalBegun k r w) (lose w))
 
 -- a record where it belongs
 unfoldable pub recordPut : Record → List ℕ → List ℕ
-recordPut r w = cond (eqb (r .kind) 1) (dotPut clockPlace r w) (cond (ltb (r .kind) 5) (entryPut r w) (waitingPut (r .index) r w))
+recordPut r w = cond (eqb (r .kind) clockDotKind) (dotPut clockPlace r w)
+    (cond (ltb (r .kind) waitingDotKind) (entryPut r w) (waitingPut (r .index) r w))
 
 -- the scan's numbers
-abbrev pub flagOf : Bool → ℕ
-flagOf b = cond b 1 0
-
 unfoldable pub scanPut : Scan → List ℕ → List ℕ
 scanPut s w =
     put 1 (countsPlace + 4) (s .inner % 2 ^ 16) (put 1 (countsPlace + 2) (s .middle % 2 ^ 16) (put 1 countsPlace (s .outer % 2 ^ 16)
     (placed lastPlace (recordBytes (s .last)) (put 0 anyPlace (flagOf (s .any)) (put 0 numberPlace (s .number) w)))))
-
--- the waiting keys under an index, with a record of a kind
-abbrev pub underOn : ℕ → ℕ → ℕ
-underOn n kind = cond (eqb kind 6 && ltb n 255) (n + 1) n

@@ -1,31 +1,23 @@
--- A memory as a reader by value.
+-- A memory as the state of a reader.
 use mathlib.Core.Bool.{not}
 use mathlib.Core.List.{List, map}
 use Prim.Native.Nat.{ℕ, _+_}
 use lib.Dec.{eqb}
-use Rattle.lists.specs.Pad.{pad}
-use Rattle.clock.specs.Dots.{clockOf}
-use Rattle.parts.specs.Model.{entryLimit, entriesAs, waitingAs}
 use Rattle.records.specs.Bytes.{numAt}
-use Rattle.maprecords.specs.Reading.{below}
-use Rattle.mapreader.specs.declared.MapReader.{MapReader}
-use Rattle.memory.specs.Memory.{underPlace, lostPlace, clockPlace, scanAt, dotsAt, keyAt, entryCount, entriesAt, waitingAt}
+use Rattle.maprecords.specs.Reading.{numbersBelow}
+use Rattle.maprecords.specs.SoFar.{ReaderState}
+use Rattle.memory.specs.Memory.{underPlace, lostPlace, clockPlace, scanAt, dotsAt, entriesAt, waitingAt}
 
--- the keys of the entries, and the waiting keys under each index
-unfoldable pub keysIn : List ℕ → List ℕ
-keysIn w = map (keyAt w) (below (entryCount w))
-
+-- the waiting keys under each index
 unfoldable pub underAt : List ℕ → List ℕ
-underAt w = map (λ i. numAt 0 (underPlace + i) w) (below 256)
+underAt w = map (λ i. numAt 0 (underPlace + i) w) (numbersBelow 256)
 
--- the memory as a reader by value
-abbrev pub readerAt : List ℕ → MapReader
+abbrev pub readerAt : List ℕ → ReaderState
 readerAt w = record {
   scan = scanAt w;
   under = underAt w;
   lost = not (eqb (numAt 0 lostPlace w) 0);
-  clock = clockOf (dotsAt w clockPlace);
-  keys = pad 0 entryLimit (keysIn w);
-  waiting = waitingAs (waitingAt w);
-  entries = entriesAs (entriesAt w);
+  clock = dotsAt w clockPlace;
+  entries = entriesAt w;
+  waiting = waitingAt w;
 }

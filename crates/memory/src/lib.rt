@@ -1,15 +1,20 @@
 // The memory of a reader of pieces, which is lent: where each part of the map stands in it, and where a record goes.
 ghost use mathlib.Core.Path.{_≡_};
 ghost use Prim.Native.Nat.{_+_, _≤_, _<_};
-ghost use Rattle.parts.specs.Model.{entryLimit, waitingLimit};
+ghost use Rattle.limits.specs.Limits.{entryLimit, waitingLimit};
 ghost use Rattle.memory.specs.Memory.{readerRoom, clockRoom, countAt, entryCount, scanAt};
-ghost use Rattle.memory.specs.Putting.{dotPut, lose, entryBegun, valuePut, valueDotPut, placeOf, knownPut, entryPut, removalBegun, keyPut, waitingPut, recordPut, flagOf, scanPut};
-use clock::DOTS;
-use parts::ENTRIES;
-use parts::KEYS;
-use parts::WAITING;
+ghost use Rattle.memory.specs.Putting.{dotPut, lose, entryBegun, valuePut, valueDotPut, entryPlaceOf, knownPut, entryPut, removalBegun, keyPut};
+ghost use Rattle.memory.specs.Putting.{waitingPut, recordPut, scanPut};
+use limits::DOTS;
+use limits::ENTRIES;
+use limits::KEYS;
+use limits::VALUES;
+use limits::WAITING;
+use records::CLOCK_DOT;
+use records::ENTRY_DOT;
 use records::Record;
-use register::VALUES;
+use records::VALUE;
+use records::WAITING_DOT;
 use scan::Scan;
 
 // Where the numbers of a reader stand.
@@ -147,7 +152,7 @@ fn put_value_dot(mem: &mut [u8; READER], j: usize, r: Record)
 // The first entry of a key, or how many there are.
 fn find(mem: &[u8; READER], n: usize, key: u32) -> usize
     requires { ⌜ n ≡ entryCount (now mem) ⌝ }
-    ensures { λ r. ⌜ r ≡ placeOf (now (mem .entry)) key ⌝ }
+    ensures { λ r. ⌜ r ≡ entryPlaceOf (now (mem .entry)) key ⌝ }
 {
     let mut j: usize = 0;
     while j < n {
@@ -164,9 +169,9 @@ fn put_known(mem: &mut [u8; READER], j: usize, r: Record)
     requires { ⌜ j < entryLimit ⌝ }
     ensures { λ _. ⌜ now (mem .exit) ≡ knownPut j r (now (mem .entry)) ⌝ }
 {
-    if r.kind == 2 {
+    if r.kind == ENTRY_DOT {
         put_dot(mem, ENTRY_PLACE + j * ENTRY_ROOM + 4, r);
-    } else if r.kind == 3 {
+    } else if r.kind == VALUE {
         put_value(mem, j, r);
     } else {
         put_value_dot(mem, j, r);
@@ -181,7 +186,7 @@ fn put_entry(mem: &mut [u8; READER], r: Record)
     let j = find(mem, n, r.key);
     if j < n {
         put_known(mem, j, r);
-    } else if r.kind == 2 {
+    } else if r.kind == ENTRY_DOT {
         if n < ENTRIES {
             begin_entry(mem, n, r);
         } else {
@@ -223,12 +228,12 @@ fn put_waiting(mem: &mut [u8; READER], k: usize, r: Record)
 {
     let n = count(mem, WAITING_COUNT, WAITING);
     if k < n {
-        if r.kind == 5 {
+        if r.kind == WAITING_DOT {
             put_dot(mem, REMOVAL_PLACE + k * REMOVAL_ROOM, r);
         } else {
             put_key(mem, k, r);
         }
-    } else if r.kind == 5 {
+    } else if r.kind == WAITING_DOT {
         if k == n {
             if k < WAITING {
                 begin_removal(mem, k, r);
@@ -247,9 +252,9 @@ fn put_waiting(mem: &mut [u8; READER], k: usize, r: Record)
 pub fn put_record(mem: &mut [u8; READER], r: Record)
     ensures { λ _. ⌜ now (mem .exit) ≡ recordPut r (now (mem .entry)) ⌝ }
 {
-    if r.kind == 1 {
+    if r.kind == CLOCK_DOT {
         put_dot(mem, CLOCK, r);
-    } else if r.kind < 5 {
+    } else if r.kind < WAITING_DOT {
         put_entry(mem, r);
     } else {
         put_waiting(mem, wide(r.index), r);
@@ -274,17 +279,11 @@ pub fn scan_of(mem: &[u8; READER]) -> Scan
     }
 }
 
-fn flag(b: bool) -> u8
-    ensures { λ n. ⌜ n ≡ flagOf b ⌝ }
-{
-    if b { 1 } else { 0 }
-}
-
 pub fn put_scan(mem: &mut [u8; READER], s: Scan)
     ensures { λ _. ⌜ now (mem .exit) ≡ scanPut s (now (mem .entry)) ⌝ }
 {
     records::put8(mem, NUMBER, s.number);
-    records::put8(mem, ANY, flag(s.any));
+    records::put8(mem, ANY, records::flag(s.any));
     let last = s.last;
     records::write_record(mem, LAST, last);
     records::put16(mem, COUNTS, (s.outer % 65536) as u16);

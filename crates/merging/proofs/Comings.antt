@@ -1,12 +1,9 @@
 -- What comes next of a merge: an entry of ours alone, of theirs alone, or of both.
-use mathlib.Core.Path.{_≡_, refl, ap, ap₂, sym, subst, _∙_}
-use mathlib.Core.List.{List, [], _∷_, List·Memᴰ·head, List·Memᴰ·tail}
-use Prim.Native.Nat.{ℕ, _≤_, _<_}
+use mathlib.Core.Path.{_≡_, ap, ap₂, sym, subst, _∙_}
+use mathlib.Core.List.{List, [], _∷_}
+use Prim.Native.Nat.{ℕ, _<_}
 use native.Mathlib.Omega.{arith}
-use lib.ListN.{length}
-use borrow.Author.Tests.{ltb-true}
-use Rattle.lists.specs.Order.{_∈_, Ascending, by}
-use Rattle.lists.proofs.Orders.{head-before}
+use Rattle.listlaws.specs.Order.{_∈_}
 use Rattle.clock.specs.declared.Clock.{Clock}
 use Rattle.clock.specs.declared.Dot.{Dot}
 use Rattle.clock.specs.Dots.{clockOf, cutDots, joinDots}
@@ -14,40 +11,22 @@ use Rattle.clock.specs.Lawful.{Lawful}
 use Rattle.clock.proofs.Cuts.{lawful-cut}
 use Rattle.clock.proofs.Joins.{lawful-join}
 use Rattle.register.specs.Values.{cutValues, mergeValues}
-use Rattle.parts.specs.declared.Entry.{Entry}
-use Rattle.parts.specs.Model.{dotsIn, valuesIn, entryAs}
-use Rattle.parts.specs.Entries.{cutAlone, keepDots, mergeBoth}
+use Rattle.entries.specs.declared.Entry.{Entry}
+use Rattle.entries.specs.Model.{dotsIn, valuesIn, entryAs}
+use Rattle.entries.specs.Entries.{cutAlone, keepDots, mergeBoth}
 use Rattle.walks.specs.declared.Layout.{Layout}
-use Rattle.sketch.specs.declared.Cursor.{Cursor}
-use Rattle.sketch.specs.declared.Lain.{Lain}
-use Rattle.sketch.specs.Walking.{Ahead, LiesAt, Steps}
+use Rattle.entrywalk.specs.declared.Cursor.{Cursor}
+use Rattle.entrywalk.specs.declared.Lain.{Lain}
+use Rattle.entrywalk.specs.Walking.{Ahead, LiesAt, Steps}
+use Rattle.entrywalk.proofs.Fronts.{its-more, rest-in, its-least, its-fewer}
 use Rattle.merging.specs.declared.Alone.{Alone}
-use Rattle.merging.specs.Coming.{woven, Goes, Comes}
+use Rattle.merging.specs.Coming.{woven, GoesAlone, MergeComes}
 use Rattle.merging.proofs.Weaving.{woven-first, woven-second, woven-both, merge-none, none-merge}
 
--- the first of the entries that lie ahead, and the keys behind it
-module _ {s : List ℕ} {l : Layout} {x : Cursor} {es : List Entry} {r : Lain} (h : Ahead s l x es) (g : Steps s l x es r) where
-  rising : Ascending (by (λ e. e .key)) (g .entry ∷ g .more)
-  rising = subst (λ k. Ascending (by (λ e. e .key)) k) (g .parts) (h .own .rising)
-
-  pub its-more : (e : Entry) → e ∈ g .more → r .key < e .key
-  its-more e i = omega (arith, g .lies .key, ltb-true (g .entry .key) (e .key) (head-before rising e i))
-
-  pub first-in : g .entry ∈ es
-  first-in = rw (g .parts) (List·Memᴰ·head refl)
-
-  pub rest-in : (e : Entry) → e ∈ g .more → e ∈ es
-  rest-in e i = rw (g .parts) (List·Memᴰ·tail i)
-
-  pub its-least : (low : ℕ) → ((e : Entry) → e ∈ es → low ≤ e .key) → low ≤ r .key
-  its-least low f = omega (arith, g .lies .key, f (g .entry) first-in)
-
-  pub its-fewer : length (g .more) < length es
-  its-fewer = omega (arith, ap length (g .parts))
-
 module _ (s t : List ℕ) (l m : Layout) (mine yours : List Dot) (x y : Cursor) (es fs : List Entry) (h : Ahead s l x es) (k : Ahead t m y fs) where
-  pub comes-ours : (a : Alone) (n : Lain) → Goes s l x yours es a → Lawful yours → ((f : Entry) → f ∈ fs → a .entry .key < f .key) → LiesAt t (entryAs (a .entry .key) [] []) n → n .next ≡ y
-      → Comes s t l m mine yours x y es fs (record { x = a .entry; y = n; keep = a .keep; gone = a .gone })
+  pub comes-ours : (a : Alone) (n : Lain) → GoesAlone s l x yours es a → Lawful yours → ((f : Entry) → f ∈ fs → a .entry .key < f .key)
+      → LiesAt t (entryAs (a .entry .key) [] []) n → n .next ≡ y
+      → MergeComes s t l m mine yours x y es fs (record { x = a .entry; y = n; keep = a .keep; gone = a .gone })
   unfolding cutAlone
   comes-ours a n g lawful above none on =
       let e = g .steps .entry in
@@ -63,7 +42,8 @@ module _ (s t : List ℕ) (l m : Layout) (mine yours : List Dot) (x y : Cursor) 
         others = fs;
         keep = keep;
         gone = gone;
-        first = ap (λ z. woven mine yours z fs) (g .steps .parts) ∙ woven-first mine yours e (g .steps .more) fs (λ f i. omega (arith, same, above f i))
+        first = ap (λ z. woven mine yours z fs) (g .steps .parts) ∙ woven-first mine yours e (g .steps .more) fs
+            (λ f i. omega (arith, same, above f i))
             ∙ ap₂ (λ z v. entryAs z keep (cutValues gone v) ∷ woven mine yours (g .steps .more) fs) (sym same) (sym (merge-none (valuesIn e)));
         kept = g .keep;
         lost = g .gone;
@@ -84,8 +64,9 @@ module _ (s t : List ℕ) (l m : Layout) (mine yours : List Dot) (x y : Cursor) 
         fewer = omega (arith, its-fewer h (g .steps));
       }
 
-  pub comes-theirs : (a : Alone) (n : Lain) → Goes t m y mine fs a → Lawful mine → ((e : Entry) → e ∈ es → a .entry .key < e .key) → LiesAt s (entryAs (a .entry .key) [] []) n → n .key ≡ a .entry .key → n .next ≡ x
-      → Comes s t l m mine yours x y es fs (record { x = n; y = a .entry; keep = a .keep; gone = a .gone })
+  pub comes-theirs : (a : Alone) (n : Lain) → GoesAlone t m y mine fs a → Lawful mine → ((e : Entry) → e ∈ es → a .entry .key < e .key)
+      → LiesAt s (entryAs (a .entry .key) [] []) n → n .key ≡ a .entry .key → n .next ≡ x
+      → MergeComes s t l m mine yours x y es fs (record { x = n; y = a .entry; keep = a .keep; gone = a .gone })
   unfolding cutAlone
   comes-theirs a n g lawful above none key on =
       let f = g .steps .entry in
@@ -101,8 +82,10 @@ module _ (s t : List ℕ) (l m : Layout) (mine yours : List Dot) (x y : Cursor) 
         others = g .steps .more;
         keep = keep;
         gone = gone;
-        first = ap (λ z. woven mine yours es z) (g .steps .parts) ∙ woven-second mine yours f es (g .steps .more) (λ e i. omega (arith, same, above e i))
-            ∙ ap₂ (λ z v. entryAs z keep (cutValues gone v) ∷ woven mine yours es (g .steps .more)) (sym same ∙ sym key) (sym (none-merge (valuesIn f)));
+        first = ap (λ z. woven mine yours es z) (g .steps .parts) ∙ woven-second mine yours f es (g .steps .more)
+            (λ e i. omega (arith, same, above e i))
+            ∙ ap₂ (λ z v. entryAs z keep (cutValues gone v) ∷ woven mine yours es (g .steps .more)) (sym same ∙ sym key)
+            (sym (none-merge (valuesIn f)));
         kept = g .keep;
         lost = g .gone;
         lawful = lawful-cut keep lawful;
@@ -125,7 +108,7 @@ module _ (s t : List ℕ) (l m : Layout) (mine yours : List Dot) (x y : Cursor) 
   pub comes-both : {a b : Lain} (g : Steps s l x es a) (i : Steps t m y fs b) → g .entry .key ≡ i .entry .key
       → {keep gone : Clock} → keep ≡ clockOf (keepDots mine yours (dotsIn (g .entry)) (dotsIn (i .entry)))
       → gone ≡ clockOf (cutDots (keepDots mine yours (dotsIn (g .entry)) (dotsIn (i .entry))) (joinDots (dotsIn (g .entry)) (dotsIn (i .entry))))
-      → Comes s t l m mine yours x y es fs (record { x = a; y = b; keep = keep; gone = gone })
+      → MergeComes s t l m mine yours x y es fs (record { x = a; y = b; keep = keep; gone = gone })
   unfolding mergeBoth
   comes-both {a} {b} g i level p q =
       let e = g .entry in
@@ -142,7 +125,8 @@ module _ (s t : List ℕ) (l m : Layout) (mine yours : List Dot) (x y : Cursor) 
         keep = keep;
         gone = cutDots keep (joinDots (dotsIn e) (dotsIn f));
         first = ap₂ (λ z w. woven mine yours z w) (g .parts) (i .parts) ∙ woven-both mine yours e f (g .more) (i .more) level
-            ∙ ap (λ z. entryAs z keep (cutValues (cutDots keep (joinDots (dotsIn e) (dotsIn f))) (mergeValues (valuesIn e) (valuesIn f))) ∷ woven mine yours (g .more) (i .more)) (sym same);
+            ∙ ap (λ z. entryAs z keep (cutValues (cutDots keep (joinDots (dotsIn e) (dotsIn f))) (mergeValues (valuesIn e) (valuesIn f))) ∷ woven mine
+            yours (g .more) (i .more)) (sym same);
         kept = p;
         lost = q;
         lawful = lawful-cut keep (lawful-join (g .lies .fit .clock) (i .lies .fit .clock));

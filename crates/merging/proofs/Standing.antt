@@ -2,27 +2,21 @@
 use mathlib.Core.Path.{_≡_, ap, sym, _∙_}
 use mathlib.Core.Bool.{Bool}
 use mathlib.Core.List.{List, _++_}
-use Prim.Native.Nat.{ℕ, _-_}
-use Rattle.lists.specs.Sift.{sift}
-use Rattle.lists.proofs.Sifts.{sift-append}
+use Prim.Native.Nat.{_-_}
+use Rattle.listlaws.specs.Sift.{sift}
+use Rattle.listlaws.proofs.Sifts.{sift-append}
 use Rattle.clock.specs.declared.Dot.{Dot}
 use Rattle.register.specs.Values.{alive, mergeValues}
-use Rattle.parts.specs.declared.Entry.{Entry}
-use Rattle.parts.specs.declared.Removal.{Removal}
-use Rattle.parts.specs.Model.{valuesIn}
+use Rattle.entries.specs.declared.Entry.{Entry}
+use Rattle.removals.specs.declared.Removal.{Removal}
+use Rattle.entries.specs.Model.{valuesIn}
 use Rattle.marks.specs.Marks.{picked}
-use Rattle.comparing.specs.Registers.{RunsOf}
-use Rattle.sketch.specs.declared.Lain.{Lain}
-use Rattle.sketch.specs.Walking.{LiesAt}
-use Rattle.sketch.proofs.Starts.{runs-compared}
 use Rattle.leaving.specs.Left.{valueLeft}
-use Rattle.leaving.proofs.Lying.{values-many}
 
-pub runs-of : {s : List ℕ} {e : Entry} {r : Lain} → LiesAt s e r → RunsOf s (r .starts) (r .values .to - r .values .from) (valuesIn e)
-runs-of h = runs-compared (h .runs) (values-many h) (h .fit .few) (h .fit .valid)
-
-pub both-left : (ours theirs : List Removal) (gone : List Dot) (e f : Entry) (x y : List Bool) → f .key ≡ e .key → picked x (valuesIn e) ++ picked y (valuesIn f) ≡ mergeValues (valuesIn e) (valuesIn f)
-    → sift alive (valueLeft ours theirs (e .key) gone) (picked x (valuesIn e)) ++ sift alive (valueLeft ours theirs (f .key) gone) (picked y (valuesIn f))
+pub both-left : (ours theirs : List Removal) (gone : List Dot) (e f : Entry) (x y : List Bool) → f .key ≡ e .key
+    → picked x (valuesIn e) ++ picked y (valuesIn f) ≡ mergeValues (valuesIn e) (valuesIn f)
+    → sift alive (valueLeft ours theirs (e .key) gone) (picked x (valuesIn e)) ++ sift alive (valueLeft ours theirs (f .key) gone)
+    (picked y (valuesIn f))
     ≡ sift alive (valueLeft ours theirs (e .key) gone) (mergeValues (valuesIn e) (valuesIn f))
 both-left ours theirs gone e f x y same q =
     let change = valueLeft ours theirs (e .key) gone in

@@ -3,21 +3,21 @@ use mathlib.Core.Path.{_≡_}
 use mathlib.Core.List.{List, _∷_}
 use Prim.Native.Nat.{ℕ, _+_, _≤_, _<_}
 use lib.ListN.{length}
-use Rattle.lists.specs.Order.{_∈_, by}
-use Rattle.lists.specs.Sift.{sift}
-use Rattle.lists.specs.Weave.{weave}
+use Rattle.listlaws.specs.Order.{_∈_, by}
+use Rattle.listlaws.specs.Sift.{sift}
+use Rattle.listlaws.specs.Weave.{weave}
 use Rattle.clock.specs.declared.Dot.{Dot}
 use Rattle.clock.specs.Dots.{clockOf, cutDots}
 use Rattle.clock.specs.Lawful.{Lawful}
 use Rattle.register.specs.Values.{cutValues, mergeValues}
-use Rattle.parts.specs.declared.Entry.{Entry}
-use Rattle.parts.specs.Model.{dotsIn, valuesIn, entryAs}
-use Rattle.parts.specs.Entries.{stays, run, cutAlone, mergeBoth, mergeEntries}
+use Rattle.entries.specs.declared.Entry.{Entry}
+use Rattle.entries.specs.Model.{dotsIn, valuesIn, entryAs}
+use Rattle.entries.specs.Entries.{stays, run, cutAlone, mergeBoth, mergeEntries}
 use Rattle.map.specs.declared.Map.{Map}
 use Rattle.map.specs.Model.{seenBy, entriesIn, waitingIn}
 use Rattle.walks.specs.declared.Layout.{Layout}
-use Rattle.sketch.specs.declared.Cursor.{Cursor}
-use Rattle.sketch.specs.Walking.{Ahead, LiesAt, Steps}
+use Rattle.entrywalk.specs.declared.Cursor.{Cursor}
+use Rattle.entrywalk.specs.Walking.{Ahead, LiesAt, Steps}
 use Rattle.merging.specs.declared.Alone.{Alone}
 use Rattle.merging.specs.declared.Coming.{Coming}
 
@@ -25,25 +25,22 @@ use Rattle.merging.specs.declared.Coming.{Coming}
 abbrev pub woven : List Dot → List Dot → List Entry → List Entry → List Entry
 woven mine yours l m = weave (by (λ e. e .key)) (cutAlone yours) (cutAlone mine) (mergeBoth mine yours) l m
 
--- above every key
-abbrev pub beyondKeys : ℕ
-beyondKeys = 4294967296
-
 -- the first of some entries, which the other map does not have
-pub record Goes (s : List ℕ) (l : Layout) (x : Cursor) (other : List Dot) (es : List Entry) (r : Alone) : Type 0 where
+pub record GoesAlone (s : List ℕ) (l : Layout) (x : Cursor) (other : List Dot) (es : List Entry) (r : Alone) : Type 0 where
   pub steps : Steps s l x es (r .entry)
   pub keep : r .keep ≡ clockOf (cutDots other (dotsIn (steps .entry)))
   pub gone : r .gone ≡ clockOf (cutDots (cutDots other (dotsIn (steps .entry))) other)
 
 -- what comes next of the entries of two maps, es and fs: an entry of each side, empty where that side has none of the key
-pub record Comes (s t : List ℕ) (l m : Layout) (mine yours : List Dot) (x y : Cursor) (es fs : List Entry) (r : Coming) : Type 0 where
+pub record MergeComes (s t : List ℕ) (l m : Layout) (mine yours : List Dot) (x y : Cursor) (es fs : List Entry) (r : Coming) : Type 0 where
   pub ours : Entry
   pub theirs : Entry
   pub more : List Entry
   pub others : List Entry
   pub keep : List Dot
   pub gone : List Dot
-  pub first : woven mine yours es fs ≡ entryAs (r .x .key) keep (cutValues gone (mergeValues (valuesIn ours) (valuesIn theirs))) ∷ woven mine yours more others
+  pub first : woven mine yours es fs ≡ entryAs (r .x .key) keep (cutValues gone (mergeValues (valuesIn ours) (valuesIn theirs))) ∷ woven mine yours
+      more others
   pub kept : r .keep ≡ clockOf keep
   pub lost : r .gone ≡ clockOf gone
   pub lawful : Lawful gone

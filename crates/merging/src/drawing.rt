@@ -4,30 +4,31 @@ ghost use mathlib.Core.Bool.{false};
 ghost use mathlib.Core.List.{List, []};
 ghost use Prim.Native.Nat.{ℕ, _≤_};
 ghost use lib.ListN.{length};
-ghost use Rattle.lists.specs.Sift.{sift};
+ghost use Rattle.listlaws.specs.Sift.{sift};
 ghost use Rattle.clock.specs.declared.Dot.{Dot};
-ghost use Rattle.clock.specs.Dots.{dotLimit, dotsOf, clockOf, isEmpty, joinDots};
+ghost use Rattle.limits.specs.Limits.{dotLimit};
+ghost use Rattle.clock.specs.Dots.{dotsOf, clockOf, isEmpty, joinDots};
 ghost use Rattle.clock.specs.Lawful.{Lawful};
 ghost use Rattle.register.specs.Values.{alive, mergeValues};
-ghost use Rattle.parts.specs.declared.Entry.{Entry};
-ghost use Rattle.parts.specs.declared.Removal.{Removal};
-ghost use Rattle.parts.specs.Model.{valuesIn};
+ghost use Rattle.entries.specs.declared.Entry.{Entry};
+ghost use Rattle.removals.specs.declared.Removal.{Removal};
+ghost use Rattle.entries.specs.Model.{valuesIn};
 ghost use Rattle.map.specs.Model.{seenBy, waitingIn};
 ghost use Rattle.mapimage.specs.MapImage.{mapLongest};
 ghost use Rattle.maprecords.specs.Related.{readMap};
 ghost use Rattle.layout.specs.Whole.{LaidOut};
 ghost use Rattle.queued.specs.Queue.{cutsFor, Queued, Marked};
-ghost use Rattle.sketch.specs.Walking.{LiesAt};
-ghost use Rattle.sketch.specs.Drawn.{clockIn, Draws, Sketches};
+ghost use Rattle.entrywalk.specs.Walking.{LiesAt};
+ghost use Rattle.sketch.specs.Drawn.{clockApart, Draws, Sketches};
 ghost use Rattle.merging.specs.Coming.{mergedEntries};
 ghost use Rattle.leaving.specs.Left.{valueLeft};
 use crate::Coming;
 use clock::Clock;
+use entrywalk::Cursor;
 use layout::Laid;
-use parts::ENTRIES;
-use parts::WAITING;
+use limits::ENTRIES;
+use limits::WAITING;
 use queued::Queue;
-use sketch::Cursor;
 use sketch::Sketch;
 use sketch::Sketched;
 use sketch::Sums;
@@ -43,7 +44,8 @@ fn clock_left(
     clock: Clock,
 ) -> Clock
     requires { ⌜ ((w : List Removal) × Queued (now s) cs w) × ((w : List Removal) × Queued (now t) ds w) ⌝ }
-    ensures { λ r. ⌜ ((v w : List Removal) (key : ℕ) (d : List Dot) → Queued (now (t .entry)) ds v → Queued (now (s .entry)) cs w → Marked v key theirs → Marked w key ours → clock ≡ clockOf d → r ≡ clockOf (cutsFor w key (cutsFor v key d))) ⌝ }
+    ensures { λ r. ⌜ ((v w : List Removal) (key : ℕ) (d : List Dot) → Queued (now (t .entry)) ds v → Queued (now (s .entry)) cs w
+        → Marked v key theirs → Marked w key ours → clock ≡ clockOf d → r ≡ clockOf (cutsFor w key (cutsFor v key d))) ⌝ }
 {
     let half = queued::cut_listed(t, ds, theirs, clock);
     queued::cut_listed(s, cs, ours, half)
@@ -60,11 +62,14 @@ fn draw_both(
     ds: Queue,
     theirs: [bool; WAITING],
 ) -> Sketched
-    requires { ⌜ (bare .len ≡ 0) × ((((e : Entry) × LiesAt (now s) e (c .x)) × ((e : Entry) × LiesAt (now t) e (c .y))) × (((Lawful (dotsOf (c .gone))) × ((length (now s) ≤ mapLongest) × (length (now t) ≤ mapLongest)))
+    requires { ⌜ (bare .len ≡ 0) × ((((e : Entry) × LiesAt (now s) e (c .x)) × ((e : Entry) × LiesAt (now t) e (c .y)))
+        × (((Lawful (dotsOf (c .gone))) × ((length (now s) ≤ mapLongest) × (length (now t) ≤ mapLongest)))
         × (((w : List Removal) × Queued (now s) cs w) × ((w : List Removal) × Queued (now t) ds w)))) ⌝ }
-    ensures { λ r. ⌜ ((key : ℕ) (d : List Dot) (e f : Entry) (u w : List Removal) → Draws (now (s .entry)) (now (t .entry)) key d [] bare → LiesAt (now (s .entry)) e (c .x) → LiesAt (now (t .entry)) f (c .y) → f .key ≡ e .key
+    ensures { λ r. ⌜ ((key : ℕ) (d : List Dot) (e f : Entry) (u w : List Removal) → Draws (now (s .entry)) (now (t .entry)) key d [] bare
+        → LiesAt (now (s .entry)) e (c .x) → LiesAt (now (t .entry)) f (c .y) → f .key ≡ e .key
         → Queued (now (t .entry)) ds u → Queued (now (s .entry)) cs w → Marked u (e .key) theirs → Marked w (e .key) ours
-        → Draws (now (s .entry)) (now (t .entry)) key d (sift alive (valueLeft w u (e .key) (dotsOf (c .gone))) (mergeValues (valuesIn e) (valuesIn f))) r) ⌝ }
+        → Draws (now (s .entry)) (now (t .entry)) key d (sift alive (valueLeft w u (e .key) (dotsOf (c .gone)))
+        (mergeValues (valuesIn e) (valuesIn f))) r) ⌝ }
 {
     let x = c.x;
     let y = c.y;
@@ -90,12 +95,15 @@ fn draw_key(
     ds: Queue,
     theirs: [bool; WAITING],
 ) -> Sketched
-    requires { ⌜ (((e : Entry) × LiesAt (now s) e (c .x)) × ((e : Entry) × LiesAt (now t) e (c .y))) × (((Lawful (dotsOf (c .gone))) × ((length (now s) ≤ mapLongest) × (length (now t) ≤ mapLongest)))
+    requires { ⌜ (((e : Entry) × LiesAt (now s) e (c .x)) × ((e : Entry) × LiesAt (now t) e (c .y)))
+        × (((Lawful (dotsOf (c .gone))) × ((length (now s) ≤ mapLongest) × (length (now t) ≤ mapLongest)))
         × (((w : List Removal) × Queued (now s) cs w) × ((w : List Removal) × Queued (now t) ds w))) ⌝ }
-    ensures { λ r. ⌜ ((d : List Dot) (e f : Entry) (u w : List Removal) → c .keep ≡ clockOf d → LiesAt (now (s .entry)) e (c .x) → LiesAt (now (t .entry)) f (c .y) → f .key ≡ e .key
+    ensures { λ r. ⌜ ((d : List Dot) (e f : Entry) (u w : List Removal) → c .keep ≡ clockOf d → LiesAt (now (s .entry)) e (c .x)
+        → LiesAt (now (t .entry)) f (c .y) → f .key ≡ e .key
         → Queued (now (t .entry)) ds u → Queued (now (s .entry)) cs w → Marked u (e .key) theirs → Marked w (e .key) ours
-        → (clockIn (r .own) ≡ clockOf (cutsFor w (e .key) (cutsFor u (e .key) d))) × (isEmpty (cutsFor w (e .key) (cutsFor u (e .key) d)) ≡ false
-        → Draws (now (s .entry)) (now (t .entry)) (c .x .key) (cutsFor w (e .key) (cutsFor u (e .key) d)) (sift alive (valueLeft w u (e .key) (dotsOf (c .gone))) (mergeValues (valuesIn e) (valuesIn f))) r)) ⌝ }
+        → (clockApart (r .own) ≡ clockOf (cutsFor w (e .key) (cutsFor u (e .key) d))) × (isEmpty (cutsFor w (e .key) (cutsFor u (e .key) d)) ≡ false
+        → Draws (now (s .entry)) (now (t .entry)) (c .x .key) (cutsFor w (e .key) (cutsFor u (e .key) d))
+        (sift alive (valueLeft w u (e .key) (dotsOf (c .gone))) (mergeValues (valuesIn e) (valuesIn f))) r)) ⌝ }
 {
     let x = c.x;
     let keep = c.keep;
@@ -109,8 +117,10 @@ fn draw_key(
 
 // The entries of a merge, key by key.
 fn draw_keys(s: &[u8], t: &[u8], a: Laid, b: Laid, cs: Queue, ds: Queue) -> Sketch
-    requires { ⌜ (LaidOut (now s) (readMap (now s) .map) a × LaidOut (now t) (readMap (now t) .map) b) × ((Queued (now s) cs (waitingIn (readMap (now s) .map)) × Queued (now t) ds (waitingIn (readMap (now t) .map)))
-        × (((length (now s) ≤ mapLongest) × (length (now t) ≤ mapLongest)) × (length (joinDots (seenBy (readMap (now s) .map)) (seenBy (readMap (now t) .map))) ≤ dotLimit))) ⌝ }
+    requires { ⌜ (LaidOut (now s) (readMap (now s) .map) a × LaidOut (now t) (readMap (now t) .map) b)
+        × ((Queued (now s) cs (waitingIn (readMap (now s) .map)) × Queued (now t) ds (waitingIn (readMap (now t) .map)))
+        × (((length (now s) ≤ mapLongest) × (length (now t) ≤ mapLongest))
+        × (length (joinDots (seenBy (readMap (now s) .map)) (seenBy (readMap (now t) .map))) ≤ dotLimit))) ⌝ }
     ensures { λ r. ⌜ Sketches (now (s .entry)) (now (t .entry)) (mergedEntries (readMap (now (s .entry)) .map) (readMap (now (t .entry)) .map)) r ⌝ }
 {
     let l = a.layout;
@@ -165,8 +175,10 @@ fn draw_keys(s: &[u8], t: &[u8], a: Laid, b: Laid, cs: Queue, ds: Queue) -> Sket
 
 // The entries of a merge. Called at two places, the drawing keeps a frame of its own, and what is written afterwards does not stand on top of it.
 pub fn draw_merged(s: &[u8], t: &[u8], a: Laid, b: Laid, cs: Queue, ds: Queue) -> Sketch
-    requires { ⌜ (LaidOut (now s) (readMap (now s) .map) a × LaidOut (now t) (readMap (now t) .map) b) × ((Queued (now s) cs (waitingIn (readMap (now s) .map)) × Queued (now t) ds (waitingIn (readMap (now t) .map)))
-        × (((length (now s) ≤ mapLongest) × (length (now t) ≤ mapLongest)) × (length (joinDots (seenBy (readMap (now s) .map)) (seenBy (readMap (now t) .map))) ≤ dotLimit))) ⌝ }
+    requires { ⌜ (LaidOut (now s) (readMap (now s) .map) a × LaidOut (now t) (readMap (now t) .map) b)
+        × ((Queued (now s) cs (waitingIn (readMap (now s) .map)) × Queued (now t) ds (waitingIn (readMap (now t) .map)))
+        × (((length (now s) ≤ mapLongest) × (length (now t) ≤ mapLongest))
+        × (length (joinDots (seenBy (readMap (now s) .map)) (seenBy (readMap (now t) .map))) ≤ dotLimit))) ⌝ }
     ensures { λ r. ⌜ Sketches (now (s .entry)) (now (t .entry)) (mergedEntries (readMap (now (s .entry)) .map) (readMap (now (t .entry)) .map)) r ⌝ }
 {
     if cs.len + ds.len == 0 {

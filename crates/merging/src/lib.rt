@@ -3,7 +3,7 @@ pub mod drawing;
 pub mod stepping;
 
 use clock::Clock;
-use sketch::Lain;
+use entrywalk::Lain;
 
 // An entry that one map has alone: what a merge keeps of its clock, and what it deletes.
 pub struct Alone {

@@ -1,62 +1,35 @@
 // The next key of a merge, from two images where they lie.
 ghost use mathlib.Core.Path.{_≡_};
 ghost use mathlib.Core.Bool.{true, _||_};
-ghost use mathlib.Core.List.{List, []};
-ghost use Prim.Native.Nat.{ℕ, _*_, _≤_, _<_};
+ghost use mathlib.Core.List.{List};
+ghost use Prim.Native.Nat.{_*_, _≤_, _<_};
 ghost use lib.Dec.{ltb};
 ghost use lib.ListN.{length};
-ghost use Rattle.lists.specs.Order.{_∈_};
-ghost use Rattle.clock.specs.Dots.{dotLimit, dotsOf, clockOf, cutDots, joinDots};
+ghost use Rattle.listlaws.specs.Order.{_∈_};
+ghost use Rattle.limits.specs.Limits.{dotLimit};
+ghost use Rattle.clock.specs.Dots.{dotsOf, clockOf, cutDots, joinDots};
 ghost use Rattle.clock.specs.Lawful.{Lawful};
-ghost use Rattle.parts.specs.declared.Entry.{Entry};
-ghost use Rattle.parts.specs.Model.{dotsIn, entryAs};
-ghost use Rattle.parts.specs.Entries.{keepDots};
-ghost use Rattle.records.specs.Records.{recordFrom};
-ghost use Rattle.sketch.specs.Walking.{Ahead, LiesAt};
-ghost use Rattle.merging.specs.Coming.{beyondKeys, Goes, Comes};
+ghost use Rattle.entries.specs.declared.Entry.{Entry};
+ghost use Rattle.entries.specs.Model.{dotsIn};
+ghost use Rattle.entries.specs.Entries.{keepDots};
+ghost use Rattle.entrywalk.specs.Walking.{Ahead, LiesAt};
+ghost use Rattle.merging.specs.Coming.{GoesAlone, MergeComes};
 use crate::Alone;
 use crate::Coming;
 use clock::Clock;
 use clock::Order;
+use entrywalk::Cursor;
+use entrywalk::Lain;
 use keeping::Kept;
-use sketch::Cursor;
-use sketch::Lain;
 use walks::Layout;
-use walks::Span;
-
-// The key of the record at a place, above every key where there is none.
-pub fn head(s: &[u8], at: usize, end: usize) -> u64
-    requires { ⌜ end * 16 ≤ length (now s) ⌝ }
-    ensures { λ r. ⌜ (r ≤ beyondKeys) × ((r < beyondKeys → (at < end) × (r ≡ recordFrom (now (s .entry)) (at * 16) .key)) × (r ≡ beyondKeys → end ≤ at)) ⌝ }
-{
-    if at < end {
-        let r = records::read_record(s, at * 16);
-        return r.key as u64;
-    }
-    4294967296
-}
-
-// No entry of a key, before the one where a walk stands.
-pub fn none_at(key: u32, next: Cursor) -> Lain
-    ensures { λ r. ⌜ ((r .key ≡ key) × (r .next ≡ next)) × ((s : List ℕ) → LiesAt s (entryAs key [] []) r) ⌝ }
-{
-    let none = Span { from: 0, to: 0 };
-    Lain {
-        key,
-        dots: none,
-        values: none,
-        starts: [0; 5],
-        next,
-    }
-}
 
 // The next entry of a map, where the other map does not have it.
 fn alone(s: &[u8], l: Layout, x: Cursor, other: Clock) -> Alone
     requires { ⌜ (x .own < l .third) × (((es : List Entry) × Ahead (now s) l x es) × Lawful (dotsOf other)) ⌝ }
-    ensures { λ r. ⌜ ((es : List Entry) → Ahead (now (s .entry)) l x es → Goes (now (s .entry)) l x (dotsOf other) es r) ⌝ }
+    ensures { λ r. ⌜ ((es : List Entry) → Ahead (now (s .entry)) l x es → GoesAlone (now (s .entry)) l x (dotsOf other) es r) ⌝ }
 {
-    let entry = sketch::walking::entry_at(s, l, x);
-    let keep = leaving::own_left(s, entry, other);
+    let entry = entrywalk::entry_at(s, l, x);
+    let keep = entrywalk::own_left(s, entry, other);
     let gone = other.cut(keep).clock;
     Alone { entry, keep, gone }
 }
@@ -82,7 +55,8 @@ fn is_equal(o: Order) -> bool
 
 // What a merge keeps of the dots of two entries, and what it deletes: all and nothing where both have the same.
 fn meet(s: &[u8], e: Lain, t: &[u8], f: Lain, mine: Clock, yours: Clock) -> Kept
-    requires { ⌜ ((x y : Entry) × LiesAt (now s) x e × LiesAt (now t) y f × (length (joinDots (dotsIn x) (dotsIn y)) ≤ dotLimit)) × (Lawful (dotsOf mine) × Lawful (dotsOf yours)) ⌝ }
+    requires { ⌜ ((x y : Entry) × LiesAt (now s) x e × LiesAt (now t) y f × (length (joinDots (dotsIn x) (dotsIn y)) ≤ dotLimit))
+        × (Lawful (dotsOf mine) × Lawful (dotsOf yours)) ⌝ }
     ensures { λ r. ⌜ ((x y : Entry) → LiesAt (now (s .entry)) x e → LiesAt (now (t .entry)) y f
         → (r .keep ≡ clockOf (keepDots (dotsOf mine) (dotsOf yours) (dotsIn x) (dotsIn y)))
         × (r .gone ≡ clockOf (cutDots (keepDots (dotsOf mine) (dotsOf yours) (dotsIn x) (dotsIn y)) (joinDots (dotsIn x) (dotsIn y))))) ⌝ }
@@ -93,7 +67,7 @@ fn meet(s: &[u8], e: Lain, t: &[u8], f: Lain, mine: Clock, yours: Clock) -> Kept
     let j = ours.to * 16;
     let k = theirs.from * 16;
     let l = theirs.to * 16;
-    let c = leaving::own_clock(s, e);
+    let c = entrywalk::own_clock(s, e);
     let o = comparing::compare_runs(&s[i..j], &t[k..l]);
     if is_equal(o) {
         let none = Clock::new();
@@ -102,7 +76,7 @@ fn meet(s: &[u8], e: Lain, t: &[u8], f: Lain, mine: Clock, yours: Clock) -> Kept
             gone: none,
         };
     }
-    let d = leaving::own_clock(t, f);
+    let d = entrywalk::own_clock(t, f);
     keeping::keeps(c, d, mine, yours)
 }
 
@@ -117,16 +91,18 @@ pub fn next(
     x: Cursor,
     y: Cursor,
 ) -> Coming
-    requires { ⌜ ((ltb (x .own) (l .third) || ltb (y .own) (m .third)) ≡ true) × ((Lawful (dotsOf mine) × Lawful (dotsOf yours)) × ((es fs : List Entry) × Ahead (now s) l x es × Ahead (now t) m y fs
+    requires { ⌜ ((ltb (x .own) (l .third) || ltb (y .own) (m .third)) ≡ true)
+        × ((Lawful (dotsOf mine) × Lawful (dotsOf yours)) × ((es fs : List Entry) × Ahead (now s) l x es × Ahead (now t) m y fs
         × ((e f : Entry) → e ∈ es → f ∈ fs → length (joinDots (dotsIn e) (dotsIn f)) ≤ dotLimit))) ⌝ }
-    ensures { λ r. ⌜ ((es fs : List Entry) → Ahead (now (s .entry)) l x es → Ahead (now (t .entry)) m y fs → Comes (now (s .entry)) (now (t .entry)) l m (dotsOf mine) (dotsOf yours) x y es fs r) ⌝ }
+    ensures { λ r. ⌜ ((es fs : List Entry) → Ahead (now (s .entry)) l x es → Ahead (now (t .entry)) m y fs
+        → MergeComes (now (s .entry)) (now (t .entry)) l m (dotsOf mine) (dotsOf yours) x y es fs r) ⌝ }
 {
-    let p = head(s, x.own, l.third);
-    let q = head(t, y.own, m.third);
+    let p = entrywalk::head(s, x.own, l.third);
+    let q = entrywalk::head(t, y.own, m.third);
     if p < q {
         let a = alone(s, l, x, yours);
         let e = a.entry;
-        let none = none_at(e.key, y);
+        let none = entrywalk::none_at(e.key, y);
         let keep = a.keep;
         let gone = a.gone;
         return Coming {
@@ -139,7 +115,7 @@ pub fn next(
     if q < p {
         let a = alone(t, m, y, mine);
         let e = a.entry;
-        let none = none_at(e.key, x);
+        let none = entrywalk::none_at(e.key, x);
         let keep = a.keep;
         let gone = a.gone;
         return Coming {
@@ -149,8 +125,8 @@ pub fn next(
             gone,
         };
     }
-    let e = sketch::walking::entry_at(s, l, x);
-    let f = sketch::walking::entry_at(t, m, y);
+    let e = entrywalk::entry_at(s, l, x);
+    let f = entrywalk::entry_at(t, m, y);
     let kept = meet(s, e, t, f, mine, yours);
     let keep = kept.keep;
     let gone = kept.gone;

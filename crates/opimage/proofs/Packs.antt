@@ -1,25 +1,20 @@
--- Counts of none, one or many.
-use mathlib.Core.Path.{_≡_, refl, sym, _∙_}
+-- Counts that stop at two, of each kind of record: enough to tell whether an operation's records are related (`related-counts`).
+use mathlib.Core.Path.{_≡_, sym, _∙_}
 use mathlib.Core.Bool.{_||_}
 use mathlib.Core.List.{List, []}
-use Prim.Native.Nat.{ℕ, zero, suc, _<_, min}
+use Prim.Native.Nat.{ℕ, _<_, min}
 use native.Mathlib.Omega.{arith}
 use lib.Dec.{eqb}
-use lib.ListN.{getD, replicate}
+use lib.ListN.{getD, replicate, getD-replicate}
 use borrow.Author.Tests.{eq-eqb, ne-eqb, eqb-true, eqb-false}
-use Rattle.lists.specs.Sift.{sift}
+use Rattle.listlaws.specs.Sift.{sift}
 use Rattle.records.specs.declared.Record.{Record}
 use Rattle.scan.proofs.Eachs.{decide}
 use Rattle.opimage.specs.OpImage.{howMany, removes, updates, opRelated}
 
-zeros : (n i : ℕ) → _≡_ {A = ℕ} (getD (replicate n 0) i 0) 0
-zeros zero i = refl
-zeros (suc n) zero = refl
-zeros (suc n) (suc i) = zeros n i
-
 pub no-counts : (k : ℕ) → k < 13 → getD (replicate 13 0) k 0 ≡ min 2 (howMany k [])
 unfolding sift
-no-counts k h = zeros 13 k
+no-counts k h = getD-replicate 13 k 0 0 h
 
 -- a count that stops at 2 is told apart from none and from one as the count itself
 told : (n m k : ℕ) → n ≡ min 2 m → k < 2 → eqb n k ≡ eqb m k

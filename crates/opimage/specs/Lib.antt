@@ -1,1 +1,2 @@
 pub mod OpImage
+pub mod SoFar

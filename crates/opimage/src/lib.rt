@@ -4,22 +4,32 @@ ghost use mathlib.Core.Bool.{true, cond};
 ghost use mathlib.Core.List.{List, [], _∷_, _++_, map};
 ghost use Prim.Native.Nat.{ℕ, _+_, _*_, _≤_, _<_, min};
 ghost use lib.ListN.{length, getD, set};
-ghost use Rattle.parts.specs.Model.{keyLimit, keysOf, keysAs};
+ghost use Rattle.limits.specs.Limits.{keyLimit};
+ghost use Rattle.removals.specs.Model.{keysOf, keysAs};
 ghost use Rattle.records.specs.declared.Record.{Record};
-ghost use Rattle.records.specs.Records.{bytesOf, Wrote};
-ghost use Rattle.opimage.specs.OpImage.{keyRecord, removalRecords, updateRecords, opImage, removes, updates, judgedOp, refusedOp, readOp, OpParts, OpSoFar};
+ghost use Rattle.records.specs.Records.{bytesOf};
+ghost use Rattle.records.specs.Writing.{Wrote};
+ghost use Rattle.records.specs.Kinds.{removalKind, putDotKind};
+ghost use Rattle.opimage.specs.OpImage.{keyRecord, removalRecords, updateRecords, opImage, removes, updates, judgedOp, refusedOp, readOp};
+ghost use Rattle.opimage.specs.SoFar.{OpParts, OpSoFar};
 ghost use Rattle.scan.specs.Scanned.{Scanned};
 use clock::Clock;
-use clock::DOTS;
 use clock::Dot;
+use entries::Update;
+use limits::DOTS;
+use limits::KEYS;
 use map::Op;
-use parts::KEYS;
-use parts::Keys;
-use parts::Removal;
-use parts::Update;
+use records::PUT_DOT;
+use records::PUT_VALUE;
+use records::REMOVAL;
+use records::REMOVAL_DOT;
+use records::REMOVAL_KEY;
 use records::Record;
+use records::UPDATE;
 use register::Content;
 use register::Value;
+use removals::Keys;
+use removals::Removal;
 use scan::Scan;
 
 // The longest image of an operation.
@@ -71,7 +81,7 @@ fn write_removal(out: &mut [u8], removal: Removal) -> usize
     ensures { λ n. ⌜ Wrote 0 (bytesOf (removalRecords removal)) (now (out .entry)) (now (out .exit)) n ⌝ }
 {
     let head = Record {
-        kind: 7,
+        kind: REMOVAL,
         index: 0,
         actor: 0,
         key: 0,
@@ -80,8 +90,8 @@ fn write_removal(out: &mut [u8], removal: Removal) -> usize
     let clock = removal.clock;
     let keys = removal.keys;
     let first = records::write_record(out, 0, head);
-    let second = clockimage::write_dots(out, first, 8, 0, 0, clock);
-    write_keys(out, second, 9, 0, keys)
+    let second = clockimage::write_dots(out, first, REMOVAL_DOT, 0, 0, clock);
+    write_keys(out, second, REMOVAL_KEY, 0, keys)
 }
 
 fn write_update(out: &mut [u8], update: Update) -> usize
@@ -92,7 +102,7 @@ fn write_update(out: &mut [u8], update: Update) -> usize
     let put = update.put;
     let clock = put.clock;
     let head = Record {
-        kind: 10,
+        kind: UPDATE,
         index: 0,
         actor: dot.actor,
         key: update.key,
@@ -100,7 +110,7 @@ fn write_update(out: &mut [u8], update: Update) -> usize
     };
     let content = put.value;
     let value = Record {
-        kind: 11,
+        kind: PUT_VALUE,
         index: 0,
         actor: content.origin,
         key: 0,
@@ -108,7 +118,7 @@ fn write_update(out: &mut [u8], update: Update) -> usize
     };
     let first = records::write_record(out, 0, head);
     let second = records::write_record(out, first, value);
-    clockimage::write_dots(out, second, 12, 0, 0, clock)
+    clockimage::write_dots(out, second, PUT_DOT, 0, 0, clock)
 }
 
 // Writes the image of an operation at the start of `out`; answers its length.
@@ -159,14 +169,18 @@ fn latest(old: Record, more: bool, r: Record) -> Record
 fn removes(counts: [u8; 13]) -> bool
     ensures { λ b. ⌜ b ≡ removes (λ k. getD counts k 0) ⌝ }
 {
-    (counts[7] == 1) & ((counts[10] == 0) & ((counts[11] == 0) & (counts[12] == 0)))
+    (counts[REMOVAL as usize] == 1)
+        & ((counts[UPDATE as usize] == 0)
+            & ((counts[PUT_VALUE as usize] == 0) & (counts[PUT_DOT as usize] == 0)))
 }
 
 fn updates(counts: [u8; 13]) -> bool
     ensures { λ b. ⌜ b ≡ updates (λ k. getD counts k 0) ⌝ }
 {
-    (counts[10] == 1)
-        & ((counts[11] == 1) & ((counts[7] == 0) & ((counts[8] == 0) & (counts[9] == 0))))
+    (counts[UPDATE as usize] == 1)
+        & ((counts[PUT_VALUE as usize] == 1)
+            & ((counts[REMOVAL as usize] == 0)
+                & ((counts[REMOVAL_DOT as usize] == 0) & (counts[REMOVAL_KEY as usize] == 0))))
 }
 
 fn refused(number: u8) -> ReadOp
@@ -222,8 +236,8 @@ impl OpReader {
 
     // The parts with a record that nothing is wrong with so far.
     fn with(self, scan: Scan, r: Record) -> OpReader
-        requires { ⌜ (scan .number ≡ 0 × ((l : List Record) × (OpParts l self × Scanned 7 12 (l ++ (r ∷ [])) scan))) ⌝ }
-        ensures { λ s. ⌜ ((l : List Record) → OpParts l self → Scanned 7 12 (l ++ (r ∷ [])) scan → OpSoFar (l ++ (r ∷ [])) s) ⌝ }
+        requires { ⌜ (scan .number ≡ 0 × ((l : List Record) × (OpParts l self × Scanned removalKind putDotKind (l ++ (r ∷ [])) scan))) ⌝ }
+        ensures { λ s. ⌜ ((l : List Record) → OpParts l self → Scanned removalKind putDotKind (l ++ (r ∷ [])) scan → OpSoFar (l ++ (r ∷ [])) s) ⌝ }
     {
         let counts0 = self.counts;
         let under0 = self.under;
@@ -232,11 +246,11 @@ impl OpReader {
         let head0 = self.head;
         let value0 = self.value;
         let counts = counted(counts0, r.kind);
-        let head = latest(head0, r.kind == 10, r);
-        let value = latest(value0, r.kind == 11, r);
-        let under = clockimage::clock_with(under0, r.kind == 8, r);
-        let keys = keys_with(keys0, r.kind == 9, r);
-        let put = clockimage::clock_with(put0, r.kind == 12, r);
+        let head = latest(head0, r.kind == UPDATE, r);
+        let value = latest(value0, r.kind == PUT_VALUE, r);
+        let under = clockimage::clock_with(under0, r.kind == REMOVAL_DOT, r);
+        let keys = keys_with(keys0, r.kind == REMOVAL_KEY, r);
+        let put = clockimage::clock_with(put0, r.kind == PUT_DOT, r);
         OpReader {
             scan,
             counts,
@@ -254,7 +268,7 @@ impl OpReader {
         ensures { λ s. ⌜ ((l : List Record) → OpSoFar l self → OpSoFar (l ++ (r ∷ [])) s) ⌝ }
     {
         let before = self.scan;
-        let scan = before.take(7, 12, r, 0);
+        let scan = before.take(REMOVAL, PUT_DOT, r, 0);
         if scan.number == 0 {
             return self.with(scan, r);
         }
@@ -295,7 +309,7 @@ impl OpReader {
                 put,
             };
             let op = Op {
-                up: counts[10] == 1,
+                up: counts[UPDATE as usize] == 1,
                 removal,
                 update,
             };

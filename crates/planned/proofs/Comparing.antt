@@ -11,7 +11,7 @@ use lib.ListN.{length, drop, getD}
 use Rattle.scan.proofs.Eachs.{decide}
 use Rattle.clock.specs.declared.Dot.{Dot}
 use Rattle.clock.specs.Dots.{noDot}
-use Rattle.parts.specs.Waits.{clockBefore}
+use Rattle.removals.specs.Waits.{clockBefore}
 use Rattle.records.specs.Records.{recordFrom}
 use Rattle.clockimage.specs.Image.{dotOf}
 use Rattle.runs.specs.Run.{runDots}

@@ -8,8 +8,8 @@ use native.Mathlib.Omega.{arith}
 use borrow.Author.Tests.{eq-eqb, ne-eqb}
 use lib.ListN.{length, drop, getD}
 use lib.Seq.{drop-cons}
-use Rattle.lists.specs.Fold.{fold}
-use Rattle.lists.proofs.Rests.{drop-end}
+use Rattle.listlaws.specs.Fold.{fold}
+use Rattle.listlaws.proofs.Rests.{drop-end}
 use Rattle.clock.specs.declared.Dot.{Dot}
 use Rattle.clock.specs.Dots.{isEmpty}
 use Rattle.planned.specs.declared.Held.{Held}

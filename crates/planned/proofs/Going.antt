@@ -2,29 +2,29 @@
 use mathlib.Core.Path.{_≡_, refl, ap, sym, _∙_, subst}
 use mathlib.Core.Bool.{true, false}
 use mathlib.Core.List.{List, [], map, List·Memᴰ·not-nil, Memᴰ·of-map}
-use mathlib.Core.Logic.{_⊎_, inl, inr, ⊎-elim}
+use mathlib.Core.Logic.{inl, inr, ⊎-elim}
 use Prim.Native.Nat.{ℕ, _≤_, _<_}
 use native.Mathlib.Omega.{arith}
 use lib.Dec.{ltb}
 use lib.ListN.{length, getD, List·getD-map}
-use Rattle.lists.specs.Fold.{fold}
-use Rattle.lists.specs.Order.{_∈_, Ascending, nil, next}
-use Rattle.lists.specs.Sift.{those}
+use Rattle.listlaws.specs.Fold.{fold}
+use Rattle.listlaws.specs.Order.{_∈_, Ascending, nil, next}
+use Rattle.listlaws.specs.Sift.{those}
 use Rattle.scan.proofs.Eachs.{decide}
 use Rattle.clock.specs.declared.Dot.{Dot}
 use Rattle.clock.specs.Dots.{isEmpty}
-use Rattle.parts.specs.declared.Removal.{Removal}
-use Rattle.parts.specs.Model.{waitingLimit, noRemoval, underOf, listedIn}
-use Rattle.parts.specs.Entries.{listed}
-use Rattle.parts.specs.Valid.{ValidWaiting}
-use Rattle.parts.specs.Waits.{clockBefore, removalBefore, uniteInto, remains}
-use Rattle.parts.proofs.Waits.{listed-means, listed-holds}
-use Rattle.oneimage.proofs.Stands.{Place, first, later, place-in, place-below, place-get, place-reads, in-place}
+use Rattle.removals.specs.declared.Removal.{Removal}
+use Rattle.limits.specs.Limits.{waitingLimit}
+use Rattle.removals.specs.Model.{noRemoval, underOf, listedIn}
+use Rattle.removals.specs.Waits.{listed, clockBefore, removalBefore, uniteInto, remains}
+use Rattle.removals.specs.Valid.{ValidWaiting}
+use Rattle.removals.proofs.Unions.{listed-means, listed-holds}
+use Rattle.oneimagelaws.proofs.Stands.{Place, first, later, place-in, place-below, place-get, place-reads, in-place}
 use Rattle.queued.specs.Queue.{lists}
-use Rattle.queued.specs.Planned.{Sound, Brings}
+use Rattle.queued.specs.Planned.{SoundRemovals, Brings}
 use Rattle.queued.proofs.Marking.{lists-below}
 use Rattle.planned.specs.declared.Plan.{Plan}
-use Rattle.planned.specs.Seats.{seatOf, placeOf, united}
+use Rattle.planned.specs.Seats.{seatOf, placeAmong, united}
 use Rattle.planned.specs.Planned.{noHeld, HeldLies, Plans}
 use Rattle.planned.proofs.Seats.{seat-place}
 use Rattle.planned.proofs.Uniting.{Has, Source, all-valid, all-keeps, all-adds, all-only}
@@ -41,7 +41,7 @@ map-place : {A B : Type 0} (f : A → B) {x : A} {j : ℕ} {l : List A} → Plac
 map-place f (first e) = first (ap f e)
 map-place f (later p) = later (map-place f p)
 
-module _ (w v : List Removal) (fw : length w ≤ waitingLimit) (fv : length v ≤ waitingLimit) (sw : Sound w) (sv : Sound v) where
+module _ (w v : List Removal) (fw : length w ≤ waitingLimit) (fv : length v ≤ waitingLimit) (sw : SoundRemovals w) (sv : SoundRemovals v) where
   abbrev half : List Removal
   half = fold uniteInto [] (those remains w)
 
@@ -82,26 +82,26 @@ module _ (w v : List Removal) (fw : length w ≤ waitingLimit) (fv : length v �
 
   module _ (s t : List ℕ) (p : Plan) (over : p .over ≡ ltb waitingLimit (length result)) (count : p .over ≡ false → p .len ≡ length result)
       (lies : p .over ≡ false → (j : ℕ) → j < length result → HeldLies s t (getD (p .items) j noHeld) (getD clocks j []))
-      (ours : (a : ℕ) → p .over ≡ false → a < waitingLimit → getD (p .ours) a waitingLimit ≡ placeOf clocks (getD (map underOf w) a []))
-      (theirs : (a : ℕ) → p .over ≡ false → a < waitingLimit → getD (p .theirs) a waitingLimit ≡ placeOf clocks (getD (map underOf v) a [])) where
+      (ours : (a : ℕ) → p .over ≡ false → a < waitingLimit → getD (p .ours) a waitingLimit ≡ placeAmong clocks (getD (map underOf w) a []))
+      (theirs : (a : ℕ) → p .over ≡ false → a < waitingLimit → getD (p .theirs) a waitingLimit ≡ placeAmong clocks (getD (map underOf v) a [])) where
     -- of one list: its table, and that its removals are brought
     module _ (u : List Removal) (table : List ℕ) (told : (a : ℕ) → p .over ≡ false → a < waitingLimit
-        → getD table a waitingLimit ≡ placeOf clocks (getD (map underOf u) a [])) (fu : length u ≤ waitingLimit) (f : p .over ≡ false) where
+        → getD table a waitingLimit ≡ placeAmong clocks (getD (map underOf u) a [])) (fu : length u ≤ waitingLimit) (f : p .over ≡ false) where
       brought : ((x : Removal) → x ∈ u → isEmpty (underOf x) ≡ false → (key : ℕ) → key ∈ listedIn x → Has result (underOf x) key) → (j key : ℕ)
           → j < waitingLimit → Brings u table j key → lists result j key ≡ true
-      unfolding placeOf
+      unfolding placeAmong
       brought adds j key h b =
           let x = getD u (b .from) noRemoval in
           let q = place-get u (b .from) noRemoval (lists-below u (b .from) key (b .has)) in
-          let e : getD table (b .from) waitingLimit ≡ placeOf clocks (underOf x) = told (b .from) f (b .low)
-          ∙ ap (placeOf clocks) (List·getD-map underOf u (b .from) noRemoval) in
+          let e : getD table (b .from) waitingLimit ≡ placeAmong clocks (underOf x) = told (b .from) f (b .low)
+          ∙ ap (placeAmong clocks) (List·getD-map underOf u (b .from) noRemoval) in
           decide (isEmpty (underOf x)) (λ t. absurd (let z = rw t at (sym (b .goes) ∙ e) in omega arith))
           (λ n. let z : j ≡ seatOf (underOf x) clocks = rw n at (sym (b .goes) ∙ e) in
           ap (λ k. lists result k key) z ∙ has-listed (adds x (place-in q) n key (listed-means (listedIn x) key (b .has))))
 
       brings : (j key : ℕ) → seatOf (underOf (getD result j noRemoval)) clocks ≡ j → Source u (underOf (getD result j noRemoval)) key
           → Brings u table j key
-      unfolding placeOf
+      unfolding placeAmong
       brings j key e s =
           let (a, q) = in-place (s .stands) in
           let r : getD u a noRemoval ≡ s .removal = place-reads noRemoval q in
@@ -110,7 +110,7 @@ module _ (w v : List Removal) (fw : length w ≤ waitingLimit) (fv : length v �
           record {
             from = a;
             low = low;
-            goes = told a f low ∙ ap (placeOf clocks) (List·getD-map underOf u a noRemoval)
+            goes = told a f low ∙ ap (placeAmong clocks) (List·getD-map underOf u a noRemoval)
                 ∙ rw t (ap (λ x. seatOf (underOf x) clocks) r ∙ ap (λ c. seatOf c clocks) (s .under) ∙ e);
             has = ap (λ x. listed (listedIn x) key) r ∙ listed-holds (s .lists);
           }

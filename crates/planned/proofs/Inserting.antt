@@ -9,7 +9,7 @@ use lib.ListN.{length, take, drop, getD, set, length-set}
 use lib.Seq.{getD-set-same, getD-set-other}
 use Rattle.scan.proofs.Eachs.{decide}
 use Rattle.clock.specs.declared.Dot.{Dot}
-use Rattle.parts.specs.Model.{waitingLimit}
+use Rattle.limits.specs.Limits.{waitingLimit}
 use Rattle.planned.specs.declared.Held.{Held}
 use Rattle.planned.specs.declared.Ordered.{Ordered}
 use Rattle.planned.specs.Planned.{noHeld}

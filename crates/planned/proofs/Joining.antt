@@ -9,28 +9,30 @@ use borrow.Author.Tests.{ltb-true, ltb-false, eqb-true, eqb-false}
 use lib.Dec.{ltb, eqb}
 use lib.ListN.{length, drop, getD, set, replicate, length-drop}
 use lib.Seq.{drop-cons, getD-set-same, getD-set-other}
-use Rattle.lists.specs.Order.{Ascending}
-use Rattle.lists.specs.Sift.{sift, those}
-use Rattle.lists.specs.Weave.{weave}
-use Rattle.lists.proofs.Orders.{apart}
-use Rattle.lists.proofs.Rests.{drop-end, weave-first-left, weave-second-left}
-use Rattle.lists.proofs.Those.{those-ascends}
-use Rattle.lists.proofs.Weaves.{weave-map}
+use Rattle.listlaws.specs.Order.{Ascending}
+use Rattle.listlaws.specs.Sift.{sift, those}
+use Rattle.listlaws.specs.Weave.{weave}
+use Rattle.listlaws.proofs.Orders.{apart}
+use Rattle.listlaws.proofs.Rests.{drop-end, weave-first-left, weave-second-left}
+use Rattle.listlaws.proofs.Those.{those-ascends}
+use Rattle.listlaws.proofs.Weaves.{weave-map}
 use Rattle.scan.proofs.Eachs.{decide}
 use Rattle.clock.specs.declared.Dot.{Dot}
 use Rattle.clock.specs.Dots.{isEmpty, covers, cutDots}
 use Rattle.clock.proofs.Covers.{empty-covered}
 use Rattle.clock.proofs.Within.{nil-empty, some-uncovered}
-use Rattle.parts.specs.declared.Removal.{Removal}
-use Rattle.parts.specs.Model.{waitingLimit, noRemoval, underOf}
-use Rattle.parts.specs.Waits.{clockBefore, removalBefore, waits, unite, uniteAll}
-use Rattle.parts.proofs.Clocks.{before-strict, before-same}
-use Rattle.parts.proofs.Waits.{waits-covers, waits-same, unite-those, unite-ascends}
-use Rattle.oneimage.proofs.Stands.{Place, first, later, place-get, place-reads, place-below}
+use Rattle.removals.specs.declared.Removal.{Removal}
+use Rattle.limits.specs.Limits.{waitingLimit}
+use Rattle.removals.specs.Model.{noRemoval, underOf}
+use Rattle.removals.specs.Waits.{clockBefore, removalBefore, waits, unite, uniteAll}
+use Rattle.removals.proofs.ClockOrder.{before-strict, before-same}
+use Rattle.removals.proofs.Waits.{waits-covers, waits-same}
+use Rattle.removals.proofs.Uniting.{unite-those, unite-ascends}
+use Rattle.oneimagelaws.proofs.Stands.{Place, first, later, place-get, place-reads, place-below}
 use Rattle.planned.specs.declared.Held.{Held}
 use Rattle.planned.specs.Planned.{noHeld, HeldLies}
-use Rattle.planned.specs.Left.{leftIn, step, Within}
-use Rattle.planned.specs.Seats.{seatOf, emptied}
+use Rattle.planned.specs.Left.{leftIn, oneIf, RunWithin}
+use Rattle.planned.specs.Seats.{seatOf, emptiedWhereSeen}
 use Rattle.planned.proofs.Seats.{Seated, seated-start, seated-on, seated-not, seat-place}
 use Rattle.planned.proofs.Lefts.{lies-first, lies-second}
 use Rattle.planned.proofs.Going.{clocks-rise}
@@ -49,11 +51,11 @@ next-of w i h = rw add-one (drop-cons w i noRemoval h)
 
 -- what comes next of two lists, from which of them
 pub record Turned (w v : List Removal) (i j : ℕ) (f g : Bool) (c : List Dot) : Type 0 where
-  pub ahead : woven w v i j ≡ c ∷ woven w v (i + step f) (j + step g)
+  pub ahead : woven w v i j ≡ c ∷ woven w v (i + oneIf f) (j + oneIf g)
   pub first : f ≡ true → (i < length w) × (c ≡ underOf (getD w i noRemoval))
   pub second : g ≡ true → (j < length v) × (c ≡ underOf (getD v j noRemoval))
   pub other : f ≡ false → j < length v
-  pub onward : 0 < step f + step g
+  pub onward : 0 < oneIf f + oneIf g
 
 module _ (w v : List Removal) (i j : ℕ) where
   abbrev ours : List Dot
@@ -157,7 +159,7 @@ module _ (w v : List Removal) (i j : ℕ) where
 
 -- the walk comes nearer to the end
 pub nearer : {w v : List Removal} {i j : ℕ} {f g : Bool} {c : List Dot} → Turned w v i j f g c → {n m o p : ℕ} → n ≡ length w → m ≡ length v → i ≤ n
-    → j ≤ m → o ≡ i + step f → p ≡ j + step g
+    → j ≤ m → o ≡ i + oneIf f → p ≡ j + oneIf g
     → ((o ≤ n) × (p ≤ m)) × (((n - o) + (m - p) < (n - i) + (m - j)) × (i + j < o + p))
 nearer {f = true} {g = true} t en em a b eo ep = let x = t .first refl .0 in let y = t .second refl .0 in
     ((omega (arith, en), omega (arith, em)), (omega (arith, en, em), omega arith))
@@ -197,7 +199,7 @@ staying seen w v = those (stays seen) (woven w v 0 0)
 
 -- the clocks of removals, none where one was seen
 abbrev pub unseen : List Dot → List Removal → List (List Dot)
-unseen seen w = map underOf (map (emptied seen) w)
+unseen seen w = map underOf (map (emptiedWhereSeen seen) w)
 
 -- how far the walk has come
 pub record Joining (seen : List Dot) (w v : List Removal) (s t : List ℕ) (i j count : ℕ) (items : List Held) (ours theirs : List ℕ) : Type 0 where
@@ -238,12 +240,12 @@ module _ (seen : List Dot) (l : List (List Dot)) (w : List Removal) where
   told-on : {i : ℕ} {table : List ℕ} → Seated l (unseen seen w) i table → (a z k : ℕ) (f b : Bool) (c : List Dot) → a < length table
       → (f ≡ true → a ≡ i)
       → (f ≡ true → (i < length w) × (c ≡ underOf (getD w i noRemoval))) → b ≡ stays seen c → (b ≡ true → k ≡ seatOf c l)
-      → Seated l (unseen seen w) (i + step f) (set table a (cond (f && b) k (getD table a z)))
+      → Seated l (unseen seen w) (i + oneIf f) (set table a (cond (f && b) k (getD table a z)))
   told-on {i} {table} g a z k false b c h ea ec eb ek = let e : i ≡ i + 0 = omega arith in subst
       (λ n. Seated l (unseen seen w) n (set table a (getD table a z))) e (again g a z h)
   told-on {i} {table} g a z k true false c h ea ec eb ek =
       seated-not (again g a z h) (rw (
-        changed-at (emptied seen) w i (ec refl .0),
+        changed-at (emptiedWhereSeen seen) w i (ec refl .0),
         emptied-seen seen (getD w i noRemoval)
             (rw (← ec refl .1) (sym (empty-covered seen c) ∙ flip (isEmpty (cutDots seen c)) (sym eb))),
       ) nil-empty)
@@ -254,7 +256,7 @@ module _ (seen : List Dot) (l : List (List Dot)) (w : List Removal) where
   told-on {i} {table} g a z k true true c h ea ec eb ek =
       let u : covers seen (underOf (getD w i noRemoval)) ≡ false = rw (← ec refl .1)
       (sym (empty-covered seen c) ∙ flip (isEmpty (cutDots seen c)) (sym eb)) in
-      let q : getD (unseen seen w) i [] ≡ underOf (getD w i noRemoval) = changed-at (emptied seen) w i (ec refl .0)
+      let q : getD (unseen seen w) i [] ≡ underOf (getD w i noRemoval) = changed-at (emptiedWhereSeen seen) w i (ec refl .0)
       ∙ emptied-not seen (getD w i noRemoval) u in
       subst (λ n. Seated l (unseen seen w) (i + 1) (set table n k)) (sym (ea refl))
       (seated-on g (ap isEmpty q ∙ some-uncovered seen (underOf (getD w i noRemoval)) u) (rw (← ea refl) h)
@@ -276,17 +278,17 @@ module _ {seen : List Dot} {w v : List Removal} {s t : List ℕ} where
 
   module _ {i j count : ℕ} {items : List Held} {ours theirs : List ℕ} (g : Joining seen w v s t i j count items ours theirs)
       {f h : Bool} {c : List Dot} (n : Turned w v i j f h c) (rise : Ascending clockBefore (staying seen w v)) where
-    stay-yes : stays seen c ≡ true → drop count (staying seen w v) ≡ c ∷ those (stays seen) (woven w v (i + step f) (j + step h))
+    stay-yes : stays seen c ≡ true → drop count (staying seen w v) ≡ c ∷ those (stays seen) (woven w v (i + oneIf f) (j + oneIf h))
     unfolding sift
     stay-yes e = g .ahead ∙ ap (those (stays seen)) (n .ahead) ∙ rw e
 
-    stay-no : stays seen c ≡ false → drop count (staying seen w v) ≡ those (stays seen) (woven w v (i + step f) (j + step h))
+    stay-no : stays seen c ≡ false → drop count (staying seen w v) ≡ those (stays seen) (woven w v (i + oneIf f) (j + oneIf h))
     unfolding sift
     stay-no e = g .ahead ∙ ap (those (stays seen)) (n .ahead) ∙ rw e
 
     module _ (a b z k : ℕ) (fa : a < length ours) (fb : b < length theirs) (ea : f ≡ true → a ≡ i) (eb : h ≡ true → b ≡ j) where
       pub join-on : true ≡ stays seen c → (count < waitingLimit → k ≡ count) → (x : Held) → HeldLies s t x c → k < length items
-          → Joining seen w v s t (i + step f) (j + step h) (count + 1) (set items k x) (set ours a (cond (f && true) k (getD ours a z)))
+          → Joining seen w v s t (i + oneIf f) (j + oneIf h) (count + 1) (set items k x) (set ours a (cond (f && true) k (getD ours a z)))
           (set theirs b (cond (h && true) k (getD theirs b z)))
       join-on e ek x lx room =
           let q = stay-yes (sym e) in
@@ -307,7 +309,7 @@ module _ {seen : List Dot} {w v : List Removal} {s t : List ℕ} where
           }
 
       pub join-off : false ≡ stays seen c
-          → Joining seen w v s t (i + step f) (j + step h) count items (set ours a (cond (f && false) k (getD ours a z)))
+          → Joining seen w v s t (i + oneIf f) (j + oneIf h) count items (set ours a (cond (f && false) k (getD ours a z)))
           (set theirs b (cond (h && false) k (getD theirs b z)))
       join-off e = record {
         ahead = stay-no (sym e);
@@ -318,7 +320,7 @@ module _ {seen : List Dot} {w v : List Removal} {s t : List ℕ} where
       }
 
       -- the same by what was found out
-      module _ {o p : ℕ} (eo : o ≡ i + step f) (ep : p ≡ j + step h) {y u : ℕ} {st : Bool} (ey : y ≡ cond (f && st) k (getD ours a z))
+      module _ {o p : ℕ} (eo : o ≡ i + oneIf f) (ep : p ≡ j + oneIf h) {y u : ℕ} {st : Bool} (ey : y ≡ cond (f && st) k (getD ours a z))
           (eu : u ≡ cond (h && st) k (getD theirs b z)) (es : st ≡ stays seen c) where
         pub found-on : st ≡ true → (count < waitingLimit → k ≡ count) → (x : Held) → HeldLies s t x c → k < length items
             → Joining seen w v s t o p (count + 1) (set items k x) (set ours a y) (set theirs b u)
@@ -336,7 +338,7 @@ module _ {seen : List Dot} {w v : List Removal} {s t : List ℕ} where
       omega (arith, ap length e, length-drop count (staying seen w v))
 
 -- what is in turn lies in its image
-pub held-lies : {s t : List ℕ} {x y held : Held} (f : Bool) → held ≡ cond f x y → (f ≡ true → Within s x) → (f ≡ false → Within t y)
+pub held-lies : {s t : List ℕ} {x y held : Held} (f : Bool) → held ≡ cond f x y → (f ≡ true → RunWithin s x) → (f ≡ false → RunWithin t y)
     → x .second ≡ false → y .second ≡ true
     → HeldLies s t held (cond f (leftIn s x) (leftIn t y))
 held-lies true e a b p q = rw e (lies-first p (a refl) refl)

@@ -2,32 +2,32 @@
 use mathlib.Core.Path.{_≡_, refl, ap, sym, _∙_}
 use mathlib.Core.Bool.{Bool, true, false, not, cond}
 use mathlib.Core.List.{List, [], _∷_, map, List·Memᴰ·head, List·Memᴰ·tail, Memᴰ·of-map}
-use mathlib.Core.Logic.{_⊎_, ⊎-elim, inl, inr}
+use mathlib.Core.Logic.{⊎-elim, inl, inr}
 use Prim.Native.Nat.{ℕ, zero, suc, _<_}
 use native.Mathlib.Omega.{arith}
 use lib.ListN.{length, getD, length-map, List·getD-map}
-use Rattle.lists.specs.Fold.{fold}
-use Rattle.lists.specs.Order.{_∈_}
-use Rattle.lists.specs.Sift.{sift, those}
-use Rattle.lists.proofs.Those.{those-ascends}
-use Rattle.lists.proofs.Twice.{sift-map}
+use Rattle.listlaws.specs.Fold.{fold}
+use Rattle.listlaws.specs.Order.{_∈_}
+use Rattle.listlaws.specs.Sift.{sift, those}
+use Rattle.listlaws.proofs.Those.{those-ascends}
+use Rattle.listlaws.proofs.Twice.{sift-map}
 use Rattle.scan.proofs.Eachs.{decide}
 use Rattle.clock.specs.declared.Dot.{Dot}
 use Rattle.clock.specs.Dots.{dotsOf, clockOf, isEmpty, covers, cutDots}
 use Rattle.clock.proofs.Packs.{dots-of}
 use Rattle.clock.proofs.Joins.{lawful-nil}
 use Rattle.clock.proofs.Cuts.{lawful-cut}
-use Rattle.parts.specs.declared.Removal.{Removal}
-use Rattle.parts.specs.Model.{noRemoval, underOf, listedIn}
-use Rattle.parts.specs.Entries.{listed}
-use Rattle.parts.specs.Valid.{ValidRemoval, ValidWaiting}
-use Rattle.parts.specs.Waits.{waits, uniteAll, uniteInto, cutRemoval, remains, resetWaiting}
-use Rattle.parts.proofs.Waits.{waits-covers, unite-afresh, unite-behind}
-use Rattle.oneimage.proofs.Stands.{place-get, place-reads}
+use Rattle.removals.specs.declared.Removal.{Removal}
+use Rattle.removals.specs.Model.{noRemoval, underOf, listedIn}
+use Rattle.removals.specs.Waits.{listed, waits, uniteAll, uniteInto, cutRemoval, remains, resetWaiting}
+use Rattle.removals.specs.Valid.{ValidRemoval, ValidWaiting}
+use Rattle.removals.proofs.Waits.{waits-covers}
+use Rattle.removals.proofs.Uniting.{unite-afresh, unite-behind}
+use Rattle.oneimagelaws.proofs.Stands.{place-get, place-reads}
 use Rattle.queued.specs.Queue.{lists}
-use Rattle.queued.specs.Planned.{Sound, Brings}
+use Rattle.queued.specs.Planned.{SoundRemovals, Brings}
 use Rattle.planned.specs.declared.Plan.{Plan}
-use Rattle.planned.specs.Seats.{united, emptied}
+use Rattle.planned.specs.Seats.{united, emptiedWhereSeen}
 use Rattle.planned.specs.Planned.{Plans}
 
 -- the clock of a changed removal
@@ -39,22 +39,22 @@ changed-at f w i h =
 
 -- emptied where it was seen, and as it is where not
 module _ (seen : List Dot) (r : Removal) where
-  pub emptied-seen : covers seen (underOf r) ≡ true → underOf (emptied seen r) ≡ []
+  pub emptied-seen : covers seen (underOf r) ≡ true → underOf (emptiedWhereSeen seen r) ≡ []
   emptied-seen t = let e : waits seen r ≡ false = waits-covers seen r ∙ ap not t in ap (λ b. dotsOf (cond b (r .clock) (clockOf []))) e
 
-  pub emptied-not : covers seen (underOf r) ≡ false → underOf (emptied seen r) ≡ underOf r
+  pub emptied-not : covers seen (underOf r) ≡ false → underOf (emptiedWhereSeen seen r) ≡ underOf r
   emptied-not f = let e : waits seen r ≡ true = waits-covers seen r ∙ ap not f in ap (λ b. dotsOf (cond b (r .clock) (clockOf []))) e
 
 pub cut-under : (c : List Dot) (r : Removal) → underOf (cutRemoval c r) ≡ cutDots c (underOf r)
 cut-under c r = dots-of (cutDots c (underOf r)) refl
 
 -- they stay sound
-pub sound-emptied : (seen : List Dot) {w : List Removal} → Sound w → Sound (map (emptied seen) w)
+pub sound-emptied : (seen : List Dot) {w : List Removal} → SoundRemovals w → SoundRemovals (map (emptiedWhereSeen seen) w)
 sound-emptied seen {w} s x i =
-    let (r, j, e) = Memᴰ·of-map (emptied seen) w i in
+    let (r, j, e) = Memᴰ·of-map (emptiedWhereSeen seen) w i in
     rw (← e) (go r (s r j))
   where
-    go : (r : Removal) → ValidRemoval r → ValidRemoval (emptied seen r)
+    go : (r : Removal) → ValidRemoval r → ValidRemoval (emptiedWhereSeen seen r)
     go r v =
         decide (covers seen (underOf r))
         (λ t. let q = emptied-seen seen r t in
@@ -75,11 +75,11 @@ sound-emptied seen {w} s x i =
           keys = v .keys;
         })
       where
-        clocks : (b : Bool) → covers seen (underOf r) ≡ b → emptied seen r .clock ≡ cond b (clockOf []) (r .clock)
+        clocks : (b : Bool) → covers seen (underOf r) ≡ b → emptiedWhereSeen seen r .clock ≡ cond b (clockOf []) (r .clock)
         clocks true t = let e : waits seen r ≡ false = waits-covers seen r ∙ ap not t in ap (λ b. cond b (r .clock) (clockOf [])) e
         clocks false t = let e : waits seen r ≡ true = waits-covers seen r ∙ ap not t in ap (λ b. cond b (r .clock) (clockOf [])) e
 
-pub sound-cut : (c : List Dot) {w : List Removal} → Sound w → Sound (map (cutRemoval c) w)
+pub sound-cut : (c : List Dot) {w : List Removal} → SoundRemovals w → SoundRemovals (map (cutRemoval c) w)
 sound-cut c {w} s x i =
     let (r, j, e) = Memᴰ·of-map (cutRemoval c) w i in
     let v = s r j in
@@ -92,21 +92,22 @@ sound-cut c {w} s x i =
 
 -- those that remain are those that wait
 waiting-sift : (seen : List Dot) (w : List Removal) → ((r : Removal) → r ∈ w → isEmpty (underOf r) ≡ false)
-    → sift remains (emptied seen) w ≡ those (waits seen) w
+    → sift remains (emptiedWhereSeen seen) w ≡ those (waits seen) w
 unfolding sift
 waiting-sift seen [] some = refl
 waiting-sift seen (r ∷ w) some = go (waits seen r) (waiting-sift seen w (λ x i. some x (List·Memᴰ·tail i)))
   where
-    go : (b : Bool) → sift remains (emptied seen) w ≡ those (waits seen) w
+    go : (b : Bool) → sift remains (emptiedWhereSeen seen) w ≡ those (waits seen) w
         → cond (remains (record { clock = cond b (r .clock) (clockOf []); keys = r .keys }))
-        (record { clock = cond b (r .clock) (clockOf []); keys = r .keys } ∷ sift remains (emptied seen) w) (sift remains (emptied seen) w) ≡
+        (record { clock = cond b (r .clock) (clockOf []); keys = r .keys } ∷ sift remains (emptiedWhereSeen seen) w)
+        (sift remains (emptiedWhereSeen seen) w) ≡
         cond b (r ∷ those (waits seen) w) (those (waits seen) w)
     go true e = rw (some r (List·Memᴰ·head refl)) (ap (λ l. r ∷ l) e)
     go false e = unfold isEmpty in e
 
 pub waits-remain : (seen : List Dot) (w : List Removal) → ((r : Removal) → r ∈ w → isEmpty (underOf r) ≡ false)
-    → those remains (map (emptied seen) w) ≡ those (waits seen) w
-waits-remain seen w some = sift-map remains (λ x. x) (emptied seen) w ∙ waiting-sift seen w some
+    → those remains (map (emptiedWhereSeen seen) w) ≡ those (waits seen) w
+waits-remain seen w some = sift-map remains (λ x. x) (emptiedWhereSeen seen) w ∙ waiting-sift seen w some
 
 -- the keys of removals that were changed under their clocks only
 pub lists-same : (f : Removal → Removal) → ((r : Removal) → listedIn (f r) ≡ listedIn r) → (w : List Removal) (a key : ℕ)
@@ -141,7 +142,7 @@ module _ (f : Removal → Removal) (e : (r : Removal) → listedIn (f r) ≡ lis
 
 -- what is united of two queues, without what a clock has seen
 pub united-merge : (seen : List Dot) {w v : List Removal} → ValidWaiting w → ValidWaiting v
-    → united (map (emptied seen) w) (map (emptied seen) v) ≡ uniteAll (those (waits seen) w) (those (waits seen) v)
+    → united (map (emptiedWhereSeen seen) w) (map (emptiedWhereSeen seen) v) ≡ uniteAll (those (waits seen) w) (those (waits seen) v)
 united-merge seen {w} {v} a b =
     rw (waits-remain seen w (a .some), waits-remain seen v (b .some), unite-afresh (those-ascends (waits seen) (a .rising)))
     (unite-behind (those (waits seen) w) (those-ascends (waits seen) (b .rising)))

@@ -8,17 +8,19 @@ use borrow.Author.Tests.{lt-ltb, le-ltb, eqb-true, eqb-false}
 use lib.Dec.{ltb, eqb}
 use lib.ListN.{length, getD, take, drop, length-take, length-drop}
 use Rattle.clock.specs.declared.Dot.{Dot}
-use Rattle.clock.specs.Dots.{dotLimit, isEmpty, cutDots}
-use Rattle.parts.specs.declared.Removal.{Removal}
-use Rattle.parts.specs.Model.{waitingLimit, noRemoval, underOf}
-use Rattle.parts.specs.Waits.{clockBefore, cutRemoval}
-use Rattle.records.specs.Records.{bytesOf, Wrote}
+use Rattle.limits.specs.Limits.{dotLimit, waitingLimit}
+use Rattle.clock.specs.Dots.{isEmpty, cutDots}
+use Rattle.removals.specs.declared.Removal.{Removal}
+use Rattle.removals.specs.Model.{noRemoval, underOf}
+use Rattle.removals.specs.Waits.{clockBefore, cutRemoval}
+use Rattle.records.specs.Records.{bytesOf}
+use Rattle.records.specs.Writing.{Wrote}
 use Rattle.clockimage.specs.Image.{dotRecords}
 use Rattle.runs.specs.Run.{runDots}
 use Rattle.marks.specs.Marks.{marksSet}
 use Rattle.marks.proofs.Picks.{picked-all, length-picked}
 use Rattle.marks.proofs.Dots.{length-run}
-use Rattle.sketch.specs.Drawn.{between}
+use Rattle.walks.specs.Walk.{between}
 use Rattle.queued.specs.declared.Queue.{Queue}
 use Rattle.queued.specs.Queue.{RunLies, Queued}
 use Rattle.queued.proofs.Taking.{lying-dots, lying-lawful}
@@ -26,9 +28,9 @@ use Rattle.planned.specs.declared.Held.{Held}
 use Rattle.planned.specs.declared.Ordered.{Ordered}
 use Rattle.planned.specs.Planned.{heldIn, dotsLeft, HeldLies}
 use Rattle.planned.proofs.Leaving.{changed-at, cut-under}
-use Rattle.planned.specs.Left.{leftIn, wholeRun, Within, Clear, Left, Lined}
+use Rattle.planned.specs.Left.{leftIn, wholeRun, RunWithin, Clear, Left, Lined}
 
-module _ {s : List ℕ} {x : Held} (h : Within s x) where
+module _ {s : List ℕ} {x : Held} (h : RunWithin s x) where
   -- how many dots its run has
   pub run-long : length (runDots (between s (x .from) (x .to))) ≡ x .to - x .from
   run-long =
@@ -57,7 +59,7 @@ some-left l {n} e = rw e (go (eqb (length l) 0) (λ i. eqb (length l) 0))
 
 -- the whole run of a queue's removal
 module _ {s : List ℕ} {from to : ℕ} {d : List Dot} (b : Bool) (r : RunLies s from to d) where
-  pub whole-within : Within s (wholeRun b from to)
+  pub whole-within : RunWithin s (wholeRun b from to)
   whole-within = let k = r .few in record { order = r .order; few = omega arith; within = r .within }
 
   pub whole-clear : Clear s (wholeRun b from to)
@@ -69,22 +71,22 @@ module _ {s : List ℕ} {from to : ℕ} {d : List Dot} (b : Bool) (r : RunLies s
 
 -- what holds in the image that it names
 module _ {s t : List ℕ} {x : Held} {d : List Dot} where
-  lies-in : Within (heldIn s t x) x → leftIn (heldIn s t x) x ≡ d → HeldLies s t x d
+  lies-in : RunWithin (heldIn s t x) x → leftIn (heldIn s t x) x ≡ d → HeldLies s t x d
   lies-in h e = record { order = h .order; few = h .few; within = h .within; dots = e }
 
-  pub lies-first : x .second ≡ false → Within s x → leftIn s x ≡ d → HeldLies s t x d
+  pub lies-first : x .second ≡ false → RunWithin s x → leftIn s x ≡ d → HeldLies s t x d
   lies-first f h e =
-      let q : heldIn s t x ≡ s = ap (λ b. cond b t s) f in lies-in (subst (λ u. Within u x) (sym q) h) (subst (λ u. leftIn u x ≡ d) (sym q) e)
+      let q : heldIn s t x ≡ s = ap (λ b. cond b t s) f in lies-in (subst (λ u. RunWithin u x) (sym q) h) (subst (λ u. leftIn u x ≡ d) (sym q) e)
 
-  pub lies-second : x .second ≡ true → Within t x → leftIn t x ≡ d → HeldLies s t x d
+  pub lies-second : x .second ≡ true → RunWithin t x → leftIn t x ≡ d → HeldLies s t x d
   lies-second f h e =
-      let q : heldIn s t x ≡ t = ap (λ b. cond b t s) f in lies-in (subst (λ u. Within u x) (sym q) h) (subst (λ u. leftIn u x ≡ d) (sym q) e)
+      let q : heldIn s t x ≡ t = ap (λ b. cond b t s) f in lies-in (subst (λ u. RunWithin u x) (sym q) h) (subst (λ u. leftIn u x ≡ d) (sym q) e)
 
   pub left-lies : Left s x d → HeldLies s t x d
   left-lies h = lies-first (h .first) (h .placed) (h .dots)
 
 -- a run that was cut lies where it lay
-pub within-same : {s : List ℕ} {x r : Held} → Within s x → r .from ≡ x .from → r .to ≡ x .to → Within s r
+pub within-same : {s : List ℕ} {x r : Held} → RunWithin s x → r .from ≡ x .from → r .to ≡ x .to → RunWithin s r
 within-same h e f = let a = h .order in let b = h .few in let c = h .within in record { order = omega arith; few = omega arith; within = omega arith }
 
 -- and a queue's removal that was cut holds its cut clock
@@ -134,13 +136,13 @@ module _ (s t : List ℕ) (x : Held) where
   first-image : x .second ≡ false → heldIn s t x ≡ s
   first-image e = ap (λ b. cond b t s) e
 
-  pub asks-second : (at room : ℕ) → x .second ≡ true → Within (heldIn s t x) x × (at + length (dotsLeft s t x) * 16 ≤ room) → Within t x
+  pub asks-second : (at room : ℕ) → x .second ≡ true → RunWithin (heldIn s t x) x × (at + length (dotsLeft s t x) * 16 ≤ room) → RunWithin t x
       × (at + length (leftIn t x) * 16 ≤ room)
-  asks-second at room e p = subst (λ u. Within u x × (at + length (leftIn u x) * 16 ≤ room)) (second-image e) p
+  asks-second at room e p = subst (λ u. RunWithin u x × (at + length (leftIn u x) * 16 ≤ room)) (second-image e) p
 
-  pub asks-first : (at room : ℕ) → x .second ≡ false → Within (heldIn s t x) x × (at + length (dotsLeft s t x) * 16 ≤ room) → Within s x
+  pub asks-first : (at room : ℕ) → x .second ≡ false → RunWithin (heldIn s t x) x × (at + length (dotsLeft s t x) * 16 ≤ room) → RunWithin s x
       × (at + length (leftIn s x) * 16 ≤ room)
-  asks-first at room e p = subst (λ u. Within u x × (at + length (leftIn u x) * 16 ≤ room)) (first-image e) p
+  asks-first at room e p = subst (λ u. RunWithin u x × (at + length (leftIn u x) * 16 ≤ room)) (first-image e) p
 
   module _ (index : ℕ) {at next : ℕ} {entry exit : List ℕ} where
     pub wrote-second : x .second ≡ true → Wrote at (bytesOf (dotRecords 5 index 0 (leftIn t x))) entry exit next

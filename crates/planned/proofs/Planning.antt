@@ -8,14 +8,15 @@ use native.Mathlib.Omega.{arith}
 use borrow.Author.Tests.{ltb-false}
 use lib.ListN.{length, drop, getD, length-map, length-append}
 use lib.Seq.{drop-cons}
-use Rattle.lists.proofs.Rests.{drop-end}
-use Rattle.parts.specs.declared.Removal.{Removal}
-use Rattle.parts.specs.Model.{waitingLimit, noRemoval, underOf}
+use Rattle.listlaws.proofs.Rests.{drop-end}
+use Rattle.removals.specs.declared.Removal.{Removal}
+use Rattle.limits.specs.Limits.{waitingLimit}
+use Rattle.removals.specs.Model.{noRemoval, underOf}
 use Rattle.clockimage.specs.Image.{dotRecord}
 use Rattle.mapimage.specs.MapImage.{flatFrom, waitingDots}
 use Rattle.planned.specs.declared.Plan.{Plan}
 use Rattle.planned.specs.Planned.{noHeld, heldIn, dotsLeft, Plans}
-use Rattle.planned.specs.Left.{Within}
+use Rattle.planned.specs.Left.{RunWithin}
 
 -- the dots of the next removal
 pub dots-next : (w : List Removal) (i : ℕ) → i < length w → flatFrom waitingDots i (drop i w) ≡ waitingDots i (getD w i noRemoval) ++ flatFrom
@@ -35,7 +36,7 @@ module _ {s t : List ℕ} {w v result : List Removal} {p : Plan} (h : Plans s t 
       let c = h .count f in g .1 (omega arith) ∙ c
 
   module _ {i : ℕ} (k : i < length result) where
-    pub plan-within : Within (heldIn s t (getD (p .items) i noHeld)) (getD (p .items) i noHeld)
+    pub plan-within : RunWithin (heldIn s t (getD (p .items) i noHeld)) (getD (p .items) i noHeld)
     plan-within = let l = h .clocks f i k in record { order = l .order; few = l .few; within = l .within }
 
     pub plan-dots : dotsLeft s t (getD (p .items) i noHeld) ≡ underOf (getD result i noRemoval)

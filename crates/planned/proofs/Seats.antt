@@ -2,25 +2,25 @@
 use mathlib.Core.Path.{_≡_, refl, ap, sym, _∙_}
 use mathlib.Core.Bool.{Bool, true, false, not, cond}
 use mathlib.Core.List.{List, [], _∷_, _++_}
-use Prim.Native.Nat.{ℕ, suc, _+_, _-_, _≤_, _<_}
+use Prim.Native.Nat.{ℕ, suc, _+_, _≤_, _<_}
 use native.Mathlib.Omega.{arith}
 use native.Mathlib.Numerals.{add-one}
 use lib.Dec.{eqb, ltb}
 use lib.ListN.{set, replicate, getD-replicate, length, take, drop, getD, length-append, take-append-drop}
 use lib.Seq.{getD-set-same, getD-set-other, drop-cons}
 use borrow.Author.Tests.{ltb-true, ltb-false, lt-ltb, le-ltb, eqb-true, eqb-false}
-use Rattle.lists.specs.Order.{Ascending}
-use Rattle.lists.proofs.Orders.{tail-ascends, head-before, never-itself}
-use Rattle.lists.proofs.Rests.{drop-end}
+use Rattle.listlaws.specs.Order.{Ascending}
+use Rattle.listlaws.proofs.Orders.{tail-ascends, head-before, never-itself}
+use Rattle.listlaws.proofs.Rests.{drop-end}
 use Rattle.scan.proofs.Eachs.{decide}
 use Rattle.clock.specs.declared.Dot.{Dot}
 use Rattle.clock.specs.Dots.{isEmpty}
-use Rattle.parts.specs.Model.{waitingLimit}
-use Rattle.parts.specs.Waits.{clockBefore}
-use Rattle.parts.proofs.Clocks.{before-strict}
-use Rattle.oneimage.proofs.Stands.{Place, first, later, place-in}
+use Rattle.limits.specs.Limits.{waitingLimit}
+use Rattle.removals.specs.Waits.{clockBefore}
+use Rattle.removals.proofs.ClockOrder.{before-strict}
+use Rattle.oneimagelaws.proofs.Stands.{Place, first, later, place-in}
 use Rattle.queued.proofs.Marking.{getD-past}
-use Rattle.planned.specs.Seats.{seatOf, insertClock, placeOf}
+use Rattle.planned.specs.Seats.{seatOf, insertClock, placeAmong}
 
 -- i clocks stand before
 pub record Seating (c : List Dot) (l : List (List Dot)) (i : ℕ) : Type 0 where
@@ -85,7 +85,7 @@ length-between l c k = omega (arith, length-append (take k l) (c ∷ drop k l), 
 
 -- where each goes: the first i are told
 pub record Seated (l m : List (List Dot)) (i : ℕ) (table : List ℕ) : Type 0 where
-  pub each : (a : ℕ) → a < waitingLimit → getD table a waitingLimit ≡ cond (ltb a i) (placeOf l (getD m a [])) waitingLimit
+  pub each : (a : ℕ) → a < waitingLimit → getD table a waitingLimit ≡ cond (ltb a i) (placeAmong l (getD m a [])) waitingLimit
 
 module _ {l m : List (List Dot)} where
   pub seated-start : Seated l m 0 (replicate waitingLimit waitingLimit)
@@ -93,12 +93,12 @@ module _ {l m : List (List Dot)} where
 
   module _ {i : ℕ} {table : List ℕ} (s : Seated l m i table) where
     pub seated-on : isEmpty (getD m i []) ≡ false → i < length table → {k : ℕ} → k ≡ seatOf (getD m i []) l → Seated l m (i + 1) (set table i k)
-    unfolding placeOf
+    unfolding placeAmong
     seated-on t h {k} e = record {
       each = λ a g. decide (eqb a i)
           (λ u. let q = eqb-true a i u in rw (q, getD-set-same table i k waitingLimit h, lt-ltb i (i + 1) (omega arith), t) e)
           (λ u. let q = eqb-false a i u in rw (getD-set-other table i a k waitingLimit q)
-          (s .each a g ∙ ap (λ b. cond b (placeOf l (getD m a [])) waitingLimit) (same a q)));
+          (s .each a g ∙ ap (λ b. cond b (placeAmong l (getD m a [])) waitingLimit) (same a q)));
     }
       where
         same : (a : ℕ) → (a ≡ i → ⊥) → ltb a i ≡ ltb a (i + 1)
@@ -106,7 +106,7 @@ module _ {l m : List (List Dot)} where
             (λ f. let k = ltb-false a i f in rw f (sym (le-ltb a (i + 1) (omega arith))))
 
     pub seated-not : isEmpty (getD m i []) ≡ true → Seated l m (i + 1) table
-    unfolding placeOf
+    unfolding placeAmong
     seated-not t = record {
       each = λ a g. s .each a g ∙ decide (ltb a i)
           (λ u. let k = ltb-true a i u in rw (u, lt-ltb a (i + 1) (omega arith)))
@@ -114,6 +114,6 @@ module _ {l m : List (List Dot)} where
           (λ v. let z : a ≡ i = (let j = ltb-true a (i + 1) v in omega arith) in rw (u, v, z, t)) (λ v. rw (u, v)));
     }
 
-    pub seated-end : length m ≤ i → (a : ℕ) → a < waitingLimit → getD table a waitingLimit ≡ placeOf l (getD m a [])
-    unfolding placeOf isEmpty
+    pub seated-end : length m ≤ i → (a : ℕ) → a < waitingLimit → getD table a waitingLimit ≡ placeAmong l (getD m a [])
+    unfolding placeAmong isEmpty
     seated-end h a g = s .each a g ∙ decide (ltb a i) (λ u. rw u) (λ u. let k = ltb-false a i u in rw (u, getD-past m a [] (omega arith)))

@@ -4,20 +4,22 @@ use mathlib.Core.Bool.{Bool, true, false, cond}
 use mathlib.Core.List.{List, [], _∷_, map, map-id, List·Memᴰ·head, List·Memᴰ·tail, List·Memᴰ·not-nil, List·Memᴰ·cases-cons, List·Memᴰ·eq-of-singleton}
 use mathlib.Core.Logic.{_⊎_, inl, inr, ⊎-elim}
 use Prim.Native.Nat.{ℕ}
-use Rattle.lists.specs.Fold.{fold}
-use Rattle.lists.specs.Order.{_∈_, nil, next}
-use Rattle.lists.specs.Sift.{sift, those}
-use Rattle.lists.specs.Weave.{weave}
-use Rattle.lists.proofs.Orders.{apart}
+use Rattle.listlaws.specs.Fold.{fold}
+use Rattle.listlaws.specs.Order.{_∈_, nil, next}
+use Rattle.listlaws.specs.Sift.{sift, those}
+use Rattle.listlaws.specs.Weave.{weave}
+use Rattle.listlaws.proofs.Orders.{apart}
 use Rattle.scan.proofs.Eachs.{decide}
 use Rattle.clock.specs.declared.Dot.{Dot}
 use Rattle.clock.specs.Dots.{isEmpty}
-use Rattle.parts.specs.declared.Removal.{Removal}
-use Rattle.parts.specs.Model.{underOf, listedIn}
-use Rattle.parts.specs.Valid.{ValidRemoval, ValidWaiting}
-use Rattle.parts.specs.Waits.{removalBefore, unite, uniteAll, uniteInto, remains}
-use Rattle.parts.proofs.Waits.{unite-nil, unite-each, unite-left, unite-right, unite-keys, unite-valid, union-means, union-left, union-right}
-use Rattle.queued.specs.Planned.{Sound}
+use Rattle.removals.specs.declared.Removal.{Removal}
+use Rattle.removals.specs.Model.{underOf, listedIn}
+use Rattle.removals.specs.Valid.{ValidRemoval, ValidWaiting}
+use Rattle.removals.specs.Waits.{removalBefore, unite, uniteAll, uniteInto, remains}
+use Rattle.removals.proofs.Uniting.{unite-nil, unite-each, unite-left, unite-right, unite-keys}
+use Rattle.removals.proofs.WaitingValid.{unite-valid}
+use Rattle.removals.proofs.Unions.{union-means, union-left, union-right}
+use Rattle.queued.specs.Planned.{SoundRemovals}
 use Rattle.planned.specs.Seats.{insertClock, gatherAll}
 
 -- the clocks of removals with one more
@@ -113,14 +115,14 @@ module _ {l : List Removal} {x : Removal} (v : ValidWaiting l) (h : ValidRemoval
       (k .removal) (k .stands) (k .under) (k .lists)
 
 -- all that remain of a list, one after the other
-pub all-valid : {l : List Removal} (w : List Removal) → ValidWaiting l → Sound w → ValidWaiting (fold uniteInto l (those remains w))
+pub all-valid : {l : List Removal} (w : List Removal) → ValidWaiting l → SoundRemovals w → ValidWaiting (fold uniteInto l (those remains w))
 unfolding fold sift
 all-valid [] v s = v
 all-valid {l} (r ∷ w) v s =
     step ValidWaiting l r w (λ t. all-valid w v (λ x i. s x (List·Memᴰ·tail i)))
     (λ f. all-valid w (into-valid v (s r (List·Memᴰ·head refl)) f) (λ x i. s x (List·Memᴰ·tail i)))
 
-pub all-keeps : {l : List Removal} (w : List Removal) → ValidWaiting l → Sound w → {c : List Dot} {key : ℕ} → Has l c key
+pub all-keeps : {l : List Removal} (w : List Removal) → ValidWaiting l → SoundRemovals w → {c : List Dot} {key : ℕ} → Has l c key
     → Has (fold uniteInto l (those remains w)) c key
 unfolding fold sift
 all-keeps [] v s k = k
@@ -128,12 +130,13 @@ all-keeps {l} (r ∷ w) v s {c} {key} k =
     step (λ m. Has m c key) l r w (λ t. all-keeps w v (λ x i. s x (List·Memᴰ·tail i)) k)
     (λ f. let h = s r (List·Memᴰ·head refl) in all-keeps w (into-valid v h f) (λ x i. s x (List·Memᴰ·tail i)) (into-keeps v h f k))
 
-pub all-adds : {l : List Removal} (w : List Removal) → ValidWaiting l → Sound w → (x : Removal) → x ∈ w → isEmpty (underOf x) ≡ false → {key : ℕ}
+pub all-adds : {l : List Removal} (w : List Removal) → ValidWaiting l → SoundRemovals w → (x : Removal) → x ∈ w → isEmpty (underOf x) ≡ false
+    → {key : ℕ}
     → key ∈ listedIn x → Has (fold uniteInto l (those remains w)) (underOf x) key
 all-adds [] v s x i e k = absurd (List·Memᴰ·not-nil i)
 all-adds {l} (r ∷ w) v s x i e {key} k =
     let h = s r (List·Memᴰ·head refl) in
-    let g : Sound w = λ y j. s y (List·Memᴰ·tail j) in
+    let g : SoundRemovals w = λ y j. s y (List·Memᴰ·tail j) in
     step (λ m. Has m (underOf x) key) l r w
     (λ t. ⊎-elim (λ (q : x ≡ r). absurd (both (isEmpty (underOf r)) t (ap (λ y. isEmpty (underOf y)) (sym q) ∙ e))) (λ j. all-adds w v g x j e k)
     (List·Memᴰ·cases-cons i))
@@ -154,13 +157,13 @@ pub record Source (w : List Removal) (c : List Dot) (key : ℕ) : Type 0 where
   pub under : underOf removal ≡ c
   pub lists : key ∈ listedIn removal
 
-pub all-only : {l : List Removal} (w : List Removal) → ValidWaiting l → Sound w → {c : List Dot} {key : ℕ}
+pub all-only : {l : List Removal} (w : List Removal) → ValidWaiting l → SoundRemovals w → {c : List Dot} {key : ℕ}
     → Has (fold uniteInto l (those remains w)) c key → Has l c key ⊎ Source w c key
 unfolding fold sift
 all-only [] v s k = inl k
 all-only {l} (r ∷ w) v s {c} {key} k₀ =
     let h = s r (List·Memᴰ·head refl) in
-    let g : Sound w = λ y j. s y (List·Memᴰ·tail j) in
+    let g : SoundRemovals w = λ y j. s y (List·Memᴰ·tail j) in
     step (λ m. Has m c key → Has l c key ⊎ Source (r ∷ w) c key) l r w
     (λ t k. ⊎-elim (λ a. inl a) (λ b. inr (more b)) (all-only w v g k))
     (λ f k. ⊎-elim (λ a. ⊎-elim (λ b. inl b) (λ b. inr (record { removal = r; stands = List·Memᴰ·head refl; some = f; under = b .0; lists = b .1 }))

@@ -5,12 +5,11 @@ use mathlib.Core.List.{List, []}
 use Prim.Native.Nat.{ℕ, _+_, _*_, _≤_, _<_}
 use lib.ListN.{length, getD, replicate}
 use Rattle.clock.specs.declared.Dot.{Dot}
-use Rattle.clock.specs.Dots.{dotLimit}
+use Rattle.limits.specs.Limits.{dotLimit, waitingLimit}
 use Rattle.clock.specs.Lawful.{Lawful}
-use Rattle.parts.specs.Model.{waitingLimit}
 use Rattle.runs.specs.Run.{runDots}
 use Rattle.marks.specs.Marks.{picked}
-use Rattle.sketch.specs.Drawn.{between}
+use Rattle.walks.specs.Walk.{between}
 use Rattle.planned.specs.declared.Held.{Held}
 use Rattle.planned.specs.declared.Ordered.{Ordered}
 use Rattle.planned.specs.Planned.{noHeld}
@@ -24,24 +23,24 @@ abbrev pub wholeRun : Bool → ℕ → ℕ → Held
 wholeRun b i j = record { second = b; from = i; to = j; marks = replicate dotLimit true }
 
 -- one where it is so
-abbrev pub step : Bool → ℕ
-step b = cond b 1 0
+abbrev pub oneIf : Bool → ℕ
+oneIf b = cond b 1 0
 
 -- its run stands within s
-pub record Within (s : List ℕ) (x : Held) : Type 0 where
+pub record RunWithin (s : List ℕ) (x : Held) : Type 0 where
   pub order : x .from ≤ x .to
   pub few : x .to ≤ x .from + dotLimit
   pub within : x .to * 16 ≤ length s
 
 -- and says a clock
 pub record Clear (s : List ℕ) (x : Held) : Type 0 where
-  pub placed : Within s x
+  pub placed : RunWithin s x
   pub lawful : Lawful (runDots (between s (x .from) (x .to)))
 
 -- it holds a clock, in the first of two images
 pub record Left (s : List ℕ) (x : Held) (d : List Dot) : Type 0 where
   pub first : x .second ≡ false
-  pub placed : Within s x
+  pub placed : RunWithin s x
   pub dots : leftIn s x ≡ d
 
 -- some removals hold these clocks

@@ -1,4 +1,5 @@
--- The plan of a result's waiting removals: where each one's dots stand in two images and which of them are left, and where the removals of two lists go.
+-- The plan of a result's waiting removals: where each one's dots stand in two images and which of them are left, and where the removals of
+-- two lists go.
 use mathlib.Core.Path.{_≡_}
 use mathlib.Core.Bool.{false, cond}
 use mathlib.Core.List.{List, []}
@@ -6,13 +7,13 @@ use Prim.Native.Nat.{ℕ, _+_, _*_, _≤_, _<_}
 use lib.Dec.{ltb}
 use lib.ListN.{length, getD}
 use Rattle.clock.specs.declared.Dot.{Dot}
-use Rattle.clock.specs.Dots.{dotLimit}
-use Rattle.parts.specs.declared.Removal.{Removal}
-use Rattle.parts.specs.Model.{waitingLimit, noRemoval, underOf}
+use Rattle.limits.specs.Limits.{dotLimit, waitingLimit}
+use Rattle.removals.specs.declared.Removal.{Removal}
+use Rattle.removals.specs.Model.{noRemoval, underOf}
 use Rattle.runs.specs.Run.{runDots}
 use Rattle.marks.specs.Marks.{picked}
 use Rattle.queued.specs.Planned.{Moves}
-use Rattle.sketch.specs.Drawn.{between}
+use Rattle.walks.specs.Walk.{between}
 use Rattle.planned.specs.declared.Held.{Held}
 use Rattle.planned.specs.declared.Plan.{Plan}
 

@@ -2,13 +2,13 @@
 use mathlib.Core.Bool.{Bool, not, cond}
 use mathlib.Core.List.{List, [], _∷_}
 use Prim.Native.Nat.{ℕ, zero, suc}
-use Rattle.lists.specs.Fold.{fold}
-use Rattle.lists.specs.Sift.{those}
+use Rattle.listlaws.specs.Fold.{fold}
+use Rattle.listlaws.specs.Sift.{those}
 use Rattle.clock.specs.declared.Dot.{Dot}
 use Rattle.clock.specs.Dots.{clockOf, isEmpty}
-use Rattle.parts.specs.declared.Removal.{Removal}
-use Rattle.parts.specs.Model.{waitingLimit}
-use Rattle.parts.specs.Waits.{clockBefore, waits, uniteInto, remains}
+use Rattle.removals.specs.declared.Removal.{Removal}
+use Rattle.limits.specs.Limits.{waitingLimit}
+use Rattle.removals.specs.Waits.{clockBefore, waits, uniteInto, remains}
 
 -- how many clocks stand before one, from the first on
 unfoldable pub seatOf : List Dot → List (List Dot) → ℕ
@@ -29,13 +29,13 @@ unfoldable pub gatherAll : List (List Dot) → List (List Dot) → List (List Do
 gatherAll l m = fold (λ s c. cond (present c) (insertClock s c) s) l m
 
 -- where a clock goes among others: nowhere if it is empty
-unfoldable pub placeOf : List (List Dot) → List Dot → ℕ
-placeOf l c = cond (isEmpty c) waitingLimit (seatOf c l)
+unfoldable pub placeAmong : List (List Dot) → List Dot → ℕ
+placeAmong l c = cond (isEmpty c) waitingLimit (seatOf c l)
 
 -- the removals that remain of two lists, united
 abbrev pub united : List Removal → List Removal → List Removal
 united w v = fold uniteInto (fold uniteInto [] (those remains w)) (those remains v)
 
 -- a removal under no clock, where a clock has seen it
-abbrev pub emptied : List Dot → Removal → Removal
-emptied seen r = record { clock = cond (waits seen r) (r .clock) (clockOf []); keys = r .keys }
+abbrev pub emptiedWhereSeen : List Dot → Removal → Removal
+emptiedWhereSeen seen r = record { clock = cond (waits seen r) (r .clock) (clockOf []); keys = r .keys }

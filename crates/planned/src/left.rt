@@ -5,18 +5,22 @@ ghost use mathlib.Core.List.{List};
 ghost use Prim.Native.Nat.{ℕ, _+_, _*_, _≤_, _<_};
 ghost use lib.ListN.{length, drop, getD};
 ghost use Rattle.clock.specs.declared.Dot.{Dot};
-ghost use Rattle.clock.specs.Dots.{dotLimit, dotsOf, isEmpty, cutDots};
+ghost use Rattle.limits.specs.Limits.{dotLimit};
+ghost use Rattle.clock.specs.Dots.{dotsOf, isEmpty, cutDots};
 ghost use Rattle.clock.specs.Lawful.{Lawful};
-ghost use Rattle.parts.specs.Waits.{clockBefore};
-ghost use Rattle.records.specs.Records.{bytesOf, Wrote};
+ghost use Rattle.removals.specs.Waits.{clockBefore};
+ghost use Rattle.records.specs.Records.{bytesOf};
+ghost use Rattle.records.specs.Writing.{Wrote};
+ghost use Rattle.records.specs.Kinds.{waitingDotKind};
 ghost use Rattle.clockimage.specs.Image.{dotRecords};
 ghost use Rattle.runs.specs.Run.{runDots};
 ghost use Rattle.marks.specs.Marks.{picked};
 ghost use Rattle.planned.specs.declared.Held.{Held};
-ghost use Rattle.planned.specs.Left.{leftIn, Within, Clear, wholeRun};
+ghost use Rattle.planned.specs.Left.{leftIn, RunWithin, Clear, wholeRun};
 use crate::Held;
 use clock::Clock;
-use clock::DOTS;
+use limits::DOTS;
+use records::WAITING_DOT;
 
 // A run of which all is left.
 pub fn whole(second: bool, from: usize, to: usize) -> Held
@@ -72,7 +76,7 @@ fn left_before(x: &[u8], mine: [bool; DOTS], y: &[u8], yours: [bool; DOTS]) -> b
 
 // The same of what two removals hold, each in its image.
 pub fn before(s: &[u8], x: Held, t: &[u8], y: Held) -> bool
-    requires { ⌜ Within (now s) x × Within (now t) y ⌝ }
+    requires { ⌜ RunWithin (now s) x × RunWithin (now t) y ⌝ }
     ensures { λ r. ⌜ r ≡ clockBefore (leftIn (now (s .entry)) x) (leftIn (now (t .entry)) y) ⌝ }
 {
     let mine = x.marks;
@@ -104,8 +108,8 @@ pub fn cut(s: &[u8], x: Held, by: Clock) -> Held
 
 // How many dots are left.
 pub fn count(x: Held) -> usize
-    requires { ⌜ ((s : List ℕ) × Within s x) ⌝ }
-    ensures { λ r. ⌜ (r ≤ dotLimit) × ((s : List ℕ) → Within s x → r ≡ length (leftIn s x)) ⌝ }
+    requires { ⌜ ((s : List ℕ) × RunWithin s x) ⌝ }
+    ensures { λ r. ⌜ (r ≤ dotLimit) × ((s : List ℕ) → RunWithin s x → r ≡ length (leftIn s x)) ⌝ }
 {
     let marks = x.marks;
     marks::count_marks(marks, x.to - x.from)
@@ -123,11 +127,12 @@ pub fn waits(s: &[u8], x: Held, seen: Clock) -> bool
 
 // Writes what is left as the dots of the removal at an index; answers the place behind them.
 pub fn write(out: &mut [u8], at: usize, index: u8, s: &[u8], x: Held) -> usize
-    requires { ⌜ Within (now s) x × (at + length (leftIn (now s) x) * 16 ≤ length (now out)) ⌝ }
-    ensures { λ next. ⌜ Wrote at (bytesOf (dotRecords 5 index 0 (leftIn (now (s .entry)) x))) (now (out .entry)) (now (out .exit)) next ⌝ }
+    requires { ⌜ RunWithin (now s) x × (at + length (leftIn (now s) x) * 16 ≤ length (now out)) ⌝ }
+    ensures { λ next. ⌜ Wrote at (bytesOf (dotRecords waitingDotKind index 0 (leftIn (now (s .entry)) x))) (now (out .entry))
+        (now (out .exit)) next ⌝ }
 {
     let marks = x.marks;
     let from = x.from * 16;
     let to = x.to * 16;
-    marks::write_picked(out, at, 5, index, 0, &s[from..to], marks)
+    marks::write_picked(out, at, WAITING_DOT, index, 0, &s[from..to], marks)
 }

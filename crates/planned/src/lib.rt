@@ -4,27 +4,29 @@ ghost use mathlib.Core.Bool.{true, false, cond, _&&_, _||_, not};
 ghost use mathlib.Core.List.{List, []};
 ghost use Prim.Native.Nat.{ℕ, _+_, _*_, _≤_, _<_};
 ghost use lib.ListN.{length};
-ghost use Rattle.lists.specs.Sift.{those};
+ghost use Rattle.listlaws.specs.Sift.{those};
 ghost use Rattle.clock.specs.Dots.{dotsOf, isEmpty, cutDots};
 ghost use Rattle.clock.specs.Lawful.{Lawful};
-ghost use Rattle.parts.specs.declared.Removal.{Removal};
-ghost use Rattle.parts.specs.Model.{waitingLimit};
-ghost use Rattle.parts.specs.Valid.{ValidWaiting};
-ghost use Rattle.parts.specs.Waits.{clockBefore, waits, uniteAll, resetWaiting};
-ghost use Rattle.records.specs.Records.{bytesOf, Wrote};
+ghost use Rattle.removals.specs.declared.Removal.{Removal};
+ghost use Rattle.limits.specs.Limits.{waitingLimit};
+ghost use Rattle.removals.specs.Valid.{ValidWaiting};
+ghost use Rattle.removals.specs.Waits.{clockBefore, waits, uniteAll, resetWaiting};
+ghost use Rattle.records.specs.Records.{bytesOf};
+ghost use Rattle.records.specs.Writing.{Wrote};
+ghost use Rattle.records.specs.Kinds.{waitingDotKind};
 ghost use Rattle.clockimage.specs.Image.{dotRecords};
 ghost use Rattle.mapimage.specs.MapImage.{flatFrom, waitingDots};
 ghost use Rattle.queued.specs.Queue.{Queued};
 ghost use Rattle.planned.specs.declared.Held.{Held};
 ghost use Rattle.planned.specs.Planned.{heldIn, dotsLeft, Plans};
-ghost use Rattle.planned.specs.Left.{leftIn, Within, Clear, step};
+ghost use Rattle.planned.specs.Left.{leftIn, RunWithin, Clear, oneIf};
 
 pub mod left;
 pub mod seating;
 
 use clock::Clock;
-use clock::DOTS;
-use parts::WAITING;
+use limits::DOTS;
+use limits::WAITING;
 use queued::Queue;
 
 // A waiting removal of a result: in the first of two images or in the second, where its dots stand, and which are left.
@@ -60,7 +62,7 @@ pub struct Plan {
 
 // Whether a list's next removal is in turn beside another list's, each if there is one.
 fn in_turn(s: &[u8], mine: bool, x: Held, t: &[u8], yours: bool, y: Held) -> bool
-    requires { ⌜ (mine ≡ true → Within (now s) x) × (yours ≡ true → Within (now t) y) ⌝ }
+    requires { ⌜ (mine ≡ true → RunWithin (now s) x) × (yours ≡ true → RunWithin (now t) y) ⌝ }
     ensures { λ r. ⌜ r ≡ mine && not (yours && clockBefore (leftIn (now (t .entry)) y) (leftIn (now (s .entry)) x)) ⌝ }
 {
     if mine {
@@ -110,7 +112,7 @@ fn place(i: usize) -> usize
 // One more where it is in turn.
 fn passed(i: usize, turn: bool) -> usize
     requires { ⌜ i < waitingLimit + waitingLimit ⌝ }
-    ensures { λ r. ⌜ r ≡ i + step turn ⌝ }
+    ensures { λ r. ⌜ r ≡ i + oneIf turn ⌝ }
 {
     if turn { i + 1 } else { i }
 }
@@ -169,7 +171,8 @@ pub fn join_plan(s: &[u8], q: Queue, t: &[u8], p: Queue, seen: Clock) -> Plan
 // The plan of a queue that was reset.
 pub fn reset_plan(s: &[u8], q: Queue, by: Clock) -> Plan
     requires { ⌜ ((w : List Removal) × Queued (now s) q w) × Lawful (dotsOf by) ⌝ }
-    ensures { λ r. ⌜ ((t : List ℕ) (w : List Removal) → Queued (now (s .entry)) q w → ValidWaiting w → Plans (now (s .entry)) t w [] (resetWaiting (dotsOf by) w) r) ⌝ }
+    ensures { λ r. ⌜ ((t : List ℕ) (w : List Removal) → Queued (now (s .entry)) q w → ValidWaiting w
+        → Plans (now (s .entry)) t w [] (resetWaiting (dotsOf by) w) r) ⌝ }
 {
     let all = seating::cut_all(s, q, by);
     let ours = seating::seats(s, q, by, all);
@@ -201,8 +204,8 @@ pub fn count_dots(p: Plan) -> usize
 
 // Writes what is left of a removal's dots as those at an index; answers the place behind them.
 fn write_held(out: &mut [u8], at: usize, index: u8, s: &[u8], t: &[u8], x: Held) -> usize
-    requires { ⌜ Within (heldIn (now s) (now t) x) x × (at + length (dotsLeft (now s) (now t) x) * 16 ≤ length (now out)) ⌝ }
-    ensures { λ next. ⌜ Wrote at (bytesOf (dotRecords 5 index 0 (dotsLeft (now (s .entry)) (now (t .entry)) x)))
+    requires { ⌜ RunWithin (heldIn (now s) (now t) x) x × (at + length (dotsLeft (now s) (now t) x) * 16 ≤ length (now out)) ⌝ }
+    ensures { λ next. ⌜ Wrote at (bytesOf (dotRecords waitingDotKind index 0 (dotsLeft (now (s .entry)) (now (t .entry)) x)))
         (now (out .entry)) (now (out .exit)) next ⌝ }
 {
     if x.second {
@@ -213,8 +216,10 @@ fn write_held(out: &mut [u8], at: usize, index: u8, s: &[u8], t: &[u8], x: Held)
 
 // Writes the dots of a result's waiting removals; answers the place behind them.
 pub fn write_clocks(out: &mut [u8], at: usize, s: &[u8], t: &[u8], p: Plan) -> usize
-    requires { ⌜ (p .over ≡ false) × ((w v result : List Removal) × Plans (now s) (now t) w v result p × (at + length (flatFrom waitingDots 0 result) * 16 ≤ length (now out))) ⌝ }
-    ensures { λ next. ⌜ ((w v result : List Removal) → Plans (now (s .entry)) (now (t .entry)) w v result p → at + length (flatFrom waitingDots 0 result) * 16 ≤ length (now (out .entry))
+    requires { ⌜ (p .over ≡ false) × ((w v result : List Removal) × Plans (now s) (now t) w v result p
+        × (at + length (flatFrom waitingDots 0 result) * 16 ≤ length (now out))) ⌝ }
+    ensures { λ next. ⌜ ((w v result : List Removal) → Plans (now (s .entry)) (now (t .entry)) w v result p
+        → at + length (flatFrom waitingDots 0 result) * 16 ≤ length (now (out .entry))
         → Wrote at (bytesOf (flatFrom waitingDots 0 result)) (now (out .entry)) (now (out .exit)) next) ⌝ }
 {
     let n = queued::places(p.len);

@@ -7,17 +7,18 @@ ghost use lib.ListN.{length, take, drop, getD};
 ghost use Rattle.clock.specs.declared.Dot.{Dot};
 ghost use Rattle.clock.specs.Dots.{dotsOf};
 ghost use Rattle.clock.specs.Lawful.{Lawful};
-ghost use Rattle.parts.specs.declared.Removal.{Removal};
-ghost use Rattle.parts.specs.Model.{waitingLimit, underOf};
-ghost use Rattle.parts.specs.Waits.{cutRemoval};
+ghost use Rattle.removals.specs.declared.Removal.{Removal};
+ghost use Rattle.limits.specs.Limits.{waitingLimit};
+ghost use Rattle.removals.specs.Model.{underOf};
+ghost use Rattle.removals.specs.Waits.{cutRemoval};
 ghost use Rattle.queued.specs.Queue.{Queued};
 ghost use Rattle.planned.specs.Left.{Left, Lined};
-ghost use Rattle.planned.specs.Seats.{seatOf, insertClock, gatherAll, placeOf};
+ghost use Rattle.planned.specs.Seats.{seatOf, insertClock, gatherAll, placeAmong};
 use crate::Held;
 use crate::Ordered;
 use crate::left;
 use clock::Clock;
-use parts::WAITING;
+use limits::WAITING;
 use queued::Queue;
 
 // How many stand before one, from the first on.
@@ -121,7 +122,7 @@ pub fn cut_all(s: &[u8], q: Queue, by: Clock) -> Ordered
 pub fn seats(s: &[u8], q: Queue, by: Clock, all: Ordered) -> [u8; WAITING]
     requires { ⌜ ((w : List Removal) × Queued (now s) q w) × (((l : List (List Dot)) × Lined (now s) all l) × Lawful (dotsOf by)) ⌝ }
     ensures { λ r. ⌜ ((w : List Removal) (l : List (List Dot)) → Queued (now (s .entry)) q w → Lined (now (s .entry)) all l
-        → (a : ℕ) → a < waitingLimit → getD r a waitingLimit ≡ placeOf l (getD (map underOf (map (cutRemoval (dotsOf by)) w)) a [])) ⌝ }
+        → (a : ℕ) → a < waitingLimit → getD r a waitingLimit ≡ placeAmong l (getD (map underOf (map (cutRemoval (dotsOf by)) w)) a [])) ⌝ }
 {
     let n = queued::places(q.len);
     let mut out: [u8; WAITING] = [WAITING as u8; WAITING];

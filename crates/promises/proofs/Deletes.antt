@@ -6,17 +6,19 @@ use Prim.Native.Nat.{ℕ, _+_, _-_, _≤_}
 use native.Mathlib.Omega.{arith}
 use borrow.Author.Tests.{eqb-true}
 use lib.ListN.{length}
-use Rattle.lists.specs.Sift.{sift}
-use Rattle.lists.specs.Order.{_∈_}
+use Rattle.listlaws.specs.Sift.{sift}
+use Rattle.listlaws.specs.Order.{_∈_}
 use Rattle.clock.specs.declared.Dot.{Dot}
 use Rattle.clock.specs.Dots.{isEmpty, cutDots, cutOf}
 use Rattle.clock.proofs.Packs.{cut-deleted}
-use Rattle.parts.specs.declared.Entry.{Entry}
-use Rattle.parts.specs.declared.Removal.{Removal}
-use Rattle.parts.specs.Model.{dotsIn, underOf, listedIn}
-use Rattle.parts.specs.Entries.{stays, cutEntry, listed, removeFrom, removeEntries}
-use Rattle.parts.proofs.Pieces.{entries-of}
-use Rattle.parts.proofs.Cuts.{cut-dots}
+use Rattle.entries.specs.declared.Entry.{Entry}
+use Rattle.removals.specs.declared.Removal.{Removal}
+use Rattle.entries.specs.Model.{dotsIn}
+use Rattle.removals.specs.Model.{underOf, listedIn}
+use Rattle.entries.specs.Entries.{stays, cutEntry, removeFrom, removeEntries}
+use Rattle.removals.specs.Waits.{listed}
+use Rattle.entries.proofs.Packs.{entries-of}
+use Rattle.entries.proofs.Cuts.{cut-dots}
 use Rattle.map.specs.declared.Map.{Map}
 use Rattle.map.specs.declared.Op.{Op}
 use Rattle.map.specs.Model.{entriesIn}
@@ -24,7 +26,7 @@ use Rattle.map.specs.Removing.{remove}
 use Rattle.map.specs.Applying.{apply}
 use Rattle.map.specs.Resetting.{reset}
 use Rattle.scan.proofs.Eachs.{decide}
-use Rattle.answers.specs.Sizes.{totalOf}
+use Rattle.listlaws.specs.Fold.{totalOf}
 use Rattle.answers.proofs.Totals.{total-sum, total-same, total-none}
 use Rattle.promises.specs.Deleted.{entryDots, applyDeletes, resetDeletes}
 
@@ -106,7 +108,7 @@ module _ (m : Map) (op : Op) (f : op .up ≡ false) where
   pub apply-cuts : applyDeletes m op ≡ totalOf (removedAway (op .removal)) (entriesIn m)
   apply-cuts = let e = removal-deletes m (op .removal) in let q = ap entryDots removes in omega (arith, counted)
 
-  -- "a removal that only waits": one that has seen no dot of an entry that it lists
+  -- an end theorem: "a removal that only waits", one that has seen no dot of an entry that it lists
   pub only-waits : ((e : Entry) → e ∈ entriesIn m → listed (listedIn (op .removal)) (e .key) ≡ true
       → cutDots (underOf (op .removal)) (dotsIn e) ≡ dotsIn e) → applyDeletes m op ≡ 0
   only-waits h = apply-cuts ∙ total-none (removedAway (op .removal)) (entriesIn m) none
@@ -118,6 +120,7 @@ pub reset-counts : (m : Map) (c : List Dot) → entryDots (reset m c) + resetDel
 unfolding resetDeletes
 reset-counts m c = let e = reset-leaves m c in omega arith
 
+-- an end theorem, as `apply-cuts`: what is counted is what the cuts delete
 pub reset-cuts : (m : Map) (c : List Dot) → resetDeletes m c ≡ totalOf (cutAway c) (entriesIn m)
 unfolding resetDeletes
 reset-cuts m c = let e = reset-deletes m c in omega arith

@@ -3,14 +3,15 @@ use mathlib.Core.Path.{_≡_}
 use mathlib.Core.List.{List}
 use Prim.Native.Nat.{ℕ}
 use Rattle.clock.specs.declared.Clock.{Clock}
-use Rattle.answers.proofs.Answers.{same, Same, same-answer, same-count}
+use Rattle.answers.proofs.Answers.{same, same-answer, same-count, Written}
 use Rattle.delivery.proofs.Whole.{SameEnd, same-end}
-use Rattle.promises.specs.Promises.{ApplyPromise, MergePromise, ResetRemovePromise, UpdatePromise, RmGetPromise, RmReadCtxPromise, GetPromise, LenPromise, LenCountPromise, ValidateOpPromise, ValidateOpStartPromise, ValidateOpEndPromise, ValidateMergePromise, ValidateMergeActorPromise, ValidateMergeCounterPromise, ValidateMergeOurKeyPromise, ValidateMergeTheirKeyPromise, ApplyDeletedPromise, ResetRemoveDeletedPromise, ClockAdvancePromise, PiecesBeginPromise, PiecesTakePromise, PiecesEndPromise}
+use Rattle.promises.specs.Promises.{ApplyPromise, MergePromise, ResetRemovePromise, UpdatePromise, RmGetPromise, RmReadCtxPromise, GetPromise}
+use Rattle.promises.specs.Promises.{LenPromise, LenCountPromise, ValidateOpPromise, ValidateOpStartPromise, ValidateOpEndPromise}
+use Rattle.promises.specs.Promises.{ValidateMergePromise, ValidateMergeActorPromise, ValidateMergeCounterPromise, ValidateMergeOurKeyPromise}
+use Rattle.promises.specs.Promises.{ValidateMergeTheirKeyPromise, ApplyDeletedPromise, ResetRemoveDeletedPromise, ClockAdvancePromise}
+use Rattle.promises.specs.Promises.{PiecesBeginPromise, PiecesTakePromise, PiecesEndPromise}
 
--- a call with an output, one with a number alone, and one that leaves something lent beside its number
-abbrev Written : (List ℕ → List ℕ → ℕ → Type 0) → Type 0
-Written Promise = (out d e : List ℕ) (r s : ℕ) → Promise out d r → Promise out e s → Same d e r s
-
+-- a call with a number alone, and one that leaves something lent beside its number
 abbrev Numbered : (ℕ → Type 0) → Type 0
 Numbered Promise = (r s : ℕ) → Promise r → Promise s → r ≡ s
 
@@ -40,8 +41,10 @@ pub record Determined : Type 0 where
   pub clock-advance : (clock : Clock) (actor counter : ℕ) → Lent (ClockAdvancePromise clock actor counter)
   pub pieces-begin : (reader : List ℕ) → Lent (PiecesBeginPromise reader)
   pub pieces-take : (reader piece : List ℕ) → Lent (PiecesTakePromise reader piece)
-  pub pieces-end : (reader out v w d e : List ℕ) (r s : ℕ) → PiecesEndPromise reader out v d r → PiecesEndPromise reader out w e s → SameEnd v w d e r s
+  pub pieces-end : (reader out v w d e : List ℕ) (r s : ℕ) → PiecesEndPromise reader out v d r → PiecesEndPromise reader out w e s
+      → SameEnd v w d e r s
 
+-- the end theorem of every call
 pub determined : Determined
 determined = record {
   apply = λ map op out d e r s p q. same-answer p q;

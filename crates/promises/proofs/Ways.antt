@@ -1,14 +1,12 @@
 -- The ways out of the calls: an image is refused, a map or an operation is answered, or dots are counted.
-use mathlib.Core.Path.{_≡_, refl, sym, _∙_}
+use mathlib.Core.Path.{_≡_, refl, _∙_}
 use mathlib.Core.List.{List}
 use Prim.Native.Nat.{ℕ, _*_, _^_, _≤_, _<_}
 use native.Mathlib.Omega.{arith}
-use borrow.Author.Tests.{ne-eqb, eqb-true, eqb-false}
+use borrow.Author.Tests.{ne-eqb}
 use lib.Dec.{eqb}
 use lib.ListN.{length}
 use Rattle.map.specs.declared.Judged.{Judged}
-use Rattle.map.specs.declared.Map.{Map}
-use Rattle.map.specs.Judging.{overNumber, judged}
 use Rattle.asking.specs.declared.Made.{Made}
 use Rattle.opimage.specs.OpImage.{opImage}
 use Rattle.mapimage.specs.MapImage.{mapImage}
@@ -16,15 +14,6 @@ use Rattle.scan.proofs.Eachs.{decide}
 use Rattle.answers.specs.Answer.{Answer, firstOf, numberOf, Answered, Counted}
 use Rattle.answers.proofs.Answers.{number-first, number-second, number-own, number-short, number-done, refuses, passes}
 use Rattle.promises.specs.Calls.{mapAnswer, opAnswer}
-
--- a judged map
-pub judged-number : (m : Map) → judged m .number ≡ overNumber m
-unfolding judged
-judged-number m = decide (eqb (overNumber m) 0) (λ t. rw t (sym (eqb-true (overNumber m) 0 t))) (λ f. rw f refl)
-
-pub judged-map : (m : Map) → judged m .number ≡ 0 → judged m .map ≡ m
-unfolding judged
-judged-map m z = decide (eqb (overNumber m) 0) (λ t. rw t refl) (λ f. absurd (eqb-false (overNumber m) 0 f (sym (judged-number m) ∙ z)))
 
 -- an image is refused
 module _ (a : Answer) (o : List ℕ) {n w : ℕ} where

@@ -38,7 +38,8 @@ abbrev pub mergeAnswer : List ℕ → List ℕ → Answer
 mergeAnswer map other = mapAnswer (readMap map .number) (readMap other .number) (judged (merge (readMap map .map) (readMap other .map)))
 
 abbrev pub resetAnswer : List ℕ → List ℕ → Answer
-resetAnswer map clock = mapAnswer (readMap map .number) (readClock clock .number) (judged (reset (readMap map .map) (dotsOf (readClock clock .clock))))
+resetAnswer map clock = mapAnswer (readMap map .number) (readClock clock .number)
+    (judged (reset (readMap map .map) (dotsOf (readClock clock .clock))))
 
 -- making an operation: of a value and its origin
 abbrev pub given : ℕ → ℕ → Content
@@ -64,11 +65,11 @@ abbrev pub countOf : List ℕ → ℕ
 countOf map = count (readMap map .map)
 
 -- validating an operation
-abbrev pub orderOf : List ℕ → List ℕ → CmRDTValidation
-orderOf map op = validateOp (readMap map .map) (readOp op .op)
+abbrev pub opValidation : List ℕ → List ℕ → CmRDTValidation
+opValidation map op = validateOp (readMap map .map) (readOp op .op)
 
 abbrev pub orderAnswer : List ℕ → List ℕ → Answer
-orderAnswer map op = bareAnswer (readMap map .number) (readOp op .number) (orderNumber (orderOf map op))
+orderAnswer map op = bareAnswer (readMap map .number) (readOp op .number) (orderNumber (opValidation map op))
 
 -- validating a merge
 abbrev pub spentOf : List ℕ → List ℕ → CvRDTValidation

@@ -5,8 +5,8 @@ use Prim.Native.Nat.{ℕ, _-_}
 use lib.ListN.{length}
 use Rattle.clock.specs.declared.Dot.{Dot}
 use Rattle.clock.specs.Dots.{dotsOf}
-use Rattle.parts.specs.declared.Entry.{Entry}
-use Rattle.parts.specs.Model.{dotsIn}
+use Rattle.entries.specs.declared.Entry.{Entry}
+use Rattle.entries.specs.Model.{dotsIn}
 use Rattle.map.specs.declared.Map.{Map}
 use Rattle.map.specs.declared.Op.{Op}
 use Rattle.map.specs.Model.{entriesIn}
@@ -15,7 +15,7 @@ use Rattle.map.specs.Resetting.{reset}
 use Rattle.clockimage.specs.ClockImage.{readClock}
 use Rattle.opimage.specs.OpImage.{readOp}
 use Rattle.maprecords.specs.Related.{readMap}
-use Rattle.answers.specs.Sizes.{totalOf}
+use Rattle.listlaws.specs.Fold.{totalOf}
 
 -- "the dots in all entry clocks"
 abbrev pub dotsAmong : List Entry → ℕ

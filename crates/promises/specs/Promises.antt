@@ -9,7 +9,8 @@ use Rattle.advance.specs.Advancing.{advancedOf}
 use Rattle.mailbox.specs.Machine.{begun, takeWord, takeIn}
 use Rattle.delivery.specs.Delivery.{Ended}
 use Rattle.promises.specs.Deleted.{applyDeleted, resetDeleted}
-use Rattle.promises.specs.Calls.{applyAnswer, mergeAnswer, resetAnswer, updateAnswer, rmGetAnswer, rmReadCtxAnswer, getAnswer, lenAnswer, countOf, orderOf, orderAnswer, spentOf, spentAnswer, spentActor, spentCounter, spentOurs, spentTheirs}
+use Rattle.promises.specs.Calls.{applyAnswer, mergeAnswer, resetAnswer, updateAnswer, rmGetAnswer, rmReadCtxAnswer, getAnswer, lenAnswer}
+use Rattle.promises.specs.Calls.{countOf, opValidation, orderAnswer, spentOf, spentAnswer, spentActor, spentCounter, spentOurs, spentTheirs}
 
 -- calls with an output: of what they are given and the output at entry, the output at exit and the word
 module _ (map other entry exit : List ℕ) (word : ℕ) where
@@ -48,10 +49,10 @@ module _ (map op : List ℕ) (word : ℕ) where
   ValidateOpPromise = word ≡ wordOf (orderAnswer map op) []
 
   abbrev pub ValidateOpStartPromise : Type 0
-  ValidateOpStartPromise = word ≡ carriedOf 11 (orderAnswer map op) (orderStart (orderOf map op))
+  ValidateOpStartPromise = word ≡ carriedOf 11 (orderAnswer map op) (orderStart (opValidation map op))
 
   abbrev pub ValidateOpEndPromise : Type 0
-  ValidateOpEndPromise = word ≡ carriedOf 11 (orderAnswer map op) (orderEnd (orderOf map op))
+  ValidateOpEndPromise = word ≡ carriedOf 11 (orderAnswer map op) (orderEnd (opValidation map op))
 
 module _ (map other : List ℕ) (word : ℕ) where
   abbrev pub ValidateMergePromise : Type 0

@@ -1,11 +1,20 @@
 // The file of cases that replay makes: decimal numbers in a fixed order, and between them whatever helps a reader.
 use clock::Clock;
 use clock::Dot;
+use limits::DOTS;
+use limits::ENTRIES;
+use limits::KEYS;
+use limits::VALUES;
+use limits::WAITING;
+use records::CLOCK_DOT;
 use records::Record;
 use std::num::wrapping_add_u64;
 
-// The records that a buffer has room for, some more than the longest map has, and their bytes.
-pub const RECORDS: usize = 1812;
+// The records that a buffer has room for, a dozen more than the longest map has, and their bytes.
+pub const RECORDS: usize = DOTS
+    + ENTRIES * (DOTS + VALUES * (1 + DOTS))
+    + WAITING * (DOTS + KEYS)
+    + 12;
 
 pub const BUFFER: usize = RECORDS * 16;
 
@@ -151,7 +160,7 @@ fn dot(image: &[u8; BUFFER], place: usize) -> Dot {
 fn put(out: &mut [u8; BUFFER], place: usize, d: Dot) {
     let at = (place % 9) * 16;
     let record = Record {
-        kind: 1,
+        kind: CLOCK_DOT,
         index: 0,
         actor: d.actor,
         key: 0,

@@ -7,10 +7,10 @@ use native.Mathlib.Omega.{arith}
 use lib.Dec.{leb}
 use lib.ListN.{getD, drop}
 use borrow.Author.Tests.{ltb-true, leb-true, leb-false, le-leb, lt-leb}
-use Rattle.lists.specs.Order.{_∈_, Ascending, by}
-use Rattle.lists.specs.Sift.{sift, those}
-use Rattle.lists.proofs.Orders.{tail-ascends, head-before}
-use Rattle.lists.proofs.Those.{those-same, those-holds}
+use Rattle.listlaws.specs.Order.{_∈_, Ascending, by}
+use Rattle.listlaws.specs.Sift.{sift, those}
+use Rattle.listlaws.proofs.Orders.{tail-ascends, head-before}
+use Rattle.listlaws.proofs.Those.{those-same, those-holds}
 use Rattle.scan.proofs.Eachs.{decide}
 
 -- x is the first number from `low` on, and `rest` are those behind it
@@ -28,7 +28,8 @@ first-of low (z ∷ l) {x} {rest} a e =
     (λ t. let q = rw t at e in
     let same : x ≡ z = ap (λ k. getD k 0 0) q in
     let low-is = leb-true low z t in
-    let after : rest ≡ those (leb (x + 1)) l = ap (drop 1) q ∙ those-same (leb low) (leb (x + 1)) l (λ y i. let k = ltb-true z y (head-before a y i) in le-leb low y (omega arith) ∙ sym (le-leb (x + 1) y (omega arith))) in
+    let after : rest ≡ those (leb (x + 1)) l = ap (drop 1) q ∙ those-same (leb low) (leb (x + 1)) l
+    (λ y i. let k = ltb-true z y (head-before a y i) in le-leb low y (omega arith) ∙ sym (le-leb (x + 1) y (omega arith))) in
     record {
       stands = List·Memᴰ·head same;
       above = omega arith;

@@ -9,41 +9,46 @@ use lib.Dec.{eqb, ltb, leb}
 use lib.ListN.{length, length-append, drop, getD, set, replicate, getD-replicate}
 use lib.Seq.{getD-set-same, getD-set-other, drop-cons}
 use borrow.Author.Tests.{ltb-true, ltb-false, leb-true, lt-ltb, le-ltb, eqb-true, eqb-false}
-use Rattle.lists.specs.Order.{Ascending, nil, by}
-use Rattle.lists.specs.First.{firstIn, some}
-use Rattle.lists.specs.Sift.{those}
-use Rattle.lists.proofs.Orders.{apart}
-use Rattle.lists.proofs.Rests.{drop-end}
-use Rattle.lists.proofs.Those.{those-none}
+use Rattle.listlaws.specs.Order.{Ascending, nil, by}
+use Rattle.listlaws.specs.First.{firstIn, some}
+use Rattle.listlaws.specs.Sift.{those}
+use Rattle.listlaws.proofs.Orders.{apart}
+use Rattle.listlaws.proofs.Rests.{drop-end}
+use Rattle.listlaws.proofs.Those.{those-none}
 use Rattle.scan.proofs.Eachs.{decide}
-use Rattle.parts.specs.declared.Removal.{Removal}
-use Rattle.parts.specs.Model.{waitingLimit, keyLimit, noRemoval, listedIn, overlong}
-use Rattle.parts.specs.Entries.{listed}
-use Rattle.parts.proofs.Waits.{listed-means, listed-holds}
+use Rattle.removals.specs.declared.Removal.{Removal}
+use Rattle.limits.specs.Limits.{waitingLimit, keyLimit}
+use Rattle.removals.specs.Model.{noRemoval, listedIn}
+use Rattle.removals.specs.Counted.{overlong}
+use Rattle.removals.specs.Waits.{listed}
+use Rattle.removals.proofs.Unions.{listed-means, listed-holds}
 use Rattle.mapimage.specs.MapImage.{keyNumber, numberRecord, waitingKeys}
 use Rattle.mapimage.proofs.Sorts.{from-start}
-use Rattle.oneimage.proofs.Stands.{place-get, place-in}
+use Rattle.oneimagelaws.proofs.Stands.{place-get, place-in}
 use Rattle.queued.specs.declared.Row.{Row}
 use Rattle.queued.specs.Queue.{lists, Marked, Keyed}
-use Rattle.queued.specs.Planned.{Sound, Moves}
-use Rattle.queued.specs.Rowed.{RowLies, rowRecords, tally, keysAt}
+use Rattle.queued.specs.Planned.{SoundRemovals, Moves}
+use Rattle.queued.specs.Rowed.{RowLies, rowRecords, oneIfMarked, keysAt}
 use Rattle.queued.proofs.Ahead.{none-between}
 use Rattle.queued.proofs.Marking.{getD-past, numbersOf}
 use Rattle.queued.proofs.Rowing.{first-there, row-next, key-gone, none-left}
 
 -- the next key of a set adds one where the set has it
-pub key-counted : (low key : ℕ) (l : List ℕ) → Ascending (by (λ k. k)) l → low ≤ key → ((k : ℕ) → listed l k ≡ true → low ≤ k → key ≤ k) → (b : Bool) → b ≡ listed l key
+pub key-counted : (low key : ℕ) (l : List ℕ) → Ascending (by (λ k. k)) l → low ≤ key → ((k : ℕ) → listed l k ≡ true → low ≤ k → key ≤ k) → (b : Bool)
+    → b ≡ listed l key
     → length (those (leb low) l) ≡ cond b 1 0 + length (those (leb (key + 1)) l)
 key-counted low key l a h none b e =
     ap length (none-between low key l h (λ y i g z. let k = none y (listed-holds i) g in omega arith))
     ∙ decide b
     (λ t. rw t (let q = ap length (first-there key l a (listed-means l key (sym e ∙ t))) in omega arith))
-    (λ f. rw f (let q = ap length (none-between key (key + 1) l (omega arith) (λ y i g z. let s : y ≡ key = omega arith in apart (sym (rw s at (listed-holds i)) ∙ sym e ∙ f))) in omega arith))
+    (λ f. rw f (let q = ap length (none-between key (key + 1) l (omega arith) (λ y i g z. let s : y ≡ key = omega arith in
+    apart (sym (rw s at (listed-holds i)) ∙ sym e ∙ f))) in omega arith))
 
 -- the keys of each place ascend
-pub keys-ascend : (result : List Removal) → Sound result → (p : ℕ) → Ascending (by (λ k. k)) (keysAt result p)
+pub keys-ascend : (result : List Removal) → SoundRemovals result → (p : ℕ) → Ascending (by (λ k. k)) (keysAt result p)
 keys-ascend result sound p =
-    decide (ltb p (length result)) (λ t. sound (getD result p noRemoval) (place-in (place-get result p noRemoval (ltb-true p (length result) t))) .keys)
+    decide (ltb p (length result)) (λ t. sound (getD result p noRemoval)
+    (place-in (place-get result p noRemoval (ltb-true p (length result) t))) .keys)
     (λ f. rw (getD-past result p noRemoval (ltb-false p (length result) f)) nil)
 
 -- so many keys of each removal are below `low`
@@ -54,20 +59,29 @@ pub tally-start : (result : List Removal) → Tallied result 0 (replicate waitin
 tally-start result = record { each = λ p h. rw (getD-replicate {A = ℕ} waitingLimit p 0 0 h, from-start (keysAt result p)) (omega arith) }
 
 module _ {result : List Removal} {low : ℕ} {counts : List ℕ} (k : Tallied result low counts) where
-  pub tally-on : Sound result → {key : ℕ} {under : List Bool} → low ≤ key → ((j k : ℕ) → j < waitingLimit → lists result j k ≡ true → low ≤ k → key ≤ k) → Marked result key under
-      → {more : List ℕ} → ((p : ℕ) → p < waitingLimit → getD more p 0 ≡ getD counts p 0 + tally under p) → Tallied result (key + 1) more
+  pub tally-on : SoundRemovals result → {key : ℕ} {under : List Bool} → low ≤ key
+      → ((j k : ℕ) → j < waitingLimit → lists result j k ≡ true → low ≤ k → key ≤ k) → Marked result key under
+      → {more : List ℕ} → ((p : ℕ) → p < waitingLimit → getD more p 0 ≡ getD counts p 0 + oneIfMarked under p) → Tallied result (key + 1) more
   tally-on sound {key} {under} h none marked f = record {
-    each = λ p g. omega (arith, k .each p g, f p g, key-counted low key (keysAt result p) (keys-ascend result sound p) h (λ y t z. none p y g t z) (getD under p false) (marked .each p g));
+    each = λ p g. omega (
+      arith,
+      k .each p g,
+      f p g,
+      key-counted low key (keysAt result p) (keys-ascend result sound p) h (λ y t z. none p y g t z)
+          (getD under p false) (marked .each p g),
+    );
   }
 
-  pub tally-end : ((j k : ℕ) → j < waitingLimit → lists result j k ≡ true → low ≤ k → ⊥) → (p : ℕ) → p < waitingLimit → getD counts p 0 ≡ length (keysAt result p)
+  pub tally-end : ((j k : ℕ) → j < waitingLimit → lists result j k ≡ true → low ≤ k → ⊥) → (p : ℕ) → p < waitingLimit
+      → getD counts p 0 ≡ length (keysAt result p)
   tally-end none p g =
-      let e = those-none (leb low) (keysAt result p) (λ y i. decide (leb low y) (λ t. absurd (none p y g (listed-holds i) (leb-true low y t))) (λ f. f)) in
+      let e = those-none (leb low) (keysAt result p) (λ y i. decide (leb low y) (λ t. absurd (none p y g (listed-holds i) (leb-true low y t)))
+      (λ f. f)) in
       omega (arith, k .each p g, ap length e)
 
 -- the marks below a place have been added
 pub record Adding (under : List Bool) (counts : List ℕ) (i : ℕ) (out : List ℕ) : Type 0 where
-  pub done : (p : ℕ) → p < i → getD out p 0 ≡ getD counts p 0 + tally under p
+  pub done : (p : ℕ) → p < i → getD out p 0 ≡ getD counts p 0 + oneIfMarked under p
   pub left : (p : ℕ) → i ≤ p → getD out p 0 ≡ getD counts p 0
 
 module _ {under : List Bool} {counts : List ℕ} where
@@ -81,13 +95,14 @@ module _ {under : List Bool} {counts : List ℕ} where
 
     pub add-not : getD under i false ≡ false → Adding under counts (i + 1) out
     add-not f = record {
-      done = last (λ p. getD out p 0 ≡ getD counts p 0 + tally under p) (rw f (let e = a .left i (omega arith) in omega arith)) (a .done);
+      done = last (λ p. getD out p 0 ≡ getD counts p 0 + oneIfMarked under p) (rw f (let e = a .left i (omega arith) in omega arith)) (a .done);
       left = λ p h. a .left p (omega arith);
     }
 
     pub add-one-more : getD under i false ≡ true → i < length out → {x : ℕ} → x ≡ getD out i 0 + 1 → Adding under counts (i + 1) (set out i x)
     add-one-more t room {x} e = record {
-      done = last (λ p. getD (set out i x) p 0 ≡ getD counts p 0 + tally under p) (rw t (getD-set-same out i x 0 room ∙ (let q = a .left i (omega arith) in omega arith)))
+      done = last (λ p. getD (set out i x) p 0 ≡ getD counts p 0 + oneIfMarked under p)
+          (rw t (getD-set-same out i x 0 room ∙ (let q = a .left i (omega arith) in omega arith)))
           (λ p h. getD-set-other out i p x 0 (λ q. omega arith) ∙ a .done p h);
       left = λ p h. getD-set-other out i p x 0 (λ q. omega arith) ∙ a .left p (omega arith);
     }
@@ -123,15 +138,22 @@ module _ {s : List ℕ} {n : ℕ} {t : List ℕ} {m : ℕ} {w v result : List Re
   count-start a b = record { low = 0; first = a; second = b; left = rw (from-start (numbersOf result)) (omega arith); tallied = tally-start result }
 
   module _ {i j total : ℕ} {counts : List ℕ} (k : KeysCounting s n t m w v result i j total counts) (few : length result ≤ waitingLimit) where
-    pub count-on : Sound result → {r : Row} → RowLies s n t m (k .low) w v result r → {c : ℕ} → c ≡ length (rowRecords (r .key) 0 (r .under))
-        → {more : List ℕ} → ((p : ℕ) → p < waitingLimit → getD more p 0 ≡ getD counts p 0 + tally (r .under) p) → KeysCounting s n t m w v result (r .i) (r .j) (total + c) more
+    pub count-on : SoundRemovals result → {r : Row} → RowLies s n t m (k .low) w v result r → {c : ℕ} → c ≡ length (rowRecords (r .key) 0 (r .under))
+        → {more : List ℕ} → ((p : ℕ) → p < waitingLimit → getD more p 0 ≡ getD counts p 0 + oneIfMarked (r .under) p)
+        → KeysCounting s n t m w v result (r .i) (r .j) (total + c) more
     count-on sound {r} lies {c} e f =
         let parts = row-next result few (k .low) (r .key) (r .under) (lies .whole) (lies .above) (lies .none) (lies .marked) in
         record {
           low = r .key + 1;
           first = lies .first;
           second = lies .second;
-          left = k .left ∙ omega (arith, ap length parts, length-append (rowRecords (r .key) 0 (r .under)) (map numberRecord (those (leb (keyNumber 0 (r .key + 1))) (numbersOf result))), e);
+          left = k .left ∙ omega (
+            arith,
+            ap length parts,
+            length-append (rowRecords (r .key) 0 (r .under))
+                (map numberRecord (those (leb (keyNumber 0 (r .key + 1))) (numbersOf result))),
+            e,
+          );
           tallied = tally-on (k .tallied) sound (lies .above) (lies .none) (lies .marked) f;
         }
 
@@ -143,5 +165,6 @@ module _ {s : List ℕ} {n : ℕ} {t : List ℕ} {m : ℕ} {w v result : List Re
       each-end = tally-end (k .tallied) (key-gone (k .low) (k .first) (k .second) mv f)
 
 -- a mark adds one at most
-pub tally-most : (under : List Bool) (p c m : ℕ) {x : ℕ} → c ≤ m → x ≡ c + tally under p → x ≤ m + 1
-tally-most under p c m {x} h e = decide (getD under p false) (λ t. let q : x ≡ c + 1 = rw t at e in omega arith) (λ f. let q : x ≡ c + 0 = rw f at e in omega arith)
+pub tally-most : (under : List Bool) (p c m : ℕ) {x : ℕ} → c ≤ m → x ≡ c + oneIfMarked under p → x ≤ m + 1
+tally-most under p c m {x} h e = decide (getD under p false) (λ t. let q : x ≡ c + 1 = rw t at e in omega arith)
+    (λ f. let q : x ≡ c + 0 = rw f at e in omega arith)

@@ -5,15 +5,15 @@ use mathlib.Core.List.{List}
 use Prim.Native.Nat.{ℕ, _+_, _≤_, _<_}
 use lib.ListN.{length, take, getD}
 use lib.Seq.{take-length}
-use Rattle.lists.specs.Fold.{fold}
-use Rattle.lists.proofs.Folding.{Folding, folding-on, folding-end}
+use Rattle.listlaws.specs.Fold.{fold}
+use Rattle.listlaws.proofs.Folding.{Folding, folding-on, folding-end}
 use Rattle.clock.specs.declared.Clock.{Clock}
 use Rattle.clock.specs.declared.Dot.{Dot}
 use Rattle.clock.specs.Dots.{dotsOf, clockOf, cutDots}
 use Rattle.clock.proofs.Packs.{dots-of}
-use Rattle.parts.specs.declared.Removal.{Removal}
-use Rattle.parts.specs.Model.{noRemoval, underOf, listedIn}
-use Rattle.parts.specs.Entries.{listed}
+use Rattle.removals.specs.declared.Removal.{Removal}
+use Rattle.removals.specs.Model.{noRemoval, underOf, listedIn}
+use Rattle.removals.specs.Waits.{listed}
 use Rattle.queued.specs.Queue.{cutsFor, lists}
 
 module _ (w : List Removal) (key : ℕ) where
@@ -28,7 +28,8 @@ module _ (w : List Removal) (key : ℕ) where
     here : i < length (take (length w) w)
     here = rw (take-length w) h
 
-    pub cut-on : {by next : Clock} → by ≡ clockOf (underOf (getD w i noRemoval)) → lists w i key ≡ true → next ≡ clockOf (cutDots (dotsOf by) (dotsOf out)) → Cutting d (i + 1) next
+    pub cut-on : {by next : Clock} → by ≡ clockOf (underOf (getD w i noRemoval)) → lists w i key ≡ true
+        → next ≡ clockOf (cutDots (dotsOf by) (dotsOf out)) → Cutting d (i + 1) next
     cut-on b t n = folding-on noRemoval f here (λ s p. n ∙ rw t (ap clockOf (ap₂ cutDots (dots-of (underOf (getD w i noRemoval)) b) (dots-of s p))))
 
     pub cut-not : lists w i key ≡ false → Cutting d (i + 1) out

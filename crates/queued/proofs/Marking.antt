@@ -8,20 +8,21 @@ use lib.Dec.{eqb, ltb}
 use lib.ListN.{length, getD, set, replicate, getD-replicate}
 use lib.Seq.{getD-set-same, getD-set-other}
 use borrow.Author.Tests.{ltb-true, ltb-false, lt-ltb, le-ltb, eqb-true, eqb-false}
-use Rattle.lists.specs.Order.{_∈_}
-use Rattle.lists.specs.First.{firstIn}
-use Rattle.lists.proofs.Orders.{apart}
+use Rattle.listlaws.specs.Order.{_∈_}
+use Rattle.listlaws.specs.First.{firstIn}
+use Rattle.listlaws.proofs.Orders.{apart}
 use Rattle.scan.proofs.Eachs.{decide}
-use Rattle.parts.specs.declared.Removal.{Removal}
-use Rattle.parts.specs.Model.{waitingLimit, noRemoval, listedIn}
-use Rattle.parts.specs.Entries.{listed}
-use Rattle.parts.proofs.Waits.{listed-means, listed-holds}
+use Rattle.removals.specs.declared.Removal.{Removal}
+use Rattle.limits.specs.Limits.{waitingLimit}
+use Rattle.removals.specs.Model.{noRemoval, listedIn}
+use Rattle.removals.specs.Waits.{listed}
+use Rattle.removals.proofs.Unions.{listed-means, listed-holds}
 use Rattle.records.specs.declared.Record.{Record}
 use Rattle.records.specs.Records.{recordFrom}
 use Rattle.mapimage.specs.Sorted.{inOrder}
 use Rattle.mapimage.specs.MapImage.{flatFrom, keyNumber, keyNumbers}
 use Rattle.mapimage.proofs.Sorts.{order-ascends, order-has, order-from-list}
-use Rattle.oneimage.proofs.Stands.{place-get, place-reads, place-below, flat-has, flat-means}
+use Rattle.oneimagelaws.proofs.Stands.{place-get, place-reads, place-below, flat-has, flat-means}
 use Rattle.walks.specs.Walk.{part}
 use Rattle.walks.proofs.Loops.{part-on, part-end}
 use Rattle.queued.specs.Queue.{lists, Marked, rank, Keyed}
@@ -52,7 +53,8 @@ module _ (w : List Removal) (few : length w ≤ waitingLimit) where
   pub lists-number : (j key : ℕ) → lists w j key ≡ true → keyNumber j key ∈ numbersOf w
   lists-number j key t =
       order-has (flatFrom keyNumbers 0 w) (keyNumber j key)
-      (flat-has keyNumbers (place-get w j noRemoval (lists-below w j key t)) (keyNumber j key) (Memᴰ·map (keyNumber j) (listed-means (listedIn (getD w j noRemoval)) key t)))
+      (flat-has keyNumbers (place-get w j noRemoval (lists-below w j key t)) (keyNumber j key)
+      (Memᴰ·map (keyNumber j) (listed-means (listedIn (getD w j noRemoval)) key t)))
 
   -- and only there
   pub number-source : (x : ℕ) → x ∈ numbersOf w → (j : ℕ) × (key : ℕ) × (j < waitingLimit) × (keyNumber j key ≡ x) × (lists w j key ≡ true)
@@ -96,7 +98,8 @@ module _ {s : List ℕ} {end : ℕ} (key : ℕ) {w : List Removal} where
       further = record { order = omega arith; within = m .left .within; few = m .left .few; numbers = ahead .behind }
 
       -- what was told of the other numbers stays
-      still : (j : ℕ) → (keyNumber j key ≡ rank r → ⊥) → ltb (keyNumber j key) (m .bound) && lists w j key ≡ ltb (keyNumber j key) (rank r + 1) && lists w j key
+      still : (j : ℕ) → (keyNumber j key ≡ rank r → ⊥) → ltb (keyNumber j key) (m .bound) && lists w j key ≡ ltb (keyNumber j key) (rank r + 1)
+          && lists w j key
       still j n =
           let x = rank r in
           let a = ahead .above in
@@ -129,7 +132,8 @@ module _ {s : List ℕ} {end : ℕ} (key : ℕ) {w : List Removal} where
               (λ t. let e = eqb-true j (r .index) t in
               rw (e, getD-set-same under (r .index) true false room, lt-ltb (keyNumber (r .index) key) (rank r + 1) (omega arith))
               (sym (number-lists w (m .left .few) (r .index) key (omega arith) (Memᴰ·cast (ap (keyNumber (r .index)) (sym h)) (ahead .stands)))))
-              (λ f. let e = eqb-false j (r .index) f in rw (getD-set-other under (r .index) j true false e) (m .marks j g ∙ still j (λ q. e (omega arith))))
+              (λ f. let e = eqb-false j (r .index) f in rw (getD-set-other under (r .index) j true false e)
+              (m .marks j g ∙ still j (λ q. e (omega arith))))
 
       -- of the key, but of no removal: there is none such
       pub mark-none : waitingLimit ≤ r .index → Marking s end key w (i + 1) under
@@ -141,7 +145,8 @@ module _ {s : List ℕ} {end : ℕ} (key : ℕ) {w : List Removal} where
     over f = (
       record {
         each = λ j g. m .marks j g ∙ decide (lists w j key)
-            (λ t. decide (ltb (keyNumber j key) (m .bound)) (λ u. rw (t, u)) (λ u. absurd (f (keyNumber j key) (lists-number w (m .left .few) j key t) (ltb-false (keyNumber j key) (m .bound) u) (omega arith))))
+            (λ t. decide (ltb (keyNumber j key) (m .bound)) (λ u. rw (t, u))
+            (λ u. absurd (f (keyNumber j key) (lists-number w (m .left .few) j key t) (ltb-false (keyNumber j key) (m .bound) u) (omega arith))))
             (λ t. decide (ltb (keyNumber j key) (m .bound)) (λ u. rw (t, u)) (λ u. rw (t, u)));
       },
       record {
@@ -153,7 +158,8 @@ module _ {s : List ℕ} {end : ℕ} (key : ℕ) {w : List Removal} where
     )
 
     -- a higher key
-    pub mark-over : i < end → {r : Record} → r ≡ recordFrom s (i * 16) → r .index < 256 → key < r .key → Marked w key under × Keyed s i end (keyNumber 0 (key + 1)) w
+    pub mark-over : i < end → {r : Record} → r ≡ recordFrom s (i * 16) → r .index < 256 → key < r .key
+        → Marked w key under × Keyed s i end (keyNumber 0 (key + 1)) w
     mark-over inside {r} er byte h = over (λ y a b c. let k = ahead inside er byte .least y a b in omega arith)
 
     pub mark-end : end ≤ i → Marked w key under × Keyed s i end (keyNumber 0 (key + 1)) w
@@ -161,8 +167,10 @@ module _ {s : List ℕ} {end : ℕ} (key : ℕ) {w : List Removal} where
         over (λ y a b c. none-from (m .bound) (numbersOf w) (sym (ap (map rank) (part-end s i end h)) ∙ m .left .numbers) y a b)
 
 -- a record of a higher key is not the one at the start
-pub moved-on : (s : List ℕ) (key at i : ℕ) {r : Record} → r ≡ recordFrom s (i * 16) → key < r .key → at ≤ i → recordFrom s (at * 16) .key ≤ key → at < i
+pub moved-on : (s : List ℕ) (key at i : ℕ) {r : Record} → r ≡ recordFrom s (i * 16) → key < r .key → at ≤ i → recordFrom s (at * 16) .key ≤ key
+    → at < i
 moved-on s key at i {r} e h k g =
     decide (eqb at i)
-    (λ t. let q : recordFrom s (at * 16) ≡ r = ap (λ n. recordFrom s (n * 16)) (eqb-true at i t) ∙ sym e in absurd (let z = ap (λ (x : Record). x .key) q in omega arith))
+    (λ t. let q : recordFrom s (at * 16) ≡ r = ap (λ n. recordFrom s (n * 16)) (eqb-true at i t) ∙ sym e in
+    absurd (let z = ap (λ (x : Record). x .key) q in omega arith))
     (λ f. let q = eqb-false at i f in omega arith)

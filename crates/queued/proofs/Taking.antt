@@ -7,18 +7,18 @@ use lib.Dec.{eqb}
 use lib.ListN.{length, take, drop, getD, set, replicate, length-map, length-take}
 use lib.Seq.{append-snoc, getD-at, getD-set-same, getD-set-other}
 use borrow.Author.Tests.{eqb-true, eqb-false}
-use Rattle.lists.specs.Order.{_∈_}
-use Rattle.lists.proofs.Pads.{length-snoc}
+use Rattle.listlaws.specs.Order.{_∈_}
+use Rattle.listlaws.proofs.Pads.{length-snoc}
 use Rattle.clock.specs.declared.Dot.{Dot}
-use Rattle.clock.specs.Dots.{dotLimit, clockOf}
+use Rattle.limits.specs.Limits.{dotLimit, waitingLimit}
+use Rattle.clock.specs.Dots.{clockOf}
 use Rattle.clock.specs.Lawful.{Lawful}
-use Rattle.parts.specs.declared.Removal.{Removal}
-use Rattle.parts.specs.Model.{waitingLimit, noRemoval, underOf}
+use Rattle.removals.specs.declared.Removal.{Removal}
+use Rattle.removals.specs.Model.{noRemoval, underOf}
 use Rattle.records.specs.declared.Record.{Record}
 use Rattle.clockimage.specs.Image.{dotOf, dotRecord}
 use Rattle.clockimage.proofs.RoundTrip.{dots-back}
 use Rattle.mapimage.specs.MapImage.{flatFrom, waitingDots}
-use Rattle.oneimage.proofs.Stands.{flat-means-from}
 use Rattle.runs.specs.Run.{runDots}
 use Rattle.map.specs.declared.Map.{Map}
 use Rattle.map.specs.Model.{waitingIn}
@@ -27,6 +27,7 @@ use Rattle.walks.specs.declared.Layout.{Layout}
 use Rattle.walks.specs.Walk.{part, Splits}
 use Rattle.layout.specs.Whole.{Lies}
 use Rattle.layout.proofs.Found.{Cut, cut-at}
+use Rattle.layout.proofs.Waiting.{fives-later}
 use Rattle.walks.proofs.Loops.{length-part, slice-part, clock-between}
 use Rattle.scan.proofs.Eachs.{decide}
 use Rattle.queued.specs.Queue.{RunLies, Queued}
@@ -56,13 +57,6 @@ pub record Taking (s : List ℕ) (end : ℕ) (w : List Removal) (at i : ℕ) (st
   pub here : getD starts i 0 ≡ at
   pub lies : (j : ℕ) → j < i → RunLies s (getD starts j 0) (getD starts (j + 1) 0) (underOf (getD w j noRemoval))
 
--- dots of later removals have a later index
-later : (n : ℕ) (w : List Removal) (r : Record) → r ∈ flatFrom waitingDots n w → n ≤ r .index
-later n w r m =
-    let v = flat-means-from waitingDots n w r m in
-    let (d, j, e) = Memᴰ·of-map (dotRecord 5 (n + v .place) 0) (underOf (v .source)) (v .given) in
-    let q = ap (λ (x : Record). x .index) e in omega arith
-
 module _ {s : List ℕ} {end : ℕ} {w : List Removal} (fits : WaitingFits s end w) where
   pub take-start : {at : ℕ} → at ≤ end → part s at end ≡ flatFrom waitingDots 0 w → Taking s end w at 0 (replicate (waitingLimit + 1) at)
   take-start h e = record { done = []; rest = w; parts = refl; count = refl; order = h; records = e; here = refl; lies = λ j g. absurd (omega arith) }
@@ -83,7 +77,8 @@ module _ {s : List ℕ} {end : ℕ} {w : List Removal} (fits : WaitingFits s end
             let e : getD w i noRemoval ≡ r = ap (λ l. getD l i noRemoval) all ∙ getD-at (t .done) r k noRemoval i (sym (t .count)) in
             record { more = k; rest-is = q ∙ ap (λ x. x ∷ k) (sym e); stands = rw (e, all) (Memᴰ·append-right (t .done) (List·Memᴰ·head refl)) }
 
-    module _ (h : i < length w) (next : ℕ) (before : at ≤ next) (inside : next ≤ end) (found : (at′ : ℕ) → Splits s 2 (i + 1) at end at′ → next ≡ at′) where
+    module _ (h : i < length w) (next : ℕ) (before : at ≤ next) (inside : next ≤ end) (found : (at′ : ℕ) → Splits s 2 (i + 1) at end at′
+        → next ≡ at′) where
       abbrev removal : Removal
       removal = getD w i noRemoval
 
@@ -92,7 +87,7 @@ module _ {s : List ℕ} {end : ℕ} {w : List Removal} (fits : WaitingFits s end
       cut =
           cut-at s 2 (i + 1) at end _ _ next (t .order) (t .records ∙ ap (flatFrom waitingDots i) (coming h .rest-is))
           (λ x m. let (d, j, e) = Memᴰ·of-map (dotRecord 5 i 0) (underOf removal) m in let q = ap (λ (x : Record). x .index) e in omega arith)
-          (λ x m. later (i + 1) (coming h .more) x m) found
+          (λ x m. fives-later (i + 1) (coming h .more) x m) found
 
       its-run : RunLies s at next (underOf removal)
       its-run =
@@ -116,9 +111,15 @@ module _ {s : List ℕ} {end : ℕ} {w : List Removal} (fits : WaitingFits s end
         records = cut .second;
         here = getD-set-same starts (i + 1) next 0 room;
         lies = λ j g. decide (eqb j i)
-            (λ u. let q = eqb-true j i u in rw (q, getD-set-other starts (i + 1) i next 0 (λ e. omega arith), getD-set-same starts (i + 1) next 0 room, t .here) its-run)
+            (λ u. let q = eqb-true j i u in rw (
+              q,
+              getD-set-other starts (i + 1) i next 0 (λ e. omega arith),
+              getD-set-same starts (i + 1) next 0 room,
+              t .here,
+            ) its-run)
             (λ u. let q = eqb-false j i u in
-            rw (getD-set-other starts (i + 1) j next 0 (λ e. omega arith), getD-set-other starts (i + 1) (j + 1) next 0 (λ e. q (omega arith))) (t .lies j (omega arith)));
+            rw (getD-set-other starts (i + 1) j next 0 (λ e. omega arith), getD-set-other starts (i + 1) (j + 1) next 0 (λ e. q (omega arith)))
+            (t .lies j (omega arith)));
       }
 
     pub take-end : (n : ℕ) → n ≡ length w → n ≤ i → Queued s (record { starts = starts; len = n }) w

@@ -5,15 +5,15 @@ use mathlib.Core.List.{List}
 use mathlib.Core.Logic.{_⊎_}
 use Prim.Native.Nat.{ℕ, _<_}
 use lib.ListN.{getD}
-use Rattle.lists.specs.Order.{_∈_}
-use Rattle.parts.specs.declared.Removal.{Removal}
-use Rattle.parts.specs.Model.{waitingLimit}
-use Rattle.parts.specs.Valid.{ValidRemoval}
+use Rattle.listlaws.specs.Order.{_∈_}
+use Rattle.removals.specs.declared.Removal.{Removal}
+use Rattle.limits.specs.Limits.{waitingLimit}
+use Rattle.removals.specs.Valid.{ValidRemoval}
 use Rattle.queued.specs.Queue.{lists}
 
 -- each with a clock, which may be empty, and a set of keys
-abbrev pub Sound : List Removal → Type 0
-Sound w = (r : Removal) → r ∈ w → ValidRemoval r
+abbrev pub SoundRemovals : List Removal → Type 0
+SoundRemovals w = (r : Removal) → r ∈ w → ValidRemoval r
 
 -- a removal of w that goes to a place lists a key
 pub record Brings (w : List Removal) (table : List ℕ) (j key : ℕ) : Type 0 where

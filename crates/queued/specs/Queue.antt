@@ -5,14 +5,15 @@ use mathlib.Core.List.{List, map}
 use Prim.Native.Nat.{ℕ, _+_, _*_, _-_, _≤_, _<_}
 use lib.Dec.{leb}
 use lib.ListN.{length, getD}
-use Rattle.lists.specs.Fold.{fold}
-use Rattle.lists.specs.Sift.{those}
+use Rattle.listlaws.specs.Fold.{fold}
+use Rattle.listlaws.specs.Sift.{those}
 use Rattle.clock.specs.declared.Dot.{Dot}
-use Rattle.clock.specs.Dots.{dotLimit, cutDots}
+use Rattle.limits.specs.Limits.{dotLimit, waitingLimit}
+use Rattle.clock.specs.Dots.{cutDots}
 use Rattle.clock.specs.Lawful.{Lawful}
-use Rattle.parts.specs.declared.Removal.{Removal}
-use Rattle.parts.specs.Model.{waitingLimit, noRemoval, underOf, listedIn}
-use Rattle.parts.specs.Entries.{listed}
+use Rattle.removals.specs.declared.Removal.{Removal}
+use Rattle.removals.specs.Model.{noRemoval, underOf, listedIn}
+use Rattle.removals.specs.Waits.{listed}
 use Rattle.records.specs.declared.Record.{Record}
 use Rattle.clockimage.specs.Image.{dotOf}
 use Rattle.mapimage.specs.Sorted.{inOrder}

@@ -4,12 +4,13 @@ ghost use mathlib.Core.List.{List, []};
 ghost use Prim.Native.Nat.{ℕ, _+_, _*_, _≤_, _<_};
 ghost use lib.ListN.{length, getD};
 ghost use Rattle.clock.specs.declared.Dot.{Dot};
-ghost use Rattle.clock.specs.Dots.{dotLimit, clockOf, cutDots};
+ghost use Rattle.limits.specs.Limits.{dotLimit, waitingLimit};
+ghost use Rattle.clock.specs.Dots.{clockOf, cutDots};
 ghost use Rattle.clock.specs.Lawful.{Lawful};
 ghost use Rattle.runs.specs.Run.{runDots};
 ghost use Rattle.marks.specs.Marks.{picked};
-ghost use Rattle.parts.specs.declared.Removal.{Removal};
-ghost use Rattle.parts.specs.Model.{waitingLimit, noRemoval, underOf};
+ghost use Rattle.removals.specs.declared.Removal.{Removal};
+ghost use Rattle.removals.specs.Model.{noRemoval, underOf};
 ghost use Rattle.map.specs.Model.{waitingIn};
 ghost use Rattle.records.specs.Records.{recordFrom};
 ghost use Rattle.mapimage.specs.MapImage.{keyNumber};
@@ -20,17 +21,17 @@ ghost use Rattle.queued.specs.Queue.{Queued, cutsFor, Marked, Keyed};
 pub mod rows;
 
 use clock::Clock;
-use clock::DOTS;
-use parts::WAITING;
+use limits::DOTS;
+use limits::WAITING;
 use walks::BY_INDEX;
 use walks::Layout;
 
 // Where a queue's runs begin, and where the last ends.
-pub const STARTS: usize = WAITING + 1;
+pub const QUEUE_STARTS: usize = WAITING + 1;
 
 // Where the dots of an image's waiting removals begin: numbers of records.
 pub struct Queue {
-    pub starts: [usize; STARTS],
+    pub starts: [usize; QUEUE_STARTS],
     pub len: usize,
 }
 
@@ -49,7 +50,7 @@ pub struct Row {
 }
 
 // Whether a removal has too many keys, and how many keys all removals have.
-pub struct Counted {
+pub struct KeyTotals {
     pub over: bool,
     pub total: usize,
 }
@@ -60,7 +61,7 @@ impl Queue {
         ensures { λ r. ⌜ ((s : List ℕ) → Queued s r []) ⌝ }
     {
         Queue {
-            starts: [0; STARTS],
+            starts: [0; QUEUE_STARTS],
             len: 0,
         }
     }
@@ -73,7 +74,7 @@ pub fn queue_of(s: &[u8], l: Layout, n: usize) -> Queue
 {
     let end = l.sixth;
     let mut at = l.fifth;
-    let mut starts: [usize; STARTS] = [at; STARTS];
+    let mut starts: [usize; QUEUE_STARTS] = [at; QUEUE_STARTS];
     let mut i: usize = 0;
     while i < n {
         at = walks::first_from(s, BY_INDEX, i as u64 + 1, at, end);
@@ -96,7 +97,8 @@ fn clock_at(s: &[u8], q: Queue, k: usize) -> Clock
 // Which waiting removals list a key; keys below it are passed.
 pub fn listers(s: &[u8], at: usize, end: usize, key: u32) -> Listing
     requires { ⌜ (at ≤ end) × (end * 16 ≤ length (now s)) ⌝ }
-    ensures { λ r. ⌜ ((at ≤ r .next) × ((r .next ≤ end) × (at < end → recordFrom (now (s .entry)) (at * 16) .key ≤ key → at < r .next))) × ((low : ℕ) (w : List Removal) → Keyed (now (s .entry)) at end low w → low ≤ keyNumber 0 key
+    ensures { λ r. ⌜ ((at ≤ r .next) × ((r .next ≤ end) × (at < end → recordFrom (now (s .entry)) (at * 16) .key ≤ key → at < r .next)))
+        × ((low : ℕ) (w : List Removal) → Keyed (now (s .entry)) at end low w → low ≤ keyNumber 0 key
         → Marked w key (r .under) × Keyed (now (s .entry)) (r .next) end (keyNumber 0 (key + 1)) w) ⌝ }
 {
     let mut under: [bool; WAITING] = [false; WAITING];
@@ -127,7 +129,8 @@ pub fn places(n: usize) -> usize
 // A clock without what the removals that list a key have seen.
 pub fn cut_listed(s: &[u8], q: Queue, under: [bool; WAITING], clock: Clock) -> Clock
     requires { ⌜ ((w : List Removal) × Queued (now s) q w) ⌝ }
-    ensures { λ r. ⌜ ((w : List Removal) (key : ℕ) (d : List Dot) → Queued (now (s .entry)) q w → Marked w key under → clock ≡ clockOf d → r ≡ clockOf (cutsFor w key d)) ⌝ }
+    ensures { λ r. ⌜ ((w : List Removal) (key : ℕ) (d : List Dot) → Queued (now (s .entry)) q w → Marked w key under → clock ≡ clockOf d
+        → r ≡ clockOf (cutsFor w key d)) ⌝ }
 {
     let n = places(q.len);
     let mut out = clock;

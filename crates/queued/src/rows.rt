@@ -5,22 +5,23 @@ ghost use mathlib.Core.List.{List};
 ghost use Prim.Native.Nat.{ℕ, _+_, _*_, _^_, _≤_, _<_};
 ghost use lib.Dec.{ltb};
 ghost use lib.ListN.{length, getD};
-ghost use Rattle.lists.specs.First.{some};
-ghost use Rattle.parts.specs.declared.Removal.{Removal};
-ghost use Rattle.parts.specs.Model.{waitingLimit, overlong};
-ghost use Rattle.records.specs.Records.{recordFrom, bytesOf, Wrote};
+ghost use Rattle.listlaws.specs.First.{some};
+ghost use Rattle.removals.specs.declared.Removal.{Removal};
+ghost use Rattle.limits.specs.Limits.{waitingLimit};
+ghost use Rattle.removals.specs.Counted.{overlong};
+ghost use Rattle.records.specs.Records.{recordFrom, bytesOf};
+ghost use Rattle.records.specs.Writing.{Wrote};
 ghost use Rattle.mapimage.specs.MapImage.{keyNumber, waitingKeys};
 ghost use Rattle.queued.specs.Queue.{Keyed};
-ghost use Rattle.queued.specs.Planned.{Sound, Moves};
-ghost use Rattle.queued.specs.Rowed.{Carried, RowLies, rowRecords, tally, keysAt};
-use crate::Counted;
+ghost use Rattle.queued.specs.Planned.{SoundRemovals, Moves};
+ghost use Rattle.queued.specs.Rowed.{Carried, RowLies, rowRecords, oneIfMarked, keysAt};
+use crate::KeyTotals;
 use crate::Row;
-use parts::KEYS;
-use parts::WAITING;
+use limits::KEYS;
+use limits::WAITING;
 use records::Record;
-
-// Above every key.
-pub const NO_KEY: u64 = 0x1_0000_0000;
+use records::WAITING_KEY;
+use walks::BEYOND_KEYS;
 
 // The marks of a list's removals, carried to their new places beside others.
 fn carry(under: [bool; WAITING], marks: [bool; WAITING], table: [u8; WAITING]) -> [bool; WAITING]
@@ -44,13 +45,14 @@ fn carry(under: [bool; WAITING], marks: [bool; WAITING], table: [u8; WAITING]) -
 // The key of the record at a place, and above every key at the end.
 fn head(s: &[u8], at: usize, end: usize) -> u64
     requires { ⌜ end * 16 ≤ length (now s) ⌝ }
-    ensures { λ r. ⌜ (at < end → (r ≡ recordFrom (now (s .entry)) (at * 16) .key) × ((r < 2 ^ 32) × (recordFrom (now (s .entry)) (at * 16) .index < 256))) × (end ≤ at → r ≡ 2 ^ 32) ⌝ }
+    ensures { λ r. ⌜ (at < end → (r ≡ recordFrom (now (s .entry)) (at * 16) .key)
+        × ((r < 2 ^ 32) × (recordFrom (now (s .entry)) (at * 16) .index < 256))) × (end ≤ at → r ≡ 2 ^ 32) ⌝ }
 {
     if at < end {
         let r = records::read_record(s, at * 16);
         return r.key as u64;
     }
-    NO_KEY
+    BEYOND_KEYS
 }
 
 fn lower(a: u64, b: u64) -> u64
@@ -72,7 +74,8 @@ fn row(
 ) -> Row
     requires { ⌜ ((i ≤ n) × (n * 16 ≤ length (now s))) × (((j ≤ m) × (m * 16 ≤ length (now t))) × (ltb i n || ltb j m ≡ true)) ⌝ }
     ensures { λ r. ⌜ ((i ≤ r .i) × ((r .i ≤ n) × ((j ≤ r .j) × ((r .j ≤ m) × (i + j < r .i + r .j)))))
-        × ((low : ℕ) (w v result : List Removal) → Keyed (now (s .entry)) i n (keyNumber 0 low) w → Keyed (now (t .entry)) j m (keyNumber 0 low) v → Moves w v result ours theirs
+        × ((low : ℕ) (w v result : List Removal) → Keyed (now (s .entry)) i n (keyNumber 0 low) w → Keyed (now (t .entry)) j m (keyNumber 0 low) v
+        → Moves w v result ours theirs
         → RowLies (now (s .entry)) n (now (t .entry)) m low w v result r) ⌝ }
 {
     let a = head(s, i, n);
@@ -105,7 +108,7 @@ fn write_row(out: &mut [u8], at: usize, key: u32, under: [bool; WAITING]) -> usi
         i += 1;
         if under[k] {
             let r = Record {
-                kind: 6,
+                kind: WAITING_KEY,
                 index: k as u8,
                 actor: 0,
                 key,
@@ -130,9 +133,12 @@ pub fn write_keys(
     m: usize,
     theirs: [u8; WAITING],
 ) -> usize
-    requires { ⌜ ((w v result : List Removal) × Keyed (now s) from n 0 w × Keyed (now t) start m 0 v × Moves w v result ours theirs × (length result ≤ waitingLimit) × (at + length (waitingKeys result) * 16 ≤ length (now out))) ⌝ }
-    ensures { λ next. ⌜ ((w v result : List Removal) → Keyed (now (s .entry)) from n 0 w → Keyed (now (t .entry)) start m 0 v → Moves w v result ours theirs → length result ≤ waitingLimit
-        → at + length (waitingKeys result) * 16 ≤ length (now (out .entry)) → Wrote at (bytesOf (waitingKeys result)) (now (out .entry)) (now (out .exit)) next) ⌝ }
+    requires { ⌜ ((w v result : List Removal) × Keyed (now s) from n 0 w × Keyed (now t) start m 0 v × Moves w v result ours theirs
+        × (length result ≤ waitingLimit) × (at + length (waitingKeys result) * 16 ≤ length (now out))) ⌝ }
+    ensures { λ next. ⌜ ((w v result : List Removal) → Keyed (now (s .entry)) from n 0 w → Keyed (now (t .entry)) start m 0 v
+        → Moves w v result ours theirs → length result ≤ waitingLimit
+        → at + length (waitingKeys result) * 16 ≤ length (now (out .entry))
+        → Wrote at (bytesOf (waitingKeys result)) (now (out .entry)) (now (out .exit)) next) ⌝ }
 {
     let mut next = at;
     let mut i = from;
@@ -166,7 +172,7 @@ fn count_row(under: [bool; WAITING]) -> usize
 // How many keys each removal of a result has, with those of a row.
 fn add_row(counts: [usize; WAITING], under: [bool; WAITING]) -> [usize; WAITING]
     requires { ⌜ ((p : ℕ) → p < waitingLimit → getD counts p 0 < 2 ^ 62) ⌝ }
-    ensures { λ r. ⌜ ((p : ℕ) → p < waitingLimit → getD r p 0 ≡ getD counts p 0 + tally under p) ⌝ }
+    ensures { λ r. ⌜ ((p : ℕ) → p < waitingLimit → getD r p 0 ≡ getD counts p 0 + oneIfMarked under p) ⌝ }
 {
     let mut out = counts;
     let mut i: usize = 0;
@@ -183,7 +189,8 @@ fn add_row(counts: [usize; WAITING], under: [bool; WAITING]) -> [usize; WAITING]
 
 // Whether a removal has too many keys.
 fn any_long(counts: [usize; WAITING]) -> bool
-    ensures { λ b. ⌜ ((result : List Removal) → length result ≤ waitingLimit → ((p : ℕ) → p < waitingLimit → getD counts p 0 ≡ length (keysAt result p)) → b ≡ some overlong result) ⌝ }
+    ensures { λ b. ⌜ ((result : List Removal) → length result ≤ waitingLimit
+        → ((p : ℕ) → p < waitingLimit → getD counts p 0 ≡ length (keysAt result p)) → b ≡ some overlong result) ⌝ }
 {
     let mut i: usize = 0;
     while i < WAITING {
@@ -206,9 +213,11 @@ pub fn count_keys(
     start: usize,
     m: usize,
     theirs: [u8; WAITING],
-) -> Counted
-    requires { ⌜ ((w v result : List Removal) × Keyed (now s) from n 0 w × Keyed (now t) start m 0 v × Moves w v result ours theirs × (length result ≤ waitingLimit)) ⌝ }
-    ensures { λ r. ⌜ ((w v result : List Removal) → Keyed (now (s .entry)) from n 0 w → Keyed (now (t .entry)) start m 0 v → Moves w v result ours theirs → length result ≤ waitingLimit → Sound result
+) -> KeyTotals
+    requires { ⌜ ((w v result : List Removal) × Keyed (now s) from n 0 w × Keyed (now t) start m 0 v × Moves w v result ours theirs
+        × (length result ≤ waitingLimit)) ⌝ }
+    ensures { λ r. ⌜ ((w v result : List Removal) → Keyed (now (s .entry)) from n 0 w → Keyed (now (t .entry)) start m 0 v
+        → Moves w v result ours theirs → length result ≤ waitingLimit → SoundRemovals result
         → (r .over ≡ some overlong result) × (r .total ≡ length (waitingKeys result))) ⌝ }
 {
     let mut total: usize = 0;
@@ -225,5 +234,5 @@ pub fn count_keys(
         counts = more;
     }
     let over = any_long(counts);
-    Counted { over, total }
+    KeyTotals { over, total }
 }

@@ -1,6 +1,6 @@
 -- A loop that hands the records of a slice to a state, one after the other.
 use mathlib.Core.Path.{_≡_, sym, _∙_}
-use mathlib.Core.List.{List, [], _∷_, _++_, append-nil, append-assoc}
+use mathlib.Core.List.{List, [], _∷_, _++_, append-nil}
 use Prim.Native.Nat.{ℕ, suc, _+_, _*_, _-_, _/_, _≤_, _<_}
 use native.Mathlib.Omega.{arith}
 use lib.ListN.{length}
@@ -20,7 +20,8 @@ module _ {S : Type 0} {Fed : List Record → S → Type 0} (s : List ℕ) where
       let n : length s / 16 - 0 ≡ length s / 16 = omega arith in
       record { done = []; fed = f; parts = rw n }
 
-  pub feed-on : {i : ℕ} {state next : S} → Feeding Fed s i state → i < length s / 16 → ((l : List Record) → Fed l state → Fed (l ++ (recordFrom s (i * 16) ∷ [])) next) → Feeding Fed s (i + 1) next
+  pub feed-on : {i : ℕ} {state next : S} → Feeding Fed s i state → i < length s / 16
+      → ((l : List Record) → Fed l state → Fed (l ++ (recordFrom s (i * 16) ∷ [])) next) → Feeding Fed s (i + 1) next
   unfolding recordsFrom
   feed-on {i} f h step =
       let n : length s / 16 - i ≡ suc (length s / 16 - (i + 1)) = omega arith in
@@ -36,14 +37,3 @@ module _ {S : Type 0} {Fed : List Record → S → Type 0} (s : List ℕ) where
   feed-end {i} f h =
       let n : length s / 16 - i ≡ 0 = omega arith in
       (f .done, f .fed, sym (f .parts ∙ rw n (append-nil (f .done))))
-
--- the same of a state that had been fed before: all that was said of `start` goes on with the records l
-pub record Further {S : Type 0} (Fed : List Record → S → Type 0) (start : S) (l : List Record) (state : S) : Type 0 where
-  pub all : (before : List Record) → Fed before start → Fed (before ++ l) state
-
-module _ {S : Type 0} {Fed : List Record → S → Type 0} {start state : S} where
-  pub further-start : ((l : List Record) → Fed l start → Fed l state) → Further Fed start [] state
-  further-start same = record { all = λ before f. rw (append-nil before) (same before f) }
-
-  pub further-on : (r : Record) {next : S} → ((l : List Record) → Fed l state → Fed (l ++ (r ∷ [])) next) → (l : List Record) → Further Fed start l state → Further Fed start (l ++ (r ∷ [])) next
-  further-on r step l f = record { all = λ before b. rw (← append-assoc before l (r ∷ [])) (step (before ++ l) (f .all before b)) }

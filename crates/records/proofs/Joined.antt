@@ -1,13 +1,12 @@
 -- The records of bytes that are joined, and of a part of some bytes.
 use mathlib.Core.Path.{_≡_, refl, ap, ap₂, sym, _∙_}
-use mathlib.Core.List.{List, [], _∷_, _++_, append-nil, append-assoc}
-use Prim.Native.Nat.{ℕ, zero, suc, _+_, _*_, _/_, _%_, _^_, _≤_, _<_}
+use mathlib.Core.List.{List, _∷_, _++_}
+use Prim.Native.Nat.{ℕ, zero, suc, _+_, _*_, _/_, _^_, _≤_}
 use native.Mathlib.Omega.{arith}
-use lib.ListN.{length, getD, take, drop, length-append, length-drop, List·getD-append, take-append-drop}
+use lib.ListN.{length, take, drop, length-drop, List·getD-append, take-append-drop}
 use lib.Seq.{getD-append-add, length-take-le}
 use Rattle.records.specs.Bytes.{numAt}
 use Rattle.records.specs.Records.{recordFrom, recordsFrom, recordsOf}
-use Rattle.records.specs.declared.Record.{Record}
 
 double : (k : ℕ) → 2 ^ suc k ≡ 2 ^ k + 2 ^ k
 double k = omega arith
@@ -28,7 +27,13 @@ num-second (suc k) at s t =
 record-first : (at : ℕ) (s t : List ℕ) → at + 16 ≤ length s → recordFrom (s ++ t) at ≡ recordFrom s at
 unfolding recordFrom
 record-first at s t h =
-    rw (num-first 0 at s t (omega arith), num-first 0 (at + 1) s t (omega arith), num-first 1 (at + 2) s t (omega arith), num-first 2 (at + 4) s t (omega arith), num-first 3 (at + 8) s t (omega arith)) refl
+    rw (
+      num-first 0 at s t (omega arith),
+      num-first 0 (at + 1) s t (omega arith),
+      num-first 1 (at + 2) s t (omega arith),
+      num-first 2 (at + 4) s t (omega arith),
+      num-first 3 (at + 8) s t (omega arith),
+    ) refl
 
 record-second : (at : ℕ) (s t : List ℕ) → recordFrom (s ++ t) (length s + at) ≡ recordFrom t at
 unfolding recordFrom
@@ -37,7 +42,8 @@ record-second at s t =
     let b : length s + at + 2 ≡ length s + (at + 2) = omega arith in
     let c : length s + at + 4 ≡ length s + (at + 4) = omega arith in
     let d : length s + at + 8 ≡ length s + (at + 8) = omega arith in
-    rw (num-second 0 at s t, a, b, c, d, num-second 0 (at + 1) s t, num-second 1 (at + 2) s t, num-second 2 (at + 4) s t, num-second 3 (at + 8) s t) refl
+    rw (num-second 0 at s t, a, b, c, d, num-second 0 (at + 1) s t, num-second 1 (at + 2) s t, num-second 2 (at + 4) s t, num-second 3 (at + 8) s t)
+    refl
 
 records-first : (n at : ℕ) (s t : List ℕ) → at + n * 16 ≤ length s → recordsFrom (s ++ t) at n ≡ recordsFrom s at n
 unfolding recordsFrom
@@ -58,19 +64,6 @@ records-split (suc n) m at s =
     let a : suc n + m ≡ suc (n + m) = omega arith in
     let b : at + suc n * 16 ≡ at + 16 + n * 16 = omega arith in
     rw (a, b) (ap (λ l. recordFrom s at ∷ l) (records-split n m (at + 16) s))
-
--- whole records, and what comes behind them
-pub records-join : (s t : List ℕ) → length s % 16 ≡ 0 → recordsOf (s ++ t) ≡ recordsOf s ++ recordsOf t
-records-join s t w =
-    let e : length (s ++ t) / 16 ≡ length s / 16 + length t / 16 = rw (length-append s t) (omega arith) in
-    let z : 0 + length s / 16 * 16 ≡ length s + 0 = omega arith in
-    ap (recordsFrom (s ++ t) 0) e ∙ records-split (length s / 16) (length t / 16) 0 (s ++ t)
-    ∙ ap₂ (λ a b. a ++ b) (records-first (length s / 16) 0 s t (omega arith)) (ap (λ a. recordsFrom (s ++ t) a (length t / 16)) z ∙ records-second (length t / 16) 0 s t)
-
--- less than a record is none
-pub records-none : (s : List ℕ) → length s < 16 → recordsOf s ≡ []
-unfolding recordsFrom
-records-none s h = let e : length s / 16 ≡ 0 = omega arith in ap (recordsFrom s 0) e
 
 pub length-records : (s : List ℕ) (at n : ℕ) → length (recordsFrom s at n) ≡ n
 unfolding recordsFrom

@@ -1,4 +1,4 @@
--- Laws of bytes put in place, one behind the other.
+-- Bytes put in place, one behind the other (`placed-on`); the length stays (`length-placed`).
 use mathlib.Core.Path.{_≡_, sym, _∙_}
 use mathlib.Core.List.{List, [], _∷_, _++_, append-assoc}
 use Prim.Native.Nat.{ℕ, _+_, _≤_}
@@ -32,11 +32,19 @@ placed-more at a b s h =
     let q = drop (at + length a) s in
     let two : take at s ++ (a ++ q) ≡ p ++ q = sym (append-assoc (take at s) a q) in
     let long : length p ≡ at + length a = simp length-append (omega (arith, length-take-le at s (omega arith))) in
-    rw (two, take-at p q (at + length a) long, ← drop-drop (length b) (at + length a) (p ++ q), drop-at p q (at + length a) long, length-append a b, ← add-assoc at (length a) (length b))
+    rw (
+      two,
+      take-at p q (at + length a) long,
+      ← drop-drop (length b) (at + length a) (p ++ q),
+      drop-at p q (at + length a) long,
+      length-append a b,
+      ← add-assoc at (length a) (length b),
+    )
     (rw (drop-drop (length b) (at + length a) s) (simp append-assoc))
 
 -- bytes put in place by two steps, whatever the second place is called
-pub placed-on : (at next : ℕ) (a b s : List ℕ) {t u : List ℕ} → t ≡ placed at a s → u ≡ placed next b t → next ≡ at + length a → at + length a + length b ≤ length s → u ≡ placed at (a ++ b) s
+pub placed-on : (at next : ℕ) (a b s : List ℕ) {t u : List ℕ} → t ≡ placed at a s → u ≡ placed next b t → next ≡ at + length a
+    → at + length a + length b ≤ length s → u ≡ placed at (a ++ b) s
 placed-on at next a b s e f n h = f ∙ rw (e, n) (placed-more at a b s h)
 
 -- what is put in place from the start on

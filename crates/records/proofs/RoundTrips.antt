@@ -6,7 +6,7 @@ use Prim.Native.Nat.{ℕ, zero, suc, _+_, _*_, _/_, _%_, _^_, _≤_, _<_}
 use native.Mathlib.Omega.{arith}
 use lib.ListN.{length, take, drop, length-append}
 use lib.Seq.{take-add, drop-drop, take-length}
-use Rattle.lists.specs.Order.{_∈_}
+use Rattle.listlaws.specs.Order.{_∈_}
 use Rattle.records.specs.Bytes.{numBytes, Bytes}
 use Rattle.records.specs.Records.{recordFrom, recordsFrom, recordsOf, recordBytes, bytesOf}
 use Rattle.records.specs.declared.Record.{Record}
@@ -78,7 +78,8 @@ bytes-append [] m = refl
 bytes-append (r ∷ l) m = ap (λ t. recordBytes r ++ t) (bytes-append l m) ∙ sym (append-assoc (recordBytes r) (bytesOf l) (bytesOf m))
 
 -- records are read from where their bytes stand
-read-from : (l : List Record) (at : ℕ) (s p q : List ℕ) → s ≡ p ++ (bytesOf l ++ q) → length p ≡ at → ((r : Record) → r ∈ l → Fitting r) → recordsFrom s at (length l) ≡ l
+read-from : (l : List Record) (at : ℕ) (s p q : List ℕ) → s ≡ p ++ (bytesOf l ++ q) → length p ≡ at → ((r : Record) → r ∈ l → Fitting r)
+    → recordsFrom s at (length l) ≡ l
 unfolding recordsFrom bytesOf
 read-from [] at s p q e n f = refl
 read-from (r ∷ l) at s p q e n f =
@@ -129,4 +130,5 @@ record-are-bytes {r} f =
 pub written-bytes : (l : List Record) → ((r : Record) → r ∈ l → Fitting r) → Bytes (bytesOf l)
 unfolding bytesOf
 written-bytes [] f = none-bytes
-written-bytes (r ∷ l) f = both-bytes (recordBytes r) (bytesOf l) (record-are-bytes (f r (List·Memᴰ·head refl))) (written-bytes l (λ x i. f x (List·Memᴰ·tail i)))
+written-bytes (r ∷ l) f = both-bytes (recordBytes r) (bytesOf l) (record-are-bytes (f r (List·Memᴰ·head refl)))
+    (written-bytes l (λ x i. f x (List·Memᴰ·tail i)))

@@ -84,9 +84,30 @@ beyond k h =
     (record {
       small = omega arith;
       index = rw (none 3 (omega arith), none 4 (omega arith), none 5 (omega arith), none 6 (omega arith)) refl;
-      actor = rw (none 1 (omega arith), none 2 (omega arith), none 4 (omega arith), none 5 (omega arith), none 8 (omega arith), none 10 (omega arith), none 12 (omega arith), none 3 (omega arith), none 11 (omega arith)) refl;
-      key = rw (none 2 (omega arith), none 3 (omega arith), none 4 (omega arith), none 6 (omega arith), none 9 (omega arith), none 10 (omega arith)) refl;
-      number = rw (none 1 (omega arith), none 2 (omega arith), none 4 (omega arith), none 5 (omega arith), none 8 (omega arith), none 10 (omega arith), none 12 (omega arith), none 3 (omega arith), none 11 (omega arith)) refl;
+      actor = rw (
+        none 1 (omega arith),
+        none 2 (omega arith),
+        none 4 (omega arith),
+        none 5 (omega arith),
+        none 8 (omega arith),
+        none 10 (omega arith),
+        none 12 (omega arith),
+        none 3 (omega arith),
+        none 11 (omega arith),
+      ) refl;
+      key = rw (none 2 (omega arith), none 3 (omega arith), none 4 (omega arith), none 6 (omega arith), none 9 (omega arith), none 10 (omega arith))
+          refl;
+      number = rw (
+        none 1 (omega arith),
+        none 2 (omega arith),
+        none 4 (omega arith),
+        none 5 (omega arith),
+        none 8 (omega arith),
+        none 10 (omega arith),
+        none 12 (omega arith),
+        none 3 (omega arith),
+        none 11 (omega arith),
+      ) refl;
     })
 
 -- the row of every kind

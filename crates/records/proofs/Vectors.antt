@@ -10,6 +10,7 @@ number = refl
 bytes : numBytes 3 0x0807060504030201 ≡ 1 ∷ 2 ∷ 3 ∷ 4 ∷ 5 ∷ 6 ∷ 7 ∷ 8 ∷ []
 bytes = refl
 
-entry-dot : recordFrom (2 ∷ 0 ∷ 1 ∷ 0 ∷ 5 ∷ 0 ∷ 0 ∷ 0 ∷ 1 ∷ 0 ∷ 0 ∷ 0 ∷ 0 ∷ 0 ∷ 0 ∷ 0 ∷ []) 0 ≡ record { kind = 2; index = 0; actor = 1; key = 5; number = 1 }
+entry-dot : recordFrom (2 ∷ 0 ∷ 1 ∷ 0 ∷ 5 ∷ 0 ∷ 0 ∷ 0 ∷ 1 ∷ 0 ∷ 0 ∷ 0 ∷ 0 ∷ 0 ∷ 0 ∷ 0 ∷ []) 0
+    ≡ record { kind = 2; index = 0; actor = 1; key = 5; number = 1 }
 unfolding recordFrom
 entry-dot = refl

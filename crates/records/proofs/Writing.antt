@@ -4,7 +4,8 @@ use mathlib.Core.List.{List, [], _∷_, _++_, append-nil, append-assoc}
 use Prim.Native.Nat.{ℕ, _+_, _*_, _≤_}
 use native.Mathlib.Omega.{arith}
 use lib.ListN.{length, length-append}
-use Rattle.records.specs.Records.{recordBytes, bytesOf, Wrote}
+use Rattle.records.specs.Records.{recordBytes, bytesOf}
+use Rattle.records.specs.Writing.{Wrote}
 use Rattle.records.specs.declared.Record.{Record}
 use Rattle.records.proofs.Placing.{placed-none, placed-on, length-placed}
 use Rattle.records.proofs.RoundTrips.{length-bytes, bytes-append}
@@ -37,7 +38,11 @@ module _ (whole : List Record) (at : ℕ) (entry : List ℕ) where
       let kept = ap length (w .wrote .left) ∙ length-placed at (bytesOf (w .done)) entry (omega arith) in
       (omega arith, kept)
 
-  pub write-on : {rest now : List Record} {o p : List ℕ} {next after : ℕ} (more : List Record) → Writing whole rest at entry o next → rest ≡ more ++ now
+  pub write-kept : {rest : List Record} {o : List ℕ} {next : ℕ} → Writing whole rest at entry o next → length o ≡ length entry
+  write-kept {rest} w = write-room [] rest w refl .1
+
+  pub write-on : {rest now : List Record} {o p : List ℕ} {next after : ℕ} (more : List Record) → Writing whole rest at entry o next
+      → rest ≡ more ++ now
       → Wrote next (bytesOf more) o p after → Writing whole now at entry p after
   write-on {rest = rest} {now = now} {next = next} more w e x =
       let n = ap length (w .parts) ∙ length-append (w .done) rest ∙ ap (λ k. length (w .done) + k) (ap length e ∙ length-append more now) in
@@ -57,11 +62,13 @@ module _ (whole : List Record) (at : ℕ) (entry : List ℕ) where
         fits = h;
       }
 
-  pub write-end : {rest : List Record} {o : List ℕ} {next : ℕ} → Writing whole rest at entry o next → rest ≡ [] → Wrote at (bytesOf whole) entry o next
+  pub write-end : {rest : List Record} {o : List ℕ} {next : ℕ} → Writing whole rest at entry o next → rest ≡ []
+      → Wrote at (bytesOf whole) entry o next
   write-end w e = rw (w .parts ∙ ap (λ k. w .done ++ k) e ∙ append-nil (w .done)) (w .wrote)
 
 -- one record
-pub wrote-one : (r : Record) (at : ℕ) (entry exit : List ℕ) (next : ℕ) → Wrote at (recordBytes r) entry exit next → Wrote at (bytesOf (r ∷ [])) entry exit next
+pub wrote-one : (r : Record) (at : ℕ) (entry exit : List ℕ) (next : ℕ) → Wrote at (recordBytes r) entry exit next
+    → Wrote at (bytesOf (r ∷ [])) entry exit next
 unfolding bytesOf
 wrote-one r at entry exit next w = rw (append-nil (recordBytes r)) w
 
@@ -70,5 +77,6 @@ module _ (whole rest : List Record) (at : ℕ) (entry : List ℕ) where
   pub last-room : {o : List ℕ} {next : ℕ} → Writing whole rest at entry o next → next + length rest * 16 ≤ length o
   last-room w = write-room whole at entry rest [] w (sym (append-nil rest)) .0
 
-  pub write-last : {o p : List ℕ} {next after : ℕ} → Writing whole rest at entry o next → Wrote next (bytesOf rest) o p after → Wrote at (bytesOf whole) entry p after
+  pub write-last : {o p : List ℕ} {next after : ℕ} → Writing whole rest at entry o next → Wrote next (bytesOf rest) o p after
+      → Wrote at (bytesOf whole) entry p after
   write-last w x = write-end whole at entry (write-on whole at entry {now = []} rest w (sym (append-nil rest)) x) refl

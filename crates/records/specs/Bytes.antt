@@ -1,5 +1,6 @@
 -- Little-endian numbers in lists of bytes.
 use Prim.Native.Nat.{ℕ, zero, suc, _+_, _*_, _/_, _%_, _^_, _<_}
+use mathlib.Core.Bool.{Bool, cond}
 use mathlib.Core.List.{List, [], _∷_, _++_}
 use lib.ListN.{length, take, drop, getD}
 
@@ -20,3 +21,7 @@ placed at b s = take at s ++ (b ++ drop (at + length b) s)
 -- each element is a byte
 abbrev pub Bytes : List ℕ → Type 0
 Bytes s = (i : ℕ) → getD s i 0 < 256
+
+-- a flag as a byte
+abbrev pub flagOf : Bool → ℕ
+flagOf b = cond b 1 0

@@ -1,9 +1,8 @@
 -- Records of 16 bytes: byte 0 kind, 1 index, 2-3 actor, 4-7 key, 8-15 number.
-use mathlib.Core.Path.{_≡_}
 use Prim.Native.Nat.{ℕ, zero, suc, _+_, _/_}
 use mathlib.Core.List.{List, [], _∷_, _++_}
 use lib.ListN.{length}
-use Rattle.records.specs.Bytes.{numAt, numBytes, placed}
+use Rattle.records.specs.Bytes.{numAt, numBytes}
 use Rattle.records.specs.declared.Record.{Record}
 
 -- the record that stands at byte `at`
@@ -34,8 +33,3 @@ recordBytes r =
 unfoldable pub bytesOf : List Record → List ℕ
 bytesOf [] = []
 bytesOf (r ∷ l) = recordBytes r ++ bytesOf l
-
--- a writer was given `entry`, left `exit`, and answers the place behind the bytes b that it wrote at `at`
-pub record Wrote (at : ℕ) (b entry exit : List ℕ) (next : ℕ) : Type 0 where
-  pub left : exit ≡ placed at b entry
-  pub ends : next ≡ at + length b

@@ -2,8 +2,9 @@
 ghost use mathlib.Core.Path.{_≡_};
 ghost use Prim.Native.Nat.{_+_, _*_, _≤_, _<_};
 ghost use lib.ListN.{length};
-ghost use Rattle.records.specs.Bytes.{numAt, numBytes, placed};
-ghost use Rattle.records.specs.Records.{recordFrom, recordBytes, Wrote};
+ghost use Rattle.records.specs.Bytes.{numAt, numBytes, placed, flagOf};
+ghost use Rattle.records.specs.Records.{recordFrom, recordBytes};
+ghost use Rattle.records.specs.Writing.{Wrote};
 ghost use Rattle.records.specs.Kinds.{maskOf, fieldOk, fieldsOk, counterOk, recordOk, actorOf, before};
 
 pub struct Record {
@@ -13,6 +14,31 @@ pub struct Record {
     pub key: u32,
     pub number: u64,
 }
+
+// The kinds of records: a map has the first six, a clock the first alone, an operation the last six.
+pub const CLOCK_DOT: u8 = 1;
+
+pub const ENTRY_DOT: u8 = 2;
+
+pub const VALUE: u8 = 3;
+
+pub const VALUE_DOT: u8 = 4;
+
+pub const WAITING_DOT: u8 = 5;
+
+pub const WAITING_KEY: u8 = 6;
+
+pub const REMOVAL: u8 = 7;
+
+pub const REMOVAL_DOT: u8 = 8;
+
+pub const REMOVAL_KEY: u8 = 9;
+
+pub const UPDATE: u8 = 10;
+
+pub const PUT_VALUE: u8 = 11;
+
+pub const PUT_DOT: u8 = 12;
 
 // By kind, from kind 0, which is none: bits 1 index, 2 actor, 4 key, 8 number.
 const MASKS: [u8; 13] = [0, 10, 14, 15, 15, 11, 5, 0, 10, 4, 14, 10, 10];
@@ -133,7 +159,7 @@ fn fields_ok(mask: u8, r: Record) -> bool
 fn counter_ok(mask: u8, r: Record) -> bool
     ensures { λ b. ⌜ b ≡ counterOk mask r ⌝ }
 {
-    (mask & 8 == 0) | ((r.kind == 3) | ((r.kind == 11) | (0 < r.number)))
+    (mask & 8 == 0) | ((r.kind == VALUE) | ((r.kind == PUT_VALUE) | (0 < r.number)))
 }
 
 // Whether a record is good by itself in an image of the kinds `low` to `high`.
@@ -148,7 +174,7 @@ pub fn record_ok(low: u8, high: u8, r: Record) -> bool
 fn actor_of(r: Record) -> u16
     ensures { λ a. ⌜ a ≡ actorOf r ⌝ }
 {
-    if (r.kind == 3) | (r.kind == 11) {
+    if (r.kind == VALUE) | (r.kind == PUT_VALUE) {
         0
     } else {
         r.actor
@@ -165,4 +191,11 @@ pub fn before(a: Record, b: Record) -> bool
                 | ((a.key == b.key)
                     & ((a.index < b.index)
                         | ((a.index == b.index) & (actor_of(a) < actor_of(b)))))))
+}
+
+// A flag as a byte.
+pub fn flag(b: bool) -> u8
+    ensures { λ n. ⌜ n ≡ flagOf b ⌝ }
+{
+    if b { 1 } else { 0 }
 }

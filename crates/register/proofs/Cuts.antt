@@ -2,16 +2,16 @@
 use mathlib.Core.Path.{_≡_, refl, ap, sym, _∙_}
 use mathlib.Core.Bool.{false, not}
 use mathlib.Core.List.{List, []}
-use borrow.Author.Tests.{not-true, not-false}
-use Rattle.lists.specs.Sift.{sift}
-use Rattle.lists.specs.Order.{_∈_}
-use Rattle.lists.proofs.Those.{sift-means, those-all}
-use Rattle.lists.proofs.Twice.{sift-same, sift-sift}
+use borrow.Author.Tests.{not-false}
+use Rattle.listlaws.specs.Sift.{sift}
+use Rattle.listlaws.specs.Order.{_∈_}
+use Rattle.listlaws.proofs.Those.{those-all}
+use Rattle.listlaws.proofs.Twice.{sift-same, sift-sift}
 use Rattle.clock.specs.declared.Dot.{Dot}
 use Rattle.clock.specs.Dots.{dotsOf, clockOf, isEmpty, cutDots, joinDots}
 use Rattle.clock.specs.Lawful.{Lawful}
 use Rattle.clock.proofs.Packs.{dots-of}
-use Rattle.clock.proofs.Cuts.{cut-trade, cut-again, cut-none, lawful-cut}
+use Rattle.clock.proofs.Cuts.{cut-trade, cut-none}
 use Rattle.clock.proofs.Joins.{cut-cut}
 use Rattle.clock.proofs.Empties.{empty-cut}
 use Rattle.register.specs.declared.Value.{Value}
@@ -30,24 +30,22 @@ twice : (c d : List Dot) (l : List Value) → cutValues d (cutValues c l) ≡ si
 unfolding cutValues
 twice c d l = sift-sift alive (cutValue c) (cutValue d) l (λ v i t. dead-cut d (cutValue c v) t)
 
-value-twice : (c d : List Dot) (v : Value) → cutValue d (cutValue c v) ≡ record { clock = clockOf (cutDots d (cutDots c (dotsOf (v .clock)))); value = v .value }
+value-twice : (c d : List Dot) (v : Value) → cutValue d (cutValue c v)
+    ≡ record { clock = clockOf (cutDots d (cutDots c (dotsOf (v .clock)))); value = v .value }
 value-twice c d v = ap (λ x. record { clock = clockOf (cutDots d x); value = v .value }) (dots-cut c v)
 
 pub cut-values-cut : {c d : List Dot} → Lawful c → Lawful d → (l : List Value) → cutValues d (cutValues c l) ≡ cutValues (joinDots c d) l
 unfolding cutValues
 cut-values-cut {c} {d} h k l =
-    twice c d l ∙ sift-same alive _ _ l (λ v i. value-twice c d v ∙ ap (λ x. record { clock = clockOf x; value = v .value }) (cut-cut h k (dotsOf (v .clock))))
+    twice c d l ∙ sift-same alive _ _ l (λ v i. value-twice c d v ∙ ap (λ x. record { clock = clockOf x; value = v .value })
+    (cut-cut h k (dotsOf (v .clock))))
 
 pub cut-values-trade : (c d : List Dot) (l : List Value) → cutValues c (cutValues d l) ≡ cutValues d (cutValues c l)
 cut-values-trade c d l =
     twice d c l
-    ∙ sift-same alive _ _ l (λ v i. value-twice d c v ∙ ap (λ x. record { clock = clockOf x; value = v .value }) (cut-trade c d (dotsOf (v .clock))) ∙ sym (value-twice c d v))
+    ∙ sift-same alive _ _ l (λ v i. value-twice d c v ∙ ap (λ x. record { clock = clockOf x; value = v .value }) (cut-trade c d (dotsOf (v .clock)))
+    ∙ sym (value-twice c d v))
     ∙ sym (twice c d l)
-
-pub cut-values-again : (c : List Dot) (l : List Value) → cutValues c (cutValues c l) ≡ cutValues c l
-unfolding cutValues
-cut-values-again c l =
-    twice c c l ∙ sift-same alive _ _ l (λ v i. value-twice c c v ∙ ap (λ x. record { clock = clockOf x; value = v .value }) (cut-again c (dotsOf (v .clock))))
 
 -- a value laid down under a clock that is not empty
 abbrev pub Sound : Value → Type 0
@@ -58,14 +56,3 @@ unfolding cutValues
 cut-values-none l f =
     sift-same alive (cutValue []) (λ v. v) l (λ v i. ap (λ x. record { clock = clockOf x; value = v .value }) (cut-none (f v i .1)) ∙ sym (f v i .0))
     ∙ those-all alive l (λ v i. ap not (f v i .2))
-
--- what a cut leaves is laid down under a clock that is not empty
-pub sound-cut : (c : List Dot) (l : List Value) → ((v : Value) → v ∈ l → Lawful (dotsOf (v .clock))) → (v : Value) → v ∈ cutValues c l → Sound v
-unfolding cutValues
-sound-cut c l f v i =
-    let r = sift-means alive (cutValue c) l i in
-    let e = ap (λ x. dotsOf (x .clock)) (r .changed) ∙ dots-cut c (r .source) in (
-      r .changed ∙ (λ j. record { clock = clockOf (sym e j); value = sym (ap (λ x. x .value) (r .changed)) j }),
-      rw e (lawful-cut c (f (r .source) (r .stands))),
-      not-true (isEmpty (dotsOf (v .clock))) (r .passes),
-    )

@@ -4,25 +4,29 @@ use mathlib.Core.Bool.{Bool, true, false, not, cond}
 use mathlib.Core.Logic.{⊎-elim}
 use mathlib.Core.List.{List, [], _∷_, _++_, List·Memᴰ·append-cases, List·Memᴰ·eq-of-singleton}
 use borrow.Author.Tests.{not-true}
-use Rattle.lists.specs.Order.{_∈_}
-use Rattle.lists.proofs.Pads.{take-pad}
-use Rattle.lists.proofs.Those.{sift-means, those-means}
+use Rattle.listlaws.specs.Order.{_∈_}
+use Rattle.listlaws.proofs.Pads.{take-pad}
+use Rattle.listlaws.proofs.Those.{sift-means, those-means}
 use Rattle.clock.specs.declared.Dot.{Dot}
-use Rattle.clock.specs.Dots.{dotLimit, noDot, dotsOf, isEmpty, cutDots}
+use Rattle.limits.specs.Limits.{dotLimit}
+use Rattle.clock.specs.Dots.{noDot, dotsOf, isEmpty, cutDots}
 use Rattle.register.specs.declared.Value.{Value}
 use Rattle.register.specs.Values.{alive, cutValue, cutValues, outdone, standing, remaining, putValues, oursLeft, mergeValues}
 
 module _ (P : Value → Type 0) where
   -- a cut leaves the cuts of those values that keep a dot
-  pub cut-each : (c : List Dot) (l : List Value) → ((v : Value) → v ∈ l → isEmpty (cutDots c (dotsOf (v .clock))) ≡ false → P (cutValue c v)) → (z : Value) → z ∈ cutValues c l → P z
+  pub cut-each : (c : List Dot) (l : List Value) → ((v : Value) → v ∈ l → isEmpty (cutDots c (dotsOf (v .clock))) ≡ false → P (cutValue c v))
+      → (z : Value) → z ∈ cutValues c l → P z
   unfolding cutValues
   cut-each c l f z i =
       let r = sift-means alive (cutValue c) l i in
       let kept : not (isEmpty (dotsOf (cutValue c (r .source) .clock))) ≡ true = ap alive (sym (r .changed)) ∙ r .passes in
-      rw (r .changed) (f (r .source) (r .stands) (ap isEmpty (sym (take-pad noDot dotLimit (cutDots c (dotsOf (r .source .clock))))) ∙ not-true _ kept))
+      rw (r .changed) (f (r .source) (r .stands) (ap isEmpty (sym (take-pad noDot dotLimit (cutDots c (dotsOf (r .source .clock)))))
+      ∙ not-true _ kept))
 
   -- a put leaves values that stood there, and the put's if its clock is not empty
-  pub put-each : (l : List Value) (put : Value) → ((v : Value) → v ∈ l → P v) → (isEmpty (dotsOf (put .clock)) ≡ false → P put) → (z : Value) → z ∈ putValues l put → P z
+  pub put-each : (l : List Value) (put : Value) → ((v : Value) → v ∈ l → P v) → (isEmpty (dotsOf (put .clock)) ≡ false → P put) → (z : Value)
+      → z ∈ putValues l put → P z
   unfolding putValues remaining
   put-each l put f g z i = go (isEmpty (dotsOf (put .clock))) (outdone false (remaining l put) put) refl i
     where

@@ -1,3 +1,4 @@
 pub mod Packs
 pub mod Kept
 pub mod Cuts
+pub mod Examples

@@ -1,19 +1,21 @@
--- Laws of a register as a pack of its values, and of the limit.
+-- A register as the pack of its values: these come back (`values-of`), one more (`pushed`), and the limit (`fits`, `exceeds`).
 use mathlib.Core.Path.{_≡_, refl}
 use mathlib.Core.Bool.{true, false}
 use mathlib.Core.List.{List, [], _∷_, _++_}
 use Prim.Native.Nat.{_+_, _≤_, _<_}
 use lib.Dec.{ltb}
 use lib.ListN.{length, set}
-use Rattle.lists.proofs.Pads.{take-pad, push-pad, length-snoc}
-use Rattle.lists.proofs.Sifts.{length-sift}
-use Rattle.lists.proofs.Limits.{within-fits, within-exceeds, flag-set, flag-clear, flag-is}
+use Rattle.listlaws.proofs.Pads.{take-pad, push-pad, length-snoc}
+use Rattle.listlaws.proofs.Sifts.{length-sift}
+use Rattle.listlaws.proofs.Limits.{within-fits, within-exceeds, flag-is}
 use Rattle.clock.specs.declared.Dot.{Dot}
 use Rattle.register.specs.declared.Value.{Value}
 use Rattle.register.specs.declared.Register.{Register}
 use Rattle.register.specs.declared.Wide.{Wide}
 use Rattle.register.specs.declared.Settled.{Settled}
-use Rattle.register.specs.Values.{valueLimit, wideRoom, noContent, noValue, valuesOf, wideValues, registerOf, wideOf, settled, alive, cutValue, cutValues, standing, remaining}
+use Rattle.limits.specs.Limits.{valueLimit}
+use Rattle.register.specs.Values.{noContent, noValue, valuesOf, registerOf, alive, cutValue, cutValues, standing, remaining}
+use Rattle.register.specs.InHand.{wideRoom, wideValues, wideOf, settled}
 
 -- what the logic reads past the end of an array of values
 abbrev pub noneRead : Value
@@ -27,10 +29,12 @@ pub wide-values : {w : Wide} (l : List Value) → w ≡ wideOf l → wideValues 
 wide-values l e = rw e (take-pad noValue wideRoom l)
 
 -- a value stored behind the last
-pub pushed : {r : Register} (l : List Value) (v : Value) → r ≡ registerOf l → length l < valueLimit → _≡_ {A = Register} (record { values = set (r .values) (r .len) v; len = r .len + 1 }) (registerOf (l ++ (v ∷ [])))
+pub pushed : {r : Register} (l : List Value) (v : Value) → r ≡ registerOf l → length l < valueLimit
+    → _≡_ {A = Register} (record { values = set (r .values) (r .len) v; len = r .len + 1 }) (registerOf (l ++ (v ∷ [])))
 pushed l v e h = rw (e, push-pad noValue valueLimit l v h, length-snoc l v)
 
-pub wide-pushed : {w : Wide} (l : List Value) (v : Value) → w ≡ wideOf l → length l < wideRoom → _≡_ {A = Wide} (record { values = set (w .values) (w .len) v; len = w .len + 1 }) (wideOf (l ++ (v ∷ [])))
+pub wide-pushed : {w : Wide} (l : List Value) (v : Value) → w ≡ wideOf l → length l < wideRoom
+    → _≡_ {A = Wide} (record { values = set (w .values) (w .len) v; len = w .len + 1 }) (wideOf (l ++ (v ∷ [])))
 wide-pushed l v e h = rw (e, push-pad noValue wideRoom l v h, length-snoc l v)
 
 -- the two answers of what is laid down
@@ -47,12 +51,6 @@ pub exceeds : (l : List Value) → valueLimit < length l → settled l ≡ recor
 exceeds l h = within-exceeds valueLimit good bad l h
 
 -- what the flag says of the list
-pub over-means : {s : Settled} (l : List Value) → s ≡ settled l → s .over ≡ true → valueLimit < length l
-over-means l e t = flag-set valueLimit good bad (λ s. s .over) (λ v. refl) refl l e t
-
-pub within-means : {s : Settled} (l : List Value) → s ≡ settled l → s .over ≡ false → length l ≤ valueLimit
-within-means l e t = flag-clear valueLimit good bad (λ s. s .over) (λ v. refl) refl l e t
-
 pub settled-over : (l : List Value) → settled l .over ≡ ltb valueLimit (length l)
 settled-over l = flag-is valueLimit good bad (λ s. s .over) (λ v. refl) refl l
 

@@ -1,13 +1,12 @@
 -- Registers, in the words and order of 01 "Register": an ordered list of values, of any length, each under a clock.
 use mathlib.Core.Bool.{Bool, true, false, not, cond}
 use mathlib.Core.List.{List, [], _∷_, _++_, map}
-use Prim.Native.Nat.{_*_, ℕ}
+use Prim.Native.Nat.{ℕ}
 use lib.ListN.{length, take}
-use Rattle.lists.specs.Pad.{pad}
-use Rattle.lists.specs.Sift.{sift, those}
-use Rattle.lists.specs.First.{some}
-use Rattle.lists.specs.Fold.{fold}
-use Rattle.lists.specs.Limit.{within}
+use Rattle.listlaws.specs.Pad.{pad}
+use Rattle.listlaws.specs.Sift.{sift, those}
+use Rattle.listlaws.specs.First.{some}
+use Rattle.listlaws.specs.Fold.{fold}
 use Rattle.clock.specs.declared.Dot.{Dot}
 use Rattle.clock.specs.declared.Order.{Order}
 use Rattle.clock.specs.declared.Order.the-variants.{Equal, Greater, Less, Concurrent}
@@ -15,18 +14,9 @@ use Rattle.clock.specs.Dots.{dotsOf, clockOf, fitted, isEmpty, cutDots, joinDot
 use Rattle.register.specs.declared.Content.{Content}
 use Rattle.register.specs.declared.Value.{Value}
 use Rattle.register.specs.declared.Register.{Register}
-use Rattle.register.specs.declared.Wide.{Wide}
-use Rattle.register.specs.declared.Settled.{Settled}
 use Rattle.register.specs.declared.Contents.{Contents}
 use Rattle.register.specs.declared.Read.{Read}
-
--- the limit: so many values in a register
-abbrev pub valueLimit : ℕ
-valueLimit = 4
-
--- the room of a register in hand: two registers' values, before what follows has cut them
-abbrev pub wideRoom : ℕ
-wideRoom = 2 * valueLimit
+use Rattle.limits.specs.Limits.{valueLimit}
 
 -- what zeros are: the number 0, and the origin 0 of a value that was set before there were origins
 abbrev pub noContent : Content
@@ -39,23 +29,13 @@ noValue = record { clock = clockOf []; value = noContent }
 abbrev pub valuesOf : Register → List Value
 valuesOf r = take (r .len) (r .values)
 
-abbrev pub wideValues : Wide → List Value
-wideValues w = take (w .len) (w .values)
-
 -- the register of these values: the places behind them hold zeros
 abbrev pub registerOf : List Value → Register
 registerOf l = record { values = pad noValue valueLimit l; len = length l }
 
-abbrev pub wideOf : List Value → Wide
-wideOf l = record { values = pad noValue wideRoom l; len = length l }
-
 -- values without their clocks, as many as a register has
 abbrev pub contentsOf : List Content → Contents
 contentsOf l = record { items = pad noContent valueLimit l; len = length l }
-
--- the register of these values, or that it is over the limit
-abbrev pub settled : List Value → Settled
-settled l = within valueLimit (λ v. record { over = false; register = registerOf v }) (record { over = true; register = registerOf [] }) l
 
 -- a clock that is less than another, or, where `equalToo` says so, equal to it
 abbrev pub yielding : Bool → Order → Bool

@@ -3,17 +3,18 @@ ghost use mathlib.Core.Path.{_≡_};
 ghost use mathlib.Core.List.{List, [], _∷_, _++_, map};
 ghost use Prim.Native.Nat.{_≤_, _<_, _+_};
 ghost use lib.ListN.{length};
-ghost use Rattle.lists.specs.Sift.{those};
+ghost use Rattle.listlaws.specs.Sift.{those};
 ghost use Rattle.clock.specs.Dots.{dotsOf, fitted};
 ghost use Rattle.register.specs.declared.Content.{Content};
 ghost use Rattle.register.specs.declared.Value.{Value};
-ghost use Rattle.register.specs.Values.{valueLimit, wideRoom, valuesOf, wideValues, registerOf, wideOf, contentsOf, settled, yields, outdone, standing, putValues, cutValue, cutValues, mergeValues, clockOver, readOf};
+ghost use Rattle.limits.specs.Limits.{valueLimit};
+ghost use Rattle.register.specs.Values.{valuesOf, registerOf, contentsOf, yields, outdone, standing, putValues, cutValue, cutValues};
+ghost use Rattle.register.specs.Values.{mergeValues, clockOver, readOf};
+ghost use Rattle.register.specs.InHand.{wideRoom, wideValues, wideOf, settled};
 use clock::Clock;
 use clock::Joined;
 use clock::Order;
-
-// The most values that a register can hold.
-pub const VALUES: usize = 4;
+use limits::VALUES;
 
 // Room for the values of two registers.
 pub const WIDE: usize = 2 * VALUES;

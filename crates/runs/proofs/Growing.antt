@@ -16,4 +16,5 @@ pub dots-next : (s : List ℕ) (i : ℕ) → map dotOf (recordsFrom s 0 (i + 1))
 unfolding recordsFrom
 dots-next s i =
     let e : 0 + i * 16 ≡ i * 16 = omega arith in
-    ap (map dotOf) (records-split i 1 0 s ∙ ap (λ k. recordsFrom s 0 i ++ (recordFrom s k ∷ [])) e) ∙ map-snoc dotOf (recordsFrom s 0 i) (recordFrom s (i * 16))
+    ap (map dotOf) (records-split i 1 0 s ∙ ap (λ k. recordsFrom s 0 i ++ (recordFrom s k ∷ [])) e)
+    ∙ map-snoc dotOf (recordsFrom s 0 i) (recordFrom s (i * 16))

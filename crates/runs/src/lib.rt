@@ -2,8 +2,9 @@
 ghost use mathlib.Core.Path.{_≡_};
 ghost use Prim.Native.Nat.{_+_, _*_, _≤_};
 ghost use lib.ListN.{length};
-ghost use Rattle.clock.specs.Dots.{dotLimit, clockOf};
-ghost use Rattle.records.specs.Records.{Wrote};
+ghost use Rattle.limits.specs.Limits.{dotLimit};
+ghost use Rattle.clock.specs.Dots.{clockOf};
+ghost use Rattle.records.specs.Writing.{Wrote};
 ghost use Rattle.runs.specs.Run.{runDots};
 use clock::Clock;
 use clock::Dot;

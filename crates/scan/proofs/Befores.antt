@@ -5,7 +5,7 @@ use Prim.Native.Nat.{ℕ, _≤_, _<_}
 use native.Mathlib.Omega.{arith}
 use lib.Dec.{eqb, ltb}
 use borrow.Author.Tests.{ltb-true, ltb-false, lt-ltb, eq-eqb, eqb-true}
-use Rattle.lists.proofs.Orders.{apart}
+use Rattle.listlaws.proofs.Orders.{apart}
 use Rattle.records.specs.declared.Record.{Record}
 use Rattle.records.specs.Kinds.{actorOf, before}
 use Rattle.records.proofs.Rule.{isValue}
@@ -44,7 +44,8 @@ before-fields {a} {b} e =
     }
 
 -- dots of one kind, key and index ascend by their actors
-pub before-actor : {a b : Record} → Before a b → isValue (a .kind) ≡ false → a .kind ≡ b .kind → a .key ≡ b .key → a .index ≡ b .index → a .actor < b .actor
+pub before-actor : {a b : Record} → Before a b → isValue (a .kind) ≡ false → a .kind ≡ b .kind → a .key ≡ b .key → a .index ≡ b .index
+    → a .actor < b .actor
 before-actor {a} {b} h f k y i = rw (f, ap isValue (sym k) ∙ f) at (h .actor k y i)
 
 pub fields-before : {a b : Record} → Before a b → before a b ≡ true

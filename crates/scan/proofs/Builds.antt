@@ -2,27 +2,31 @@
 use mathlib.Core.Path.{_≡_, refl, ap, sym, _∙_, fun-ext}
 use mathlib.Core.Bool.{Bool, true, false, not, cond, _&&_, _||_}
 use mathlib.Core.Logic.{⊎-elim}
-use mathlib.Core.List.{List, [], _∷_, _++_, List·Memᴰ·head, List·Memᴰ·tail, List·Memᴰ·not-nil, List·Memᴰ·cases-cons, List·Memᴰ·append-cases, List·Memᴰ·eq-of-singleton, Memᴰ·append-left, Memᴰ·append-right}
+use mathlib.Core.List.{List, [], _∷_, _++_, List·Memᴰ·head, List·Memᴰ·tail, List·Memᴰ·not-nil, List·Memᴰ·cases-cons, List·Memᴰ·append-cases}
+use mathlib.Core.List.{List·Memᴰ·eq-of-singleton, Memᴰ·append-left, Memᴰ·append-right}
 use Prim.Native.Nat.{ℕ, suc, _+_, _≤_}
 use native.Mathlib.Omega.{arith}
 use lib.Dec.{eqb, leb}
 use lib.ListN.{length}
 use borrow.Author.Tests.{eq-eqb, eqb-true, le-leb}
-use Rattle.lists.specs.Order.{_∈_, Ascending, nil, next}
-use Rattle.lists.specs.First.{firstIn, some}
-use Rattle.lists.proofs.Orders.{apart, head-before, tail-ascends}
+use Rattle.listlaws.specs.Order.{_∈_, Ascending, nil, next}
+use Rattle.listlaws.specs.First.{firstIn, some}
+use Rattle.listlaws.proofs.Orders.{apart, head-before, tail-ascends}
+use Rattle.listlaws.proofs.Tally.{some-snoc}
 use Rattle.records.specs.declared.Record.{Record}
 use Rattle.records.specs.Kinds.{before, recordOk}
 use Rattle.scan.specs.Each.{eachAfter, countAfter}
 use Rattle.scan.specs.Formed.{follows, wellFormed}
-use Rattle.scan.specs.Limits.{outer, middle, inner, Limits, today, outerBy, middleBy, innerLimits, limitAt, sameKind, sameOuter, sameMiddle, fresh, tally, roomBy, withinBy, within}
-use Rattle.scan.specs.Scanned.{scanNumber}
-use Rattle.scan.proofs.Eachs.{both-left, both-right, both, decide, every-at, every-of, some-snoc}
+use Rattle.scan.specs.Limits.{outer, middle, inner, Limits, today, outerBy, middleBy, innerLimits, limitAt, sameKind, sameOuter, sameMiddle}
+use Rattle.scan.specs.Limits.{fresh, tally, roomBy, withinBy, within}
+use Rattle.scan.specs.Numbers.{scanNumber}
+use Rattle.scan.proofs.Eachs.{both-left, both-right, both, decide, every-at, every-of}
 use Rattle.scan.proofs.Tallies.{tally-none}
 
 -- good records in ascending order
 module _ (low high : ℕ) where
-  formed-after : (seen l : List Record) → ((s x : Record) → s ∈ seen → x ∈ l → before s x ≡ true) → Ascending before l → ((x : Record) → x ∈ l → recordOk low high x ≡ true)
+  formed-after : (seen l : List Record) → ((s x : Record) → s ∈ seen → x ∈ l → before s x ≡ true) → Ascending before l
+      → ((x : Record) → x ∈ l → recordOk low high x ≡ true)
       → eachAfter (follows low high) seen l ≡ true
   unfolding eachAfter
   formed-after seen [] b a g = refl
@@ -33,7 +37,8 @@ module _ (low high : ℕ) where
     where
       further : (s y : Record) → s ∈ (seen ++ (x ∷ [])) → y ∈ l → before s y ≡ true
       further s y i j =
-          ⊎-elim (λ k. b s y k (List·Memᴰ·tail j)) (λ k. ap (λ z. before z y) (List·Memᴰ·eq-of-singleton k) ∙ head-before a y j) (List·Memᴰ·append-cases seen i)
+          ⊎-elim (λ k. b s y k (List·Memᴰ·tail j)) (λ k. ap (λ z. before z y) (List·Memᴰ·eq-of-singleton k) ∙ head-before a y j)
+          (List·Memᴰ·append-cases seen i)
 
   pub formed-of : (l : List Record) → Ascending before l → ((x : Record) → x ∈ l → recordOk low high x ≡ true) → wellFormed low high l ≡ true
   unfolding wellFormed
@@ -57,7 +62,8 @@ module _ (f : Record → ℕ) (k : ℕ) (group : Record → Bool) where
       decide (group x)
       (λ g. decide (eqb (f x) k)
       (λ e. rw (eqb-true (f x) k e, g, eq-eqb k k refl) (same (some given seen) a b (rw (some-snoc given seen x, g, e) at rest)))
-      (λ e. rw (g, e, ap (λ t. some t seen) (fun-ext (λ s. alike s e))) (other (some (λ s. group s && eqb (f s) (f x)) seen) (some given seen) a b (rw (some-snoc given seen x, g, e) at rest))))
+      (λ e. rw (g, e, ap (λ t. some t seen) (fun-ext (λ s. alike s e)))
+      (other (some (λ s. group s && eqb (f s) (f x)) seen) (some given seen) a b (rw (some-snoc given seen x, g, e) at rest))))
       (λ g. rw g (still (some given seen) a b (rw (some-snoc given seen x, g) at rest)))
     where
       same : (given : Bool) (a b : ℕ) → a ≤ b + cond (given || true) 0 1 → cond (not given) (suc a) a ≤ b + cond given 0 1
@@ -94,7 +100,8 @@ module _ (f : Record → ℕ) (k : ℕ) (group : Record → Bool) where
   tally-less l = less-after [] l
 
 -- what is given lies among the numbers ks
-pub tally-among : (f : Record → ℕ) (ks : List ℕ) (group : Record → Bool) (l : List Record) → ((x : Record) → x ∈ l → group x ≡ true → f x ∈ ks) → tally group f l ≤ length ks
+pub tally-among : (f : Record → ℕ) (ks : List ℕ) (group : Record → Bool) (l : List Record) → ((x : Record) → x ∈ l → group x ≡ true → f x ∈ ks)
+    → tally group f l ≤ length ks
 tally-among f [] group l h =
     let z = tally-none group f l (λ x i. decide (group x) (λ g. absurd (List·Memᴰ·not-nil (h x i g))) (λ n. n)) in omega arith
 tally-among f (k ∷ ks) group l h =
@@ -124,7 +131,8 @@ pub record AmongBy (t : Limits) (l : List Record) (r : Record) : Type 0 where
 abbrev pub Among : List Record → Record → Type 0
 Among = AmongBy today
 
-within-after : (t : Limits) (seen l whole : List Record) → ((x : Record) → x ∈ seen → x ∈ whole) → ((x : Record) → x ∈ l → x ∈ whole) → ((r : Record) → r ∈ whole → AmongBy t whole r) → eachAfter (roomBy t) seen l ≡ true
+within-after : (t : Limits) (seen l whole : List Record) → ((x : Record) → x ∈ seen → x ∈ whole) → ((x : Record) → x ∈ l → x ∈ whole)
+    → ((r : Record) → r ∈ whole → AmongBy t whole r) → eachAfter (roomBy t) seen l ≡ true
 unfolding eachAfter
 within-after t seen [] whole a b h = refl
 within-after t seen (r ∷ l) whole a b h =
@@ -140,7 +148,8 @@ within-after t seen (r ∷ l) whole a b h =
     further : (x : Record) → x ∈ (seen ++ (r ∷ [])) → x ∈ whole
     further x i = ⊎-elim (λ j. a x j) (λ j. b x (List·Memᴰ·head (List·Memᴰ·eq-of-singleton j))) (List·Memᴰ·append-cases seen i)
 
-    fits : (group : Record → Bool) (f : Record → ℕ) (ks : List ℕ) {n : ℕ} → length ks ≤ n → ((x : Record) → x ∈ whole → group x ≡ true → f x ∈ ks) → tally group f (seen ++ (r ∷ [])) ≤ n
+    fits : (group : Record → Bool) (f : Record → ℕ) (ks : List ℕ) {n : ℕ} → length ks ≤ n → ((x : Record) → x ∈ whole → group x ≡ true → f x ∈ ks)
+        → tally group f (seen ++ (r ∷ [])) ≤ n
     fits group f ks few h = let e = tally-among f ks group (seen ++ (r ∷ [])) (λ x i. h x (further x i)) in omega arith
 
 -- records whose groups give few numbers
@@ -152,7 +161,8 @@ unfolding within
 within-of l h = within-by today l h
 
 -- number 0
-pub scan-of : (low high : ℕ) (l : List Record) → Ascending before l → ((x : Record) → x ∈ l → recordOk low high x ≡ true) → ((r : Record) → r ∈ l → Among l r) → scanNumber low high l ≡ 0
+pub scan-of : (low high : ℕ) (l : List Record) → Ascending before l → ((x : Record) → x ∈ l → recordOk low high x ≡ true)
+    → ((r : Record) → r ∈ l → Among l r) → scanNumber low high l ≡ 0
 unfolding scanNumber
 scan-of low high l a g h = rw (formed-of low high l a g, within-of l h)
 
@@ -172,7 +182,8 @@ module _ (low high : ℕ) where
   ascends-after seen [] e = nil
   ascends-after seen (x ∷ l) e =
       let rest = both-right (follows low high seen x) _ e in
-      next (λ y i. behind-seen (seen ++ (x ∷ [])) l rest x y (Memᴰ·append-right seen (List·Memᴰ·head refl)) i) (ascends-after (seen ++ (x ∷ [])) l rest)
+      next (λ y i. behind-seen (seen ++ (x ∷ [])) l rest x y (Memᴰ·append-right seen (List·Memᴰ·head refl)) i)
+      (ascends-after (seen ++ (x ∷ [])) l rest)
 
   pub formed-ascends : (l : List Record) → wellFormed low high l ≡ true → Ascending before l
   unfolding wellFormed

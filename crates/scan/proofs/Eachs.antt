@@ -1,14 +1,13 @@
--- Laws of what holds of each element: one element more, and membership.
+-- What holds of each element, with one element more (`each-snoc`, `every-at`); and a test decided, or two that hold together (`decide`, `both`).
 use mathlib.Core.Path.{_≡_, refl, ap, sym, _∙_}
-use mathlib.Core.Bool.{Bool, true, false, cond, _&&_, _||_, and-assoc, and-true}
+use mathlib.Core.Bool.{Bool, true, false, cond, _&&_, and-assoc, and-true}
 use mathlib.Core.Logic.{⊎-elim}
 use mathlib.Core.List.{List, [], _∷_, _++_, append-assoc, List·Memᴰ·head, List·Memᴰ·tail, List·Memᴰ·not-nil, List·Memᴰ·cases-cons}
 use Prim.Native.Nat.{ℕ, suc, _+_}
 use native.Mathlib.Omega.{arith}
-use Rattle.lists.specs.Order.{_∈_}
-use Rattle.lists.specs.First.{firstIn, some}
-use Rattle.lists.proofs.Orders.{apart}
-use Rattle.scan.specs.Each.{every, eachAfter, countAfter, each, count}
+use Rattle.listlaws.specs.Order.{_∈_}
+use Rattle.listlaws.proofs.Orders.{apart}
+use Rattle.scan.specs.Each.{every, eachAfter, countAfter, each, countGiven}
 
 pub both-left : (a b : Bool) → (a && b) ≡ true → a ≡ true
 both-left true b e = refl
@@ -44,7 +43,8 @@ module _ {A : Type 0} where
   every-of test [] f = refl
   every-of test (y ∷ l) f = both (test y) (every test l) (f y (List·Memᴰ·head refl)) (every-of test l (λ x i. f x (List·Memᴰ·tail i)))
 
-  each-after : (test : List A → A → Bool) (seen l : List A) (x : A) → eachAfter test seen (l ++ (x ∷ [])) ≡ eachAfter test seen l && test (seen ++ l) x
+  each-after : (test : List A → A → Bool) (seen l : List A) (x : A) → eachAfter test seen (l ++ (x ∷ [])) ≡ eachAfter test seen l
+      && test (seen ++ l) x
   unfolding eachAfter
   each-after test seen [] x = and-true (test seen x) ∙ ap (λ s. test s x) (sym (mathlib.Core.List.append-nil seen))
   each-after test seen (y ∷ l) x =
@@ -54,7 +54,8 @@ module _ {A : Type 0} where
   pub each-snoc : (test : List A → A → Bool) (l : List A) (x : A) → each test (l ++ (x ∷ [])) ≡ each test l && test l x
   each-snoc test l x = each-after test [] l x
 
-  count-after : (test : List A → A → Bool) (seen l : List A) (x : A) → countAfter test seen (l ++ (x ∷ [])) ≡ cond (test (seen ++ l) x) (countAfter test seen l + 1) (countAfter test seen l)
+  count-after : (test : List A → A → Bool) (seen l : List A) (x : A) → countAfter test seen (l ++ (x ∷ [])) ≡ cond (test (seen ++ l) x)
+      (countAfter test seen l + 1) (countAfter test seen l)
   unfolding countAfter
   count-after test seen [] x = rw (mathlib.Core.List.append-nil seen)
   count-after test seen (y ∷ l) x =
@@ -67,33 +68,6 @@ module _ {A : Type 0} where
       go false true n = refl
       go false false n = refl
 
-  pub count-snoc : (test : List A → A → Bool) (l : List A) (x : A) → count test (l ++ (x ∷ [])) ≡ cond (test l x) (count test l + 1) (count test l)
+  pub count-snoc : (test : List A → A → Bool) (l : List A) (x : A) → countGiven test (l ++ (x ∷ [])) ≡ cond (test l x) (countGiven test l + 1)
+      (countGiven test l)
   count-snoc test l x = count-after test [] l x
-
-  pub some-snoc : (test : A → Bool) (l : List A) (x : A) → some test (l ++ (x ∷ [])) ≡ some test l || test x
-  unfolding firstIn
-  some-snoc test [] x = go (test x)
-    where
-      go : (a : Bool) → cond a true false ≡ a
-      go true = refl
-      go false = refl
-  some-snoc test (y ∷ l) x = rw (some-snoc test l x) (go (test y) (some test l) (test x))
-    where
-      go : (a b c : Bool) → cond a true (b || c) ≡ cond a true b || c
-      go true b c = refl
-      go false b c = refl
-
-  pub some-of : (test : A → Bool) (l : List A) (x : A) → x ∈ l → test x ≡ true → some test l ≡ true
-  unfolding firstIn
-  some-of test [] x i t = absurd (List·Memᴰ·not-nil i)
-  some-of test (y ∷ l) x i t =
-      ⊎-elim (λ (q : x ≡ y). rw (← q, t)) (λ j. rw (some-of test l x j t) (go (test y))) (List·Memᴰ·cases-cons i)
-    where
-      go : (a : Bool) → cond a true true ≡ true
-      go true = refl
-      go false = refl
-
-  pub some-none : (test : A → Bool) (l : List A) → ((x : A) → x ∈ l → test x ≡ false) → some test l ≡ false
-  unfolding firstIn
-  some-none test [] f = refl
-  some-none test (y ∷ l) f = rw (f y (List·Memᴰ·head refl), some-none test l (λ x i. f x (List·Memᴰ·tail i)))

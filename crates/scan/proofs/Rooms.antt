@@ -3,22 +3,23 @@ use mathlib.Core.Path.{_≡_, refl, ap, sym, _∙_}
 use mathlib.Core.Bool.{Bool, true, false, not, _&&_, _||_}
 use mathlib.Core.Logic.{⊎-elim}
 use mathlib.Core.List.{List, [], _∷_, _++_, List·Memᴰ·not-nil, List·Memᴰ·cases-cons}
-use Prim.Native.Nat.{ℕ, suc, _+_, _≤_, _<_}
+use Prim.Native.Nat.{ℕ, suc, _≤_, _<_}
 use native.Mathlib.Omega.{arith}
 use lib.Dec.{eqb, leb}
 use lib.Bits.{bitAnd}
 use lib.ListN.{length, length-append}
 use borrow.Author.Tests.{eq-eqb, ne-eqb, eqb-true, leb-true, ltb-true}
-use Rattle.lists.specs.Order.{_∈_}
-use Rattle.lists.specs.Sift.{sift, those}
-use Rattle.lists.proofs.Orders.{apart}
+use Rattle.listlaws.specs.Order.{_∈_}
+use Rattle.listlaws.specs.Sift.{sift, those}
+use Rattle.listlaws.proofs.Somes.{false-some}
 use Rattle.records.specs.declared.Record.{Record}
 use Rattle.records.specs.Kinds.{actorOf, before, recordOk, fieldsOk, fieldOk, maskOf}
 use Rattle.records.proofs.Rule.{isDot, isValue, usesIndex, usesActor, usesKey, usesNumber, Row, row-of}
 use Rattle.scan.specs.Each.{eachAfter, countAfter}
 use Rattle.scan.specs.Formed.{follows, wellFormed}
-use Rattle.scan.specs.Limits.{outer, middle, inner, outerLimits, middleLimits, innerLimits, limitAt, sameKind, sameOuter, sameMiddle, fresh, tally, within, room}
-use Rattle.scan.proofs.Eachs.{both-left, both-right, both, decide, every-at, some-none}
+use Rattle.scan.specs.Limits.{outer, middle, inner, outerLimits, middleLimits, innerLimits, limitAt, sameKind, sameOuter, sameMiddle, fresh}
+use Rattle.scan.specs.Limits.{tally, within, room}
+use Rattle.scan.proofs.Eachs.{both-left, both-right, both, decide, every-at}
 use Rattle.scan.proofs.Befores.{Before, before-fields}
 use Rattle.scan.proofs.Scans.{within-snoc, alike, alike-outer, alike-index, outer-key}
 
@@ -59,7 +60,7 @@ module _ (low high : ℕ) where
     all-after seen (x ∷ l) e =
         let rest = all-after (seen ++ (x ∷ [])) l (both-right (follows low high seen x) _ e) in
         decide (group x)
-        (λ g. rw (g, some-none (λ s. group s && eqb (f s) (f x)) seen (λ s i. first g s i)) (ap suc rest))
+        (λ g. rw (g, false-some (λ s. group s && eqb (f s) (f x)) seen (λ s i. first g s i)) (ap suc rest))
         (λ g. rw g rest)
       where
         follows-here : follows low high seen x ≡ true
@@ -95,7 +96,8 @@ module _ (low high : ℕ) (r : Record) (good : recordOk low high r ≡ true) whe
     pub no-actor : usesActor kind ≡ false → r .actor ≡ 0
     no-actor z =
         unused 2 (r .actor)
-        (both-left (fieldOk (maskOf (r .kind)) 2 (r .actor)) _ (both-right (fieldOk (maskOf (r .kind)) 1 (r .index)) _ fields)) (row .actor ∙ ap not z)
+        (both-left (fieldOk (maskOf (r .kind)) 2 (r .actor)) _ (both-right (fieldOk (maskOf (r .kind)) 1 (r .index)) _ fields))
+        (row .actor ∙ ap not z)
 
     -- what is no dot is ordered by no actor: a value's field is skipped, the others' is zero
     pub unordered : isDot kind ≡ false → actorOf r ≡ 0
@@ -105,13 +107,15 @@ module _ (low high : ℕ) (r : Record) (good : recordOk low high r ≡ true) whe
     pub no-key : usesKey kind ≡ false → r .key ≡ 0
     no-key z =
         unused 4 (r .key)
-        (both-left (fieldOk (maskOf (r .kind)) 4 (r .key)) _ (both-right (fieldOk (maskOf (r .kind)) 2 (r .actor)) _ (both-right (fieldOk (maskOf (r .kind)) 1 (r .index)) _ fields)))
+        (both-left (fieldOk (maskOf (r .kind)) 4 (r .key)) _ (both-right (fieldOk (maskOf (r .kind)) 2 (r .actor)) _
+        (both-right (fieldOk (maskOf (r .kind)) 1 (r .index)) _ fields)))
         (row .key ∙ ap not z)
 
     pub no-number : usesNumber kind ≡ false → r .number ≡ 0
     no-number z =
         unused 8 (r .number)
-        (both-right (fieldOk (maskOf (r .kind)) 4 (r .key)) _ (both-right (fieldOk (maskOf (r .kind)) 2 (r .actor)) _ (both-right (fieldOk (maskOf (r .kind)) 1 (r .index)) _ fields)))
+        (both-right (fieldOk (maskOf (r .kind)) 4 (r .key)) _ (both-right (fieldOk (maskOf (r .kind)) 2 (r .actor)) _
+        (both-right (fieldOk (maskOf (r .kind)) 1 (r .index)) _ fields)))
         (row .number ∙ ap not z)
 
     -- the number is a counter from 1, except in kinds 3 and 11
@@ -174,7 +178,8 @@ pub outer-room : (low high : ℕ) (l : List Record) (r : Record) → wellFormed 
     → (kind : ℕ) → r .kind ≡ kind → (kind ≡ 6 → ⊥) → usesIndex kind ≡ false → isDot kind ≡ false
     → length (those (λ x. eqb (x .kind) kind) l) < limitAt outerLimits kind
 outer-room low high l r w h kind k plain i a =
-    rw (← k) (fewer low high l r w h (sameKind r) outer (limitAt outerLimits (r .kind)) tells (eq-eqb (r .kind) (r .kind) refl) (outer-few low high l r w h))
+    rw (← k) (fewer low high l r w h (sameKind r) outer (limitAt outerLimits (r .kind)) tells (eq-eqb (r .kind) (r .kind) refl)
+    (outer-few low high l r w h))
   where
     tells : (s x : Record) → Before s x → recordOk low high x ≡ true → sameKind r s ≡ true → sameKind r x ≡ true → outer s ≡ outer x → ⊥
     tells s x b good gs gx e =
@@ -200,7 +205,8 @@ middle-room low high l r w h a =
     tells s x b good gs gx e =
         let ks = eqb-true (s .kind) (r .kind) (both-left (sameKind r s) (eqb (outer s) (outer r)) gs) in
         let kx = eqb-true (x .kind) (r .kind) (both-left (sameKind r x) (eqb (outer x) (outer r)) gx) in
-        let o = eqb-true (outer s) (outer r) (both-right (sameKind r s) (eqb (outer s) (outer r)) gs) ∙ sym (eqb-true (outer x) (outer r) (both-right (sameKind r x) (eqb (outer x) (outer r)) gx)) in
+        let o = eqb-true (outer s) (outer r) (both-right (sameKind r s) (eqb (outer s) (outer r)) gs)
+        ∙ sym (eqb-true (outer x) (outer r) (both-right (sameKind r x) (eqb (outer x) (outer r)) gx)) in
         let sx = ks ∙ sym kx in
         let xa = unordered low high x good kx a in
         decide (eqb (x .kind) 6)

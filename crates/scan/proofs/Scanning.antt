@@ -9,21 +9,29 @@ use lib.Dec.{eqb, ltb, leb}
 use lib.ListN.{length, getD, set, replicate}
 use lib.Seq.{getD-set-same, getD-set-other, set-getD}
 use borrow.Author.Tests.{eq-eqb, ne-eqb, eqb-true, eqb-false, leb-true, lt-ltb, le-ltb}
-use Rattle.lists.specs.Order.{_∈_}
-use Rattle.lists.specs.First.{some}
-use Rattle.lists.proofs.Orders.{apart}
+use Rattle.listlaws.specs.Order.{_∈_}
+use Rattle.listlaws.specs.First.{some}
+use Rattle.listlaws.proofs.Orders.{apart}
+use Rattle.listlaws.proofs.Somes.{some-holds, false-some}
 use Rattle.records.specs.declared.Record.{Record}
 use Rattle.records.specs.Kinds.{actorOf, before, recordOk}
 use Rattle.scan.specs.Each.{every, eachAfter, countAfter}
 use Rattle.scan.specs.Formed.{follows, wellFormed}
-use Rattle.scan.specs.Limits.{outer, middle, inner, outerLimits, middleLimits, innerLimits, limitAt, sameKind, sameOuter, sameMiddle, tally, within, room, tallyOn, tallyTo, withinLimits}
-use Rattle.scan.specs.Scanned.{scanNumber, Ends, Tallied, Scanned, CountsUnder, Under, byKey, byIndex, judged, countedOn, behindLast, scanOn}
+use Rattle.scan.specs.Limits.{outer, middle, inner, outerLimits, middleLimits, innerLimits, limitAt, sameKind, sameOuter, sameMiddle, tally}
+use Rattle.scan.specs.Limits.{within, room, withinLimits}
+use Rattle.scan.specs.Scanned.{tallyOn, Ends, Tallied, Scanned, CountsUnder, CountedUnder}
+use Rattle.scan.specs.Stepping.{tallyTo, byKey, byIndex, limitsJudged, countedOn, behindLast, scanOn, underOn}
+use Rattle.scan.specs.Numbers.{scanNumber}
 use Rattle.scan.specs.declared.Scan.{Scan}
-use Rattle.scan.proofs.Eachs.{both-left, both-right, both, decide, every-at, some-of, some-none}
+use Rattle.scan.proofs.Eachs.{both-left, both-right, both, decide, every-at}
 use Rattle.scan.proofs.Befores.{Before, before-fields}
 use Rattle.scan.proofs.Tallies.{tally-step, tally-new, tally-other, tally-some, tally-none}
 use Rattle.scan.proofs.Rooms
 use Rattle.scan.proofs.Scans.{formed-snoc, within-snoc, outer-on, middle-on, inner-on, last-outer, last-middle, some-by-last, follows-last}
+
+-- the waiting keys under an index, with a record of a kind, in two cases
+pub under-steps : (n kind : ℕ) {r : ℕ} → r ≡ underOn n kind → (kind ≡ 6 → n < 255 → r ≡ n + 1) × ((kind ≡ 6 → ⊥) → r ≡ n)
+under-steps n kind e = (λ k h. e ∙ rw (eq-eqb kind 6 k, lt-ltb n 255 h), λ k. e ∙ rw (ne-eqb kind 6 k))
 
 -- each count of the record's own groups
 record Counts (l : List Record) (r : Record) (s : Scan) : Type 0 where
@@ -74,14 +82,17 @@ module _ (low high : ℕ) (l : List Record) (r : Record) (w : wellFormed low hig
         (List·Memᴰ·append-cases pre (rw e at i))
       where
         formed : follows low high pre q ≡ true
-        formed = both-right (wellFormed low high pre) (follows low high pre q) (sym (formed-snoc low high pre q) ∙ ap (wellFormed low high) (sym e) ∙ w)
+        formed = both-right (wellFormed low high pre) (follows low high pre q)
+            (sym (formed-snoc low high pre q) ∙ ap (wellFormed low high) (sym e) ∙ w)
 
   -- a record that is no waiting key
   key-counts : (s : Scan) → (r .kind ≡ 6 → ⊥) → Ends l (s .any) (s .last) → Tallied l s → Counts l r (byKey s r)
   key-counts s plain (inl e) t = record {
     by-outer = rw (e .0) (tally-step (sameKind r) outer l r (s .outer) false false (itself r) (λ _ x i. nothing (e .1) x i) (λ b. apart (sym b)));
-    by-middle = rw (e .0) (tally-step (sameOuter r) middle l r (s .middle) false false (itself-outer r) (λ _ x i. nothing (e .1) x i) (λ b. apart (sym b)));
-    by-inner = rw (e .0) (tally-step (sameMiddle r) inner l r (s .inner) false false (itself-middle r) (λ _ x i. nothing (e .1) x i) (λ b. apart (sym b)));
+    by-middle = rw (e .0) (tally-step (sameOuter r) middle l r (s .middle) false false (itself-outer r) (λ _ x i. nothing (e .1) x i)
+        (λ b. apart (sym b)));
+    by-inner = rw (e .0) (tally-step (sameMiddle r) inner l r (s .inner) false false (itself-middle r) (λ _ x i. nothing (e .1) x i)
+        (λ b. apart (sym b)));
   }
   key-counts s plain (inr e) t =
       let q = s .last in
@@ -90,13 +101,17 @@ module _ (low high : ℕ) (l : List Record) (r : Record) (w : wellFormed low hig
       let upto = up-to pre q (e .1 .1) in
       let behind = all-before q last in
       record {
-        by-outer = rw (e .0, last-outer q r plain, to-on (s .outer) _ _ (t .small .0)) (outer-on l q r last upto behind (s .outer) (sameOuter r q) (t .by-outer) (found q last upto behind));
-        by-middle = rw (e .0, last-middle q r plain, last-outer q r plain, to-on (s .middle) _ _ (t .small .1 .0)) (middle-on l q r last upto behind (s .middle) plain (t .by-middle));
-        by-inner = rw (e .0, last-middle q r plain, to-on (s .inner) _ _ (t .small .1 .1)) (inner-on l q r last upto behind (s .inner) plain all-before (t .by-inner));
+        by-outer = rw (e .0, last-outer q r plain, to-on (s .outer) _ _ (t .small .0))
+            (outer-on l q r last upto behind (s .outer) (sameOuter r q) (t .by-outer) (found q last upto behind));
+        by-middle = rw (e .0, last-middle q r plain, last-outer q r plain, to-on (s .middle) _ _ (t .small .1 .0))
+            (middle-on l q r last upto behind (s .middle) plain (t .by-middle));
+        by-inner = rw (e .0, last-middle q r plain, to-on (s .inner) _ _ (t .small .1 .1))
+            (inner-on l q r last upto behind (s .inner) plain all-before (t .by-inner));
       }
     where
       found : (q : Record) → q ∈ l → ((s : Record) → s ∈ l → (s ≡ q) ⊎ Before s q) → Before q r → some (sameOuter r) l ≡ sameOuter r q
-      found q last upto behind = some-by-last l q r last upto behind (sameOuter r) (Rattle.scan.proofs.Scans.same-outer l q r last upto behind plain)
+      found q last upto behind = some-by-last l q r last upto behind (sameOuter r)
+          (Rattle.scan.proofs.Scans.same-outer l q r last upto behind plain)
 
   -- a waiting key has no actor
   unordered : r .kind ≡ 6 → actorOf r ≡ 0
@@ -111,11 +126,16 @@ module _ (low high : ℕ) (l : List Record) (r : Record) (w : wellFormed low hig
         let sk = eqb-true (s .kind) (r .kind) (both-left (sameKind r s) (eqb (outer s) (outer r)) o) in
         let x = eqb-true (outer s) (outer r) (both-right (sameKind r s) (eqb (outer s) (outer r)) o) in
         let y = eqb-true (middle s) (middle r) (both-right (sameOuter r s) (eqb (middle s) (middle r)) t) in
-        absurd (omega (arith, all-before s i .actor sk (sym (its-middle s (sk ∙ k)) ∙ y ∙ its-middle r k) (sym (its-outer s (sk ∙ k)) ∙ x ∙ its-outer r k), unordered k)))
+        absurd (omega (
+          arith,
+          all-before s i .actor sk (sym (its-middle s (sk ∙ k)) ∙ y ∙ its-middle r k)
+              (sym (its-outer s (sk ∙ k)) ∙ x ∙ its-outer r k),
+          unordered k,
+        )))
         (λ n. n)
 
     key-more : (n : ℕ) → n ≡ tally (sameOuter r) middle l → n + 1 ≡ tally (sameOuter r) middle (l ++ (r ∷ []))
-    key-more n u = rw u (sym (tally-new (sameOuter r) middle l r (itself-outer r) (some-none (sameMiddle r) l apart-key)))
+    key-more n u = rw u (sym (tally-new (sameOuter r) middle l r (itself-outer r) (false-some (sameMiddle r) l apart-key)))
 
     index-counts : (s : Scan) (n : ℕ) → n ≡ tally (sameOuter r) middle l → Ends l (s .any) (s .last) → Tallied l s → Counts l r (byIndex s r n)
     index-counts s n u ends t = record {
@@ -128,18 +148,25 @@ module _ (low high : ℕ) (l : List Record) (r : Record) (w : wellFormed low hig
         held =
             decide (some (sameOuter r) l)
             (λ y. y ∙ sym (lt-ltb 0 n (rw u (tally-some (sameOuter r) middle l y))))
-            (λ z. z ∙ sym (le-ltb 0 n (rw (u, tally-none (sameOuter r) middle l (λ x i. decide (sameOuter r x) (λ y. apart (sym (some-of (sameOuter r) l x i y) ∙ z)) (λ a. a))) (omega arith))))
+            (λ z. z ∙ sym (le-ltb 0 n (rw (
+              u,
+              tally-none (sameOuter r) middle l
+                  (λ x i. decide (sameOuter r x) (λ y. apart (sym (some-holds (sameOuter r) i y) ∙ z)) (λ a. a)),
+            ) (omega arith))))
 
-        first : (s .any ≡ false) × (l ≡ []) → tallyTo (s .outer) (s .any && eqb (s .last .kind) (r .kind)) (ltb 0 n) ≡ tally (sameKind r) outer (l ++ (r ∷ []))
+        first : (s .any ≡ false) × (l ≡ []) → tallyTo (s .outer) (s .any && eqb (s .last .kind) (r .kind)) (ltb 0 n) ≡ tally (sameKind r) outer
+            (l ++ (r ∷ []))
         first e = rw (e .0) (tally-step (sameKind r) outer l r (s .outer) false false (itself r) (λ _ x i. nothing (e .1) x i) (λ b. apart (sym b)))
 
-        further : (s .any ≡ true) × ((pre : List Record) × (l ≡ pre ++ (s .last ∷ []))) → tallyTo (s .outer) (s .any && eqb (s .last .kind) (r .kind)) (ltb 0 n) ≡ tally (sameKind r) outer (l ++ (r ∷ []))
+        further : (s .any ≡ true) × ((pre : List Record) × (l ≡ pre ++ (s .last ∷ [])))
+            → tallyTo (s .outer) (s .any && eqb (s .last .kind) (r .kind)) (ltb 0 n) ≡ tally (sameKind r) outer (l ++ (r ∷ []))
         further e =
             let q = s .last in
             let pre = e .1 .0 in
             let last = in-last pre q (e .1 .1) in
             let upto = up-to pre q (e .1 .1) in
-            rw (e .0, to-on (s .outer) (sameKind r q) (ltb 0 n) (t .small .0)) (outer-on l q r last upto (all-before q last) (s .outer) (ltb 0 n) (t .by-outer) held)
+            rw (e .0, to-on (s .outer) (sameKind r q) (ltb 0 n) (t .small .0))
+            (outer-on l q r last upto (all-before q last) (s .outer) (ltb 0 n) (t .by-outer) held)
 
 -- a table all of whose rows are small
 small-rows : (limits : List ℕ) → every (λ x. leb x 255) limits ≡ true → (kind : ℕ) → limitAt limits kind ≤ 255
@@ -169,9 +196,10 @@ other-index p r k n =
     rw (t, its-outer r rk, its-outer p k) (ne-eqb (r .index) (p .index) (n rk)))
     (λ z. rw z)
 
-module _ (low high : ℕ) (l : List Record) (r : Record) (w : wellFormed low high l ≡ true) (f : follows low high l r ≡ true) (under : List ℕ) (t : Under l under) where
+module _ (low high : ℕ) (l : List Record) (r : Record) (w : wellFormed low high l ≡ true) (f : follows low high l r ≡ true) (under : List ℕ)
+    (t : CountedUnder l under) where
   -- with r, which is one
-  under-key : r .kind ≡ 6 → r .index < length under → Under (l ++ (r ∷ [])) (set under (r .index) (getD under (r .index) 0 + 1))
+  under-key : r .kind ≡ 6 → r .index < length under → CountedUnder (l ++ (r ∷ [])) (set under (r .index) (getD under (r .index) 0 + 1))
   under-key rk h p k =
       decide (eqb (p .index) (r .index))
       (λ b. let x = eqb-true (p .index) (r .index) b in
@@ -183,7 +211,7 @@ module _ (low high : ℕ) (l : List Record) (r : Record) (w : wellFormed low hig
       getD-set-other under (r .index) (p .index) _ 0 n ∙ t p k
       ∙ sym (tally-other (sameOuter p) middle l r (other-index p r k (λ _ e. n (sym e)))))
 
-  under-plain : (r .kind ≡ 6 → ⊥) → Under (l ++ (r ∷ [])) under
+  under-plain : (r .kind ≡ 6 → ⊥) → CountedUnder (l ++ (r ∷ [])) under
   under-plain n p k = t p k ∙ sym (tally-other (sameOuter p) middle l r (other-index p r k (λ e _. n e)))
 
 -- the number of a scan with one record more
@@ -194,7 +222,8 @@ number-on low high l r w f h = rw (formed-snoc low high l r, w, f, within-snoc l
 
 -- the three numbers of a scan, and what each says
 said : {R : Type 0} (low high : ℕ) (l : List Record) → (wellFormed low high l ≡ true → within l ≡ true → scanNumber low high l ≡ 0 → R)
-    → (wellFormed low high l ≡ true → within l ≡ false → scanNumber low high l ≡ 2 → R) → (wellFormed low high l ≡ false → scanNumber low high l ≡ 1 → R) → R
+    → (wellFormed low high l ≡ true → within l ≡ false → scanNumber low high l ≡ 2 → R)
+    → (wellFormed low high l ≡ false → scanNumber low high l ≡ 1 → R) → R
 unfolding scanNumber
 said low high l good over bad =
     decide (wellFormed low high l)
@@ -207,7 +236,7 @@ module _ (low high : ℕ) (l : List Record) (r : Record) where
   ends-on = inr (refl, (l, refl))
 
   judged-on : (s : Scan) → wellFormed low high l ≡ true → follows low high l r ≡ true → within l ≡ true → s .number ≡ 0 → Counts l r s
-      → Scanned low high (l ++ (r ∷ [])) (judged s r)
+      → Scanned low high (l ++ (r ∷ [])) (limitsJudged s r)
   judged-on s w f h z c = record {
     number = rw (number-on low high l r w f h, ← c .by-outer, ← c .by-middle, ← c .by-inner, z);
     ends = λ _. ends-on;
@@ -229,7 +258,8 @@ module _ (low high : ℕ) (l : List Record) (r : Record) where
   still-over w f i = rw (formed-snoc low high l r, w, f, within-snoc l r, i)
 
   -- after a record that follows
-  scanned-on : (s : Scan) (n : ℕ) → Scanned low high l s → (s .number ≡ 0 → CountsUnder low high l r n) → (s .number ≡ 1 → ⊥) → follows low high l r ≡ true → Scanned low high (l ++ (r ∷ [])) (countedOn s r n)
+  scanned-on : (s : Scan) (n : ℕ) → Scanned low high l s → (s .number ≡ 0 → CountsUnder low high l r n) → (s .number ≡ 1 → ⊥)
+      → follows low high l r ≡ true → Scanned low high (l ++ (r ∷ [])) (countedOn s r n)
   scanned-on s c sc u n f =
       said low high l
       (λ w i z. let e = sc .number ∙ z in
@@ -263,7 +293,8 @@ ill-formed low high l s sc n =
     said low high l (λ w i z. let e = sc .number ∙ z in absurd (omega arith)) (λ w i z. let e = sc .number ∙ z in absurd (omega arith)) (λ w z. w)
 
 -- after one record more
-pub scanned-more : (low high : ℕ) (l : List Record) (r : Record) (n : ℕ) (s : Scan) → Scanned low high l s → (s .number ≡ 0 → CountsUnder low high l r n) → Scanned low high (l ++ (r ∷ [])) (scanOn low high s r n)
+pub scanned-more : (low high : ℕ) (l : List Record) (r : Record) (n : ℕ) (s : Scan) → Scanned low high l s
+    → (s .number ≡ 0 → CountsUnder low high l r n) → Scanned low high (l ++ (r ∷ [])) (scanOn low high s r n)
 unfolding scanOn
 scanned-more low high l r n s sc u =
     decide (eqb (s .number) 1)
@@ -289,7 +320,7 @@ zeros zero i = refl
 zeros (suc n) zero = refl
 zeros (suc n) (suc i) = zeros n i
 
-pub under-none : (n : ℕ) → Under [] (replicate n 0)
+pub under-none : (n : ℕ) → CountedUnder [] (replicate n 0)
 unfolding tally countAfter
 under-none n p k = zeros n (p .index)
 
@@ -319,7 +350,7 @@ none-under low high l r n never k good =
     absurd (never (omega arith) (omega arith))
 
 -- the count of r's index is right where r is good so far, and there is room for one more
-module _ (low high : ℕ) (l : List Record) (r : Record) (under : List ℕ) (u : Under l under) where
+module _ (low high : ℕ) (l : List Record) (r : Record) (under : List ℕ) (u : CountedUnder l under) where
   pub counts-under : CountsUnder low high l r (getD under (r .index) 0)
   counts-under k good = u r k
 
@@ -330,8 +361,9 @@ module _ (low high : ℕ) (l : List Record) (r : Record) (under : List ℕ) (u :
     behind : follows low high l r ≡ true
     behind = both-right (wellFormed low high l) _ (sym (formed-snoc low high l r) ∙ scan-good low high (l ++ (r ∷ [])) z .0)
 
-    pub under-more : r .index < length under → (n : ℕ) → (r .kind ≡ 6 → getD under (r .index) 0 < 255 → n ≡ getD under (r .index) 0 + 1) → ((r .kind ≡ 6 → ⊥) → n ≡ getD under (r .index) 0)
-        → Under (l ++ (r ∷ [])) (set under (r .index) n)
+    pub under-more : r .index < length under → (n : ℕ) → (r .kind ≡ 6 → getD under (r .index) 0 < 255 → n ≡ getD under (r .index) 0 + 1)
+        → ((r .kind ≡ 6 → ⊥) → n ≡ getD under (r .index) 0)
+        → CountedUnder (l ++ (r ∷ [])) (set under (r .index) n)
     under-more h n more same =
         decide (eqb (r .kind) 6)
         (λ t. let k = eqb-true (r .kind) 6 t in

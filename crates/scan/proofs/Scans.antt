@@ -3,20 +3,21 @@ use mathlib.Core.Path.{_≡_, refl, ap, sym, _∙_}
 use mathlib.Core.Bool.{Bool, true, false, not, _&&_, _||_, and-false, and-true}
 use mathlib.Core.Logic.{_⊎_, inl, inr, ⊎-elim}
 use mathlib.Core.List.{List, [], _∷_, _++_}
-use Prim.Native.Nat.{ℕ, _+_, _≤_}
+use Prim.Native.Nat.{ℕ, _≤_}
 use native.Mathlib.Omega.{arith}
 use lib.Dec.{eqb}
 use borrow.Author.Tests.{eq-eqb, ne-eqb, eqb-true}
-use Rattle.lists.specs.Order.{_∈_}
-use Rattle.lists.specs.First.{some}
-use Rattle.lists.proofs.Orders.{apart}
+use Rattle.listlaws.specs.Order.{_∈_}
+use Rattle.listlaws.specs.First.{some}
+use Rattle.listlaws.proofs.Orders.{apart}
+use Rattle.listlaws.proofs.Somes.{some-holds, false-some}
 use Rattle.records.specs.declared.Record.{Record}
 use Rattle.records.specs.Kinds.{actorOf, before, recordOk}
 use Rattle.scan.specs.Each.{every}
 use Rattle.scan.specs.Formed.{follows, wellFormed}
-use Rattle.scan.specs.Limits.{outer, middle, inner, sameKind, sameOuter, sameMiddle, tally, within, room, tallyOn}
-use Rattle.scan.specs.Scanned.{Ends}
-use Rattle.scan.proofs.Eachs.{both-left, both-right, both, decide, each-snoc, every-snoc, every-at, every-of, some-of, some-none}
+use Rattle.scan.specs.Limits.{outer, middle, inner, sameKind, sameOuter, sameMiddle, tally, within, room}
+use Rattle.scan.specs.Scanned.{tallyOn, Ends}
+use Rattle.scan.proofs.Eachs.{both-left, both-right, both, decide, each-snoc, every-snoc, every-at, every-of}
 use Rattle.scan.proofs.Befores.{Before, before-fields, fields-before, before-trans}
 use Rattle.scan.proofs.Tallies.{tally-step}
 
@@ -39,7 +40,8 @@ follows-last low high l any q r w (inr e) = rw (e .0, e .1 .1) (ap (λ b. record
     pre = e .1 .0
 
     formed : follows low high pre q ≡ true
-    formed = both-right (wellFormed low high pre) (follows low high pre q) (sym (formed-snoc low high pre q) ∙ ap (wellFormed low high) (sym (e .1 .1)) ∙ w)
+    formed = both-right (wellFormed low high pre) (follows low high pre q)
+        (sym (formed-snoc low high pre q) ∙ ap (wellFormed low high) (sym (e .1 .1)) ∙ w)
 
     before-q : (s : Record) → s ∈ pre → before s q ≡ true
     before-q s i = every-at (λ s. before s q) pre s (both-right (recordOk low high q) (every (λ s. before s q) pre) formed) i
@@ -47,7 +49,8 @@ follows-last low high l any q r w (inr e) = rw (e .0, e .1 .1) (ap (λ b. record
     go : (b : Bool) → before q r ≡ b → before q r ≡ every (λ s. before s r) (pre ++ (q ∷ []))
     go true t =
         rw (every-snoc (λ s. before s r) pre q, t)
-        (sym (and-true (every (λ s. before s r) pre) ∙ every-of (λ s. before s r) pre (λ s i. fields-before (before-trans (before-fields (before-q s i)) (before-fields t)))))
+        (sym (and-true (every (λ s. before s r) pre) ∙ every-of (λ s. before s r) pre
+        (λ s i. fields-before (before-trans (before-fields (before-q s i)) (before-fields t)))))
     go false t = rw (every-snoc (λ s. before s r) pre q, t) (sym (and-false (every (λ s. before s r) pre)))
 
 -- the fields that a level goes by, where the kind is none of waiting keys
@@ -76,7 +79,8 @@ alike-outer r s plain k y =
 pub alike-index : (r s : Record) → (r .kind ≡ 6 → ⊥) → sameMiddle r s ≡ true → s .index ≡ r .index
 alike-index r s plain t =
     let h = alike r s plain (both-left (sameOuter r s) (eqb (middle s) (middle r)) t) in
-    sym (middle-index s (λ e. plain (sym (h .kind) ∙ e))) ∙ eqb-true (middle s) (middle r) (both-right (sameOuter r s) (eqb (middle s) (middle r)) t) ∙ middle-index r plain
+    sym (middle-index s (λ e. plain (sym (h .kind) ∙ e))) ∙ eqb-true (middle s) (middle r) (both-right (sameOuter r s) (eqb (middle s) (middle r)) t)
+    ∙ middle-index r plain
 
 pub alike-middle : (r s : Record) → (r .kind ≡ 6 → ⊥) → s .kind ≡ r .kind → s .key ≡ r .key → s .index ≡ r .index → sameMiddle r s ≡ true
 alike-middle r s plain k y x =
@@ -120,7 +124,7 @@ module _ (l : List Record) (q r : Record) (last : q ∈ l) (upto : (s : Record) 
 
   pub some-by-last : (t : Record → Bool) → ((s : Record) → s ∈ l → t s ≡ true → t q ≡ true) → some t l ≡ t q
   some-by-last t between =
-      decide (t q) (λ y. some-of t l q last y ∙ sym y) (λ n. some-none t l (none-by-last t between n) ∙ sym n)
+      decide (t q) (λ y. some-holds t last y ∙ sym y) (λ n. false-some t l (none-by-last t between n) ∙ sym n)
 
   same-kind : (s : Record) → s ∈ l → sameKind r s ≡ true → sameKind r q ≡ true
   same-kind s i t = eq-eqb (q .kind) (r .kind) (kind-between s i (eqb-true (s .kind) (r .kind) t))
@@ -160,13 +164,18 @@ module _ (l : List Record) (q r : Record) (last : q ∈ l) (upto : (s : Record) 
       middle-on e =
           tally-step (sameOuter r) middle l r n (sameOuter r q) (sameMiddle r q) same-here (none-by-last (sameOuter r) (same-outer plain))
           (λ t. let k = eqb-true (q .kind) (r .kind) (both-left (sameKind r q) (eqb (outer q) (outer r)) t) in
-          let o = eqb-true (outer q) (outer r) (both-right (sameKind r q) (eqb (outer q) (outer r)) t) in
-          (e ∙ ap (λ k. tally (λ s. eqb (s .kind) k && eqb (outer s) (outer q)) middle l) k ∙ ap (λ o. tally (λ s. eqb (s .kind) (r .kind) && eqb (outer s) o) middle l) o, some-by-last (sameMiddle r) (same-middle plain)))
+          let o = eqb-true (outer q) (outer r) (both-right (sameKind r q) (eqb (outer q) (outer r)) t) in (
+            e ∙ ap (λ k. tally (λ s. eqb (s .kind) k && eqb (outer s) (outer q)) middle l) k
+                ∙ ap (λ o. tally (λ s. eqb (s .kind) (r .kind) && eqb (outer s) o) middle l) o,
+            some-by-last (sameMiddle r) (same-middle plain),
+          ))
 
-      pub inner-on : ((s : Record) → s ∈ l → Before s r) → n ≡ tally (sameMiddle q) inner l → tallyOn n (sameMiddle r q) false ≡ tally (sameMiddle r) inner (l ++ (r ∷ []))
+      pub inner-on : ((s : Record) → s ∈ l → Before s r) → n ≡ tally (sameMiddle q) inner l
+          → tallyOn n (sameMiddle r q) false ≡ tally (sameMiddle r) inner (l ++ (r ∷ []))
       inner-on b e =
           tally-step (sameMiddle r) inner l r n (sameMiddle r q) false
-          (both (sameOuter r r) (eqb (middle r) (middle r)) same-here (eq-eqb (middle r) (middle r) refl)) (none-by-last (sameMiddle r) (same-middle plain))
+          (both (sameOuter r r) (eqb (middle r) (middle r)) same-here (eq-eqb (middle r) (middle r) refl))
+          (none-by-last (sameMiddle r) (same-middle plain))
           (λ t. let u = both-left (sameOuter r q) (eqb (middle q) (middle r)) t in
           let k = eqb-true (q .kind) (r .kind) (both-left (sameKind r q) (eqb (outer q) (outer r)) u) in
           let o = eqb-true (outer q) (outer r) (both-right (sameKind r q) (eqb (outer q) (outer r)) u) in
@@ -174,7 +183,7 @@ module _ (l : List Record) (q r : Record) (last : q ∈ l) (upto : (s : Record) 
             e ∙ ap (λ k. tally (λ s. eqb (s .kind) k && eqb (outer s) (outer q) && eqb (middle s) (middle q)) inner l) k
                 ∙ ap (λ o. tally (λ s. eqb (s .kind) (r .kind) && eqb (outer s) o && eqb (middle s) (middle q)) inner l) o
                 ∙ ap (λ m. tally (λ s. eqb (s .kind) (r .kind) && eqb (outer s) (outer r) && eqb (middle s) m) inner l) m,
-            some-none (λ s. sameMiddle r s && eqb (inner s) (inner r)) l (λ s i. apart-inner plain s i (b s i)),
+            false-some (λ s. sameMiddle r s && eqb (inner s) (inner r)) l (λ s i. apart-inner plain s i (b s i)),
           ))
 
 -- the machine's tests of the last record, where the kind is none of waiting keys
@@ -184,8 +193,14 @@ last-outer q r plain =
     (λ t. rw (outer-key q (λ e. plain (sym (eqb-true (q .kind) (r .kind) t) ∙ e)), outer-key r plain))
     (λ n. rw n)
 
-pub last-middle : (q r : Record) → (r .kind ≡ 6 → ⊥) → (eqb (q .kind) (r .kind) && eqb (q .key) (r .key) && eqb (q .index) (r .index)) ≡ sameMiddle r q
+pub last-middle : (q r : Record) → (r .kind ≡ 6 → ⊥) → (eqb (q .kind) (r .kind) && eqb (q .key) (r .key) && eqb (q .index) (r .index))
+    ≡ sameMiddle r q
 last-middle q r plain =
     decide (eqb (q .kind) (r .kind))
-    (λ t. rw (outer-key q (λ e. plain (sym (eqb-true (q .kind) (r .kind) t) ∙ e)), outer-key r plain, middle-index q (λ e. plain (sym (eqb-true (q .kind) (r .kind) t) ∙ e)), middle-index r plain))
+    (λ t. rw (
+      outer-key q (λ e. plain (sym (eqb-true (q .kind) (r .kind) t) ∙ e)),
+      outer-key r plain,
+      middle-index q (λ e. plain (sym (eqb-true (q .kind) (r .kind) t) ∙ e)),
+      middle-index r plain,
+    ))
     (λ n. rw n)

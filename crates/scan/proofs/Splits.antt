@@ -5,10 +5,10 @@ use Prim.Native.Nat.{ℕ, _+_, _<_}
 use native.Mathlib.Omega.{arith}
 use lib.Dec.{eqb, leb}
 use borrow.Author.Tests.{ne-eqb, eqb-true, eqb-false, le-leb, lt-leb, leb-true, leb-false}
-use Rattle.lists.specs.Order.{_∈_, Ascending}
-use Rattle.lists.specs.Sift.{sift, those}
-use Rattle.lists.proofs.Orders.{head-before, tail-ascends}
-use Rattle.lists.proofs.Those.{those-same, those-none}
+use Rattle.listlaws.specs.Order.{_∈_, Ascending}
+use Rattle.listlaws.specs.Sift.{sift, those}
+use Rattle.listlaws.proofs.Orders.{head-before, tail-ascends}
+use Rattle.listlaws.proofs.Those.{those-same, those-none}
 use Rattle.records.specs.declared.Record.{Record}
 use Rattle.records.specs.Kinds.{before}
 use Rattle.scan.proofs.Eachs.{decide}
@@ -35,8 +35,10 @@ split k (x ∷ l) a =
     (λ b. let n = eqb-false (x .kind) k b in
     let above : k < x .kind = omega arith in
     rw (t, b, le-leb (k + 1) (x .kind) (omega arith), none-of k l (later above))
-    (ap (λ m. x ∷ m) (those-same (λ y. leb k (y .kind)) (λ y. leb (k + 1) (y .kind)) l (λ y i. let c = later above y i in le-leb k (y .kind) (omega arith) ∙ sym (le-leb (k + 1) (y .kind) (omega arith)))))))
-    (λ f. let h = leb-false k (x .kind) f in rw (f, ne-eqb (x .kind) k (λ e. omega arith), lt-leb (k + 1) (x .kind) (omega arith)) (split k l (tail-ascends a)))
+    (ap (λ m. x ∷ m) (those-same (λ y. leb k (y .kind)) (λ y. leb (k + 1) (y .kind)) l (λ y i. let c = later above y i in
+    le-leb k (y .kind) (omega arith) ∙ sym (le-leb (k + 1) (y .kind) (omega arith)))))))
+    (λ f. let h = leb-false k (x .kind) f in rw (f, ne-eqb (x .kind) k (λ e. omega arith), lt-leb (k + 1) (x .kind) (omega arith))
+    (split k l (tail-ascends a)))
   where
     later : k < x .kind → (y : Record) → y ∈ l → k < y .kind
     later h y i = let b = before-fields (head-before a y i) in omega (arith, b .kind)

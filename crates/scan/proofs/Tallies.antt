@@ -1,4 +1,4 @@
--- Laws of a tally: one record more.
+-- A tally with one record more: what it counts is new, or was counted, or is of another group (`tally-step`).
 use mathlib.Core.Path.{_≡_, refl, ap, sym, _∙_}
 use mathlib.Core.Bool.{Bool, true, false, cond, _&&_}
 use mathlib.Core.Logic.{⊎-elim}
@@ -6,13 +6,15 @@ use mathlib.Core.List.{List, [], _∷_, _++_, List·Memᴰ·head, List·Memᴰ·
 use Prim.Native.Nat.{ℕ, _+_, _<_}
 use native.Mathlib.Omega.{arith}
 use lib.Dec.{eqb}
-use Rattle.lists.specs.Order.{_∈_}
-use Rattle.lists.specs.First.{firstIn, some}
-use Rattle.lists.proofs.Orders.{apart}
+use Rattle.listlaws.specs.Order.{_∈_}
+use Rattle.listlaws.specs.First.{firstIn, some}
+use Rattle.listlaws.proofs.Orders.{apart}
+use Rattle.listlaws.proofs.Somes.{false-some}
 use Rattle.records.specs.declared.Record.{Record}
-use Rattle.scan.specs.Each.{countAfter, count}
-use Rattle.scan.specs.Limits.{fresh, tally, tallyOn}
-use Rattle.scan.proofs.Eachs.{decide, count-snoc, some-none}
+use Rattle.scan.specs.Each.{countAfter}
+use Rattle.scan.specs.Limits.{fresh, tally}
+use Rattle.scan.specs.Scanned.{tallyOn}
+use Rattle.scan.proofs.Eachs.{decide, count-snoc}
 
 module _ (group : Record → Bool) (f : Record → ℕ) where
   pub tally-snoc : (l : List Record) (r : Record) → tally group f (l ++ (r ∷ [])) ≡ cond (fresh group f l r) (tally group f l + 1) (tally group f l)
@@ -24,7 +26,8 @@ module _ (group : Record → Bool) (f : Record → ℕ) where
   tally-other l r g = tally-snoc l r ∙ rw g
 
   -- a record of the group, that gives what none in the group gave
-  pub tally-new : (l : List Record) (r : Record) → group r ≡ true → some (λ s. group s && eqb (f s) (f r)) l ≡ false → tally group f (l ++ (r ∷ [])) ≡ tally group f l + 1
+  pub tally-new : (l : List Record) (r : Record) → group r ≡ true → some (λ s. group s && eqb (f s) (f r)) l ≡ false
+      → tally group f (l ++ (r ∷ [])) ≡ tally group f l + 1
   tally-new l r g e = tally-snoc l r ∙ rw (g, e)
 
   -- a record of the group, that gives what one gave
@@ -49,7 +52,7 @@ module _ (group : Record → Bool) (f : Record → ℕ) where
   some-after seen [] h t = apart (sym t)
   some-after seen (x ∷ l) h t =
       decide (group x)
-      (λ g. rw (g, some-none (λ s. group s && eqb (f s) (f x)) seen apart-from) (omega arith))
+      (λ g. rw (g, false-some (λ s. group s && eqb (f s) (f x)) seen apart-from) (omega arith))
       (λ g. rw g (some-after (seen ++ (x ∷ [])) l (further g) (rw g at t)))
     where
       apart-from : (s : Record) → s ∈ seen → (group s && eqb (f s) (f x)) ≡ false
@@ -70,6 +73,6 @@ module _ (group : Record → Bool) (f : Record → ℕ) where
       → tallyOn n grouped same ≡ tally group f (l ++ (r ∷ []))
   tally-step l r n false same g a b =
       let none = tally-none l (a refl) in
-      sym (tally-new l r g (some-none (λ s. group s && eqb (f s) (f r)) l (λ s i. rw (a refl s i))) ∙ rw none)
+      sym (tally-new l r g (false-some (λ s. group s && eqb (f s) (f r)) l (λ s i. rw (a refl s i))) ∙ rw none)
   tally-step l r n true true g a b = b refl .0 ∙ sym (tally-old l r (b refl .1))
   tally-step l r n true false g a b = rw (b refl .0) (sym (tally-new l r g (b refl .1)))

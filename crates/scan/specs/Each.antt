@@ -21,5 +21,5 @@ module _ {A : Type 0} where
   abbrev pub each : (List A → A → Bool) → List A → Bool
   each test l = eachAfter test [] l
 
-  abbrev pub count : (List A → A → Bool) → List A → ℕ
-  count test l = countAfter test [] l
+  abbrev pub countGiven : (List A → A → Bool) → List A → ℕ
+  countGiven test l = countAfter test [] l

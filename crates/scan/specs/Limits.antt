@@ -1,23 +1,22 @@
 -- When the records of an image are within the limits: "distinct keys, indexes, actors present are counted, one kind at a time".
-use Prim.Native.Nat.{ℕ, _+_}
-use mathlib.Core.Bool.{Bool, true, false, not, cond, _&&_}
+use Prim.Native.Nat.{ℕ}
+use mathlib.Core.Bool.{Bool, not, cond, _&&_}
 use mathlib.Core.List.{List, [], _∷_, _++_}
-use lib.Dec.{eqb, ltb, leb}
+use lib.Dec.{eqb, leb}
 use lib.ListN.{getD}
-use Rattle.lists.specs.First.{some}
-use Rattle.clock.specs.Dots.{dotLimit}
-use Rattle.register.specs.Values.{valueLimit}
-use Rattle.parts.specs.Model.{entryLimit, waitingLimit, keyLimit}
+use Rattle.listlaws.specs.First.{some}
+use Rattle.limits.specs.Limits.{dotLimit, valueLimit, entryLimit, waitingLimit, keyLimit}
 use Rattle.records.specs.declared.Record.{Record}
-use Rattle.records.specs.Kinds.{actorOf}
-use Rattle.scan.specs.Each.{count, each}
+use Rattle.records.specs.Kinds.{actorOf, waitingKeyKind}
+use Rattle.scan.specs.Each.{countGiven, each}
 
--- what is counted in a kind, under that, and under both: keys, indexes, actors; and for a waiting key, of a kind by which indexes hold keys: indexes, keys
+-- what is counted in a kind, under that, and under both: keys, indexes, actors; and for a waiting key, of a kind by which indexes hold
+-- keys: indexes, keys
 abbrev pub outer : Record → ℕ
-outer r = cond (eqb (r .kind) 6) (r .index) (r .key)
+outer r = cond (eqb (r .kind) waitingKeyKind) (r .index) (r .key)
 
 abbrev pub middle : Record → ℕ
-middle r = cond (eqb (r .kind) 6) (r .key) (r .index)
+middle r = cond (eqb (r .kind) waitingKeyKind) (r .key) (r .index)
 
 abbrev pub inner : Record → ℕ
 inner r = actorOf r
@@ -31,7 +30,8 @@ pub record Limits : Type 0 where
 abbrev pub today : Limits
 today = record { entries = entryLimit; waiting = waitingLimit }
 
--- by kind, from kind 0, which is none; a level that a kind does not use has one thing; update heads have no limit, and no operation has so many records
+-- by kind, from kind 0, which is none; a level that a kind does not use has one thing; update heads have no limit, and no operation has so
+-- many records
 abbrev pub outerBy : Limits → List ℕ
 outerBy t = 0 ∷ 1 ∷ t .entries ∷ t .entries ∷ t .entries ∷ 1 ∷ t .waiting ∷ 1 ∷ 1 ∷ keyLimit ∷ 255 ∷ 1 ∷ 1 ∷ []
 
@@ -66,7 +66,7 @@ fresh group f seen x = group x && not (some (λ s. group s && eqb (f s) (f x)) s
 
 -- how many distinct numbers f gives in a group: each is counted where it first stands
 unfoldable pub tally : (Record → Bool) → (Record → ℕ) → List Record → ℕ
-tally group f l = count (fresh group f) l
+tally group f l = countGiven (fresh group f) l
 
 -- the counts of one kind within its limits
 abbrev pub withinLimitsBy : Limits → ℕ → ℕ → ℕ → ℕ → Bool
@@ -89,15 +89,3 @@ withinBy t l = each (roomBy t) l
 
 unfoldable pub within : List Record → Bool
 within l = withinBy today l
-
--- a count after one more record: of another group, of the same group and thing, of the same group and another thing
-abbrev pub tallyOn : ℕ → Bool → Bool → ℕ
-tallyOn n false same = 1
-tallyOn n true false = n + 1
-tallyOn n true true = n
-
--- the same as a scan counts: at 256, which is over every limit, it stands still
-abbrev pub tallyTo : ℕ → Bool → Bool → ℕ
-tallyTo n false same = 1
-tallyTo n true false = cond (ltb n 256) (n + 1) n
-tallyTo n true true = n

@@ -5,14 +5,17 @@ ghost use mathlib.Core.Bool.{cond};
 ghost use lib.Dec.{eqb};
 ghost use Prim.Native.Nat.{ℕ};
 ghost use Rattle.records.specs.declared.Record.{Record};
-ghost use Rattle.scan.specs.Limits.{limitAt, tallyTo, withinLimits};
-ghost use Rattle.scan.specs.Scanned.{Scanned, CountsUnder, byKey, byIndex, judged, countedOn, behindLast, scanOn};
-use clock::DOTS;
-use parts::ENTRIES;
-use parts::KEYS;
-use parts::WAITING;
+ghost use Rattle.records.specs.Kinds.{waitingKeyKind};
+ghost use Rattle.scan.specs.Limits.{limitAt, withinLimits};
+ghost use Rattle.scan.specs.Stepping.{tallyTo, byKey, byIndex, limitsJudged, countedOn, behindLast, scanOn, underOn};
+ghost use Rattle.scan.specs.Scanned.{Scanned, CountsUnder};
+use limits::DOTS;
+use limits::ENTRIES;
+use limits::KEYS;
+use limits::VALUES;
+use limits::WAITING;
 use records::Record;
-use register::VALUES;
+use records::WAITING_KEY;
 
 // By kind, from kind 0, which is none: the most distinct things of each level.
 const OUTER: [u8; 13] = [
@@ -161,9 +164,9 @@ impl Scan {
 
     // The counts with a record.
     fn tallied(self, r: Record, n: u8) -> Scan
-        ensures { λ s. ⌜ s ≡ cond (eqb (r .kind) 6) (byIndex self r n) (byKey self r) ⌝ }
+        ensures { λ s. ⌜ s ≡ cond (eqb (r .kind) waitingKeyKind) (byIndex self r n) (byKey self r) ⌝ }
     {
-        if r.kind == 6 {
+        if r.kind == WAITING_KEY {
             self.by_index(r, n)
         } else {
             self.by_key(r)
@@ -172,7 +175,7 @@ impl Scan {
 
     // The counts held against the limits of a record's kind; the record becomes the last.
     fn judged(self, r: Record) -> Scan
-        ensures { λ s. ⌜ s ≡ judged self r ⌝ }
+        ensures { λ s. ⌜ s ≡ limitsJudged self r ⌝ }
     {
         let mut next = self;
         next.any = true;
@@ -213,8 +216,21 @@ impl Scan {
     }
     // The same, said of every list of records that the scan may have taken before.
     pub fn take(self, low: u8, high: u8, r: Record, n: u8) -> Scan
-        ensures { λ s. ⌜ ((l : List Record) → Scanned low high l self → (self .number ≡ 0 → CountsUnder low high l r n) → Scanned low high (l ++ (r ∷ [])) s) ⌝ }
+        ensures { λ s. ⌜ ((l : List Record) → Scanned low high l self → (self .number ≡ 0 → CountsUnder low high l r n)
+            → Scanned low high (l ++ (r ∷ [])) s) ⌝ }
     {
         self.next(low, high, r, n)
     }
+}
+
+// The waiting keys under an index, with a record of a kind.
+pub fn under(n: u8, kind: u8) -> u8
+    ensures { λ r. ⌜ r ≡ underOn n kind ⌝ }
+{
+    if kind == WAITING_KEY {
+        if n < 255 {
+            return n + 1;
+        }
+    }
+    n
 }

@@ -9,24 +9,28 @@ use lib.Dec.{eqb, ltb}
 use lib.ListN.{length, take, set}
 use lib.Seq.{take-suc-set}
 use borrow.Author.Tests.{ne-eqb, lt-ltb, ltb-false}
-use Rattle.lists.specs.First.{some, firstIn}
-use Rattle.lists.specs.Sift.{sift, those}
-use Rattle.lists.specs.Order.{_∈_}
-use Rattle.lists.proofs.Pads.{take-pad, length-snoc}
-use Rattle.lists.proofs.Tally.{some-snoc, both-pass}
+use Rattle.listlaws.specs.First.{some, firstIn}
+use Rattle.listlaws.specs.Sift.{sift, those}
+use Rattle.listlaws.specs.Order.{_∈_}
+use Rattle.listlaws.proofs.Pads.{take-pad, length-snoc}
+use Rattle.listlaws.proofs.Tally.{some-snoc, both-pass}
 use Rattle.clock.specs.declared.Dot.{Dot}
-use Rattle.clock.specs.Dots.{dotLimit, dotsOf, isEmpty}
+use Rattle.limits.specs.Limits.{dotLimit, valueLimit, entryLimit}
+use Rattle.clock.specs.Dots.{dotsOf, isEmpty}
 use Rattle.clock.proofs.Packs.{dots-of}
 use Rattle.register.specs.declared.Value.{Value}
-use Rattle.register.specs.Values.{valueLimit, noValue, alive}
-use Rattle.parts.specs.declared.Entry.{Entry}
-use Rattle.parts.specs.Model.{entryLimit, entryAs, dotsIn, valuesIn, overfull}
-use Rattle.answers.specs.Sizes.{totalOf, entrySize}
+use Rattle.register.specs.Values.{noValue, alive}
+use Rattle.entries.specs.declared.Entry.{Entry}
+use Rattle.entries.specs.Model.{entryAs, dotsIn, valuesIn}
+use Rattle.entries.specs.Steps.{overfull}
+use Rattle.listlaws.specs.Fold.{totalOf}
+use Rattle.answers.specs.Sizes.{entrySize}
 use Rattle.marks.specs.Marks.{marksSet}
 use Rattle.sketch.specs.declared.Source.{Source}
 use Rattle.sketch.specs.declared.Sketched.{Sketched}
 use Rattle.sketch.specs.declared.Sums.{Sums}
-use Rattle.sketch.specs.Drawn.{valueIn, imageOf, valueAt, Placed, sourcesOf, sourceSize, clockIn, drawn, Ready, Draws, Summed, Sketches}
+use Rattle.sketch.specs.Drawn.{valueNamed, imageNamed, valueFrom, Placed, sourcesOf, sourceSize, clockApart, drawn, Ready, Draws, Summed}
+use Rattle.sketch.specs.Drawn.{Sketches}
 use Rattle.sketch.proofs.Counts.{value-size, entry-size, total-snoc}
 
 -- an element behind the last that is in use
@@ -44,30 +48,30 @@ some-set (true ∷ l) = sym (ap not (ne-eqb (suc (marksSet l)) 0 (λ e. omega ar
 some-set (false ∷ l) = some-set l
 
 -- a value of which a dot is left
-left-alive : {s : List ℕ} (x : Source) → Placed s x → alive (valueIn s x) ≡ some (λ b. b) (take (x .to - x .from) (x .marks))
+left-alive : {s : List ℕ} (x : Source) → Placed s x → alive (valueNamed s x) ≡ some (λ b. b) (take (x .to - x .from) (x .marks))
 unfolding isEmpty
 left-alive {s} x h =
     let m = marksSet (take (x .to - x .from) (x .marks)) in
-    let n : length (dotsOf (valueIn s x .clock)) ≡ m = omega (arith, value-size x h) in
+    let n : length (dotsOf (valueNamed s x .clock)) ≡ m = omega (arith, value-size x h) in
     ap (λ k. not (eqb k 0)) n ∙ sym (some-set (take (x .to - x .from) (x .marks)))
 
 module _ {s t : List ℕ} {key : ℕ} {d : List Dot} {l : List Value} {k : Sketched} (h : Draws s t key d l k) (x : Source)
-    (p : Placed (imageOf s t x) x) where
+    (p : Placed (imageNamed s t x) x) where
   pub add-none : {b : Bool} → b ≡ some (λ b. b) (take (x .to - x .from) (x .marks)) → b ≡ false
-      → Draws s t key d (l ++ those alive (valueAt s t x ∷ [])) k
+      → Draws s t key d (l ++ those alive (valueFrom s t x ∷ [])) k
   unfolding sift
   add-none e f = rw (left-alive x p ∙ sym e ∙ f, append-nil l) h
 
   module _ {b : Bool} (e : b ≡ some (λ b. b) (take (x .to - x .from) (x .marks))) (f : b ≡ true) where
-    kept : l ++ those alive (valueAt s t x ∷ []) ≡ l ++ (valueAt s t x ∷ [])
+    kept : l ++ those alive (valueFrom s t x ∷ []) ≡ l ++ (valueFrom s t x ∷ [])
     unfolding sift
     kept = rw (left-alive x p ∙ sym e ∙ f)
 
-    more : k .len + 1 ≡ length (l ++ (valueAt s t x ∷ []))
-    more = ap (λ n. n + 1) (h .many) ∙ sym (length-snoc l (valueAt s t x))
+    more : k .len + 1 ≡ length (l ++ (valueFrom s t x ∷ []))
+    more = ap (λ n. n + 1) (h .many) ∙ sym (length-snoc l (valueFrom s t x))
 
     pub add-one : length (k .sources) ≡ 4 → k .len < 4
-        → Draws s t key d (l ++ those alive (valueAt s t x ∷ []))
+        → Draws s t key d (l ++ those alive (valueFrom s t x ∷ []))
         (record { key = k .key; own = k .own; sources = set (k .sources) (k .len) x; len = k .len + 1 })
     add-one room few =
         rw kept
@@ -78,12 +82,12 @@ module _ {s t : List ℕ} {key : ℕ} {d : List Dot} {l : List Value} {k : Sketc
           values = λ n.
               let v = h .values (omega (arith, h .many)) in
               let u = used-more (k .len) (k .sources) x (omega arith) in (
-                ap (map (valueAt s t)) u ∙ map-append (valueAt s t) (sourcesOf k) (x ∷ []) ∙ ap (λ y. y ++ (valueAt s t x ∷ [])) (v .0),
-                record { each = rw u (each-more (λ y. Placed (imageOf s t y) y) (sourcesOf k) x (v .1 .each) p) },
+                ap (map (valueFrom s t)) u ∙ map-append (valueFrom s t) (sourcesOf k) (x ∷ []) ∙ ap (λ y. y ++ (valueFrom s t x ∷ [])) (v .0),
+                record { each = rw u (each-more (λ y. Placed (imageNamed s t y) y) (sourcesOf k) x (v .1 .each) p) },
               );
         })
 
-    pub add-over : 4 ≤ k .len → Draws s t key d (l ++ those alive (valueAt s t x ∷ []))
+    pub add-over : 4 ≤ k .len → Draws s t key d (l ++ those alive (valueFrom s t x ∷ []))
         (record { key = k .key; own = k .own; sources = k .sources; len = k .len + 1 })
     add-over full = rw kept (record { named = h .named; clock = h .clock; many = more; values = λ n. absurd (omega (arith, more)) })
 
@@ -127,7 +131,7 @@ module _ {s t : List ℕ} {l : List Entry} {n : Sums} (h : Summed l n) {key : �
     room = h .room;
   }
 
-  module _ {a b : ℕ} (p : a ≡ length (dotsOf (clockIn (k .own)))) (q : (s t : List ℕ) → Ready s t k → b ≡ totalOf sourceSize (sourcesOf k)) where
+  module _ {a b : ℕ} (p : a ≡ length (dotsOf (clockApart (k .own)))) (q : (s t : List ℕ) → Ready s t k → b ≡ totalOf sourceSize (sourcesOf k)) where
     own-dots : a ≡ length (dotsIn one)
     own-dots = p ∙ ap (λ c. length (dotsOf c)) (g .clock) ∙ ap length (dots-of d refl) ∙ sym (ap length (dots-of d refl))
 
@@ -153,7 +157,8 @@ module _ {s t : List ℕ} {l : List Entry} {n : Sums} (h : Summed l n) {key : �
         }
 
 -- no entry yet
-pub sketch-none : {s t : List ℕ} {items : List Sketched} {n : Sums} → n .count ≡ 0 → Summed [] n → Sketches s t [] (record { items = items; sums = n })
+pub sketch-none : {s t : List ℕ} {items : List Sketched} {n : Sums} → n .count ≡ 0 → Summed [] n
+    → Sketches s t [] (record { items = items; sums = n })
 sketch-none {s} {t} {items} {n} e h = record {
   sums = h;
   items = λ m thin.
@@ -171,7 +176,8 @@ module _ {s t : List ℕ} {l : List Entry} {items : List Sketched} {n : Sums} (h
     items = λ i thin.
         let x = within-both (h .sums) g i thin in
         let v = h .items (x .0) (x .1 .0) in
-        let u : take (m .count) (set items (n .count) k) ≡ take (n .count) items ++ (k ∷ []) = rw next (used-more (n .count) items k (omega arith)) in (
+        let more = used-more (n .count) items k (omega arith) in
+        let u : take (m .count) (set items (n .count) k) ≡ take (n .count) items ++ (k ∷ []) = rw next more in (
           ap (map (drawn s t)) u ∙ map-append (drawn s t) (take (n .count) items) (k ∷ []) ∙ (λ i. v .0 i ++ (drawn-is g (x .1 .1) i ∷ [])),
           record { each = rw u (each-more (Ready s t) (take (n .count) items) k (v .1 .each) (g .values (x .1 .1) .1)) },
         );

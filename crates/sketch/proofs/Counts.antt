@@ -4,14 +4,16 @@ use mathlib.Core.List.{List, [], _∷_, _++_, map, List·Memᴰ·head, List·Mem
 use Prim.Native.Nat.{ℕ, _+_, _*_, _-_, _/_}
 use native.Mathlib.Omega.{arith}
 use lib.ListN.{length, take, drop, length-take, length-drop, length-append}
-use Rattle.lists.specs.Order.{_∈_}
-use Rattle.lists.proofs.Pads.{take-pad}
+use Rattle.listlaws.specs.Order.{_∈_}
+use Rattle.listlaws.proofs.Pads.{take-pad}
 use Rattle.clock.specs.Dots.{dotsOf}
 use Rattle.clock.proofs.Packs.{dots-of}
-use Rattle.register.specs.Values.{valueLimit, noValue}
-use Rattle.parts.specs.declared.Entry.{Entry}
+use Rattle.limits.specs.Limits.{valueLimit}
+use Rattle.register.specs.Values.{noValue}
+use Rattle.entries.specs.declared.Entry.{Entry}
 use Rattle.mapimage.specs.MapImage.{flatFrom, entryRecords}
-use Rattle.answers.specs.Sizes.{totalOf, valueSize, entrySize}
+use Rattle.listlaws.specs.Fold.{totalOf}
+use Rattle.answers.specs.Sizes.{valueSize, entrySize}
 use Rattle.answers.proofs.Lengths.{in-entries}
 use Rattle.runs.specs.Run.{runDots}
 use Rattle.marks.specs.Marks.{picked, marksSet}
@@ -19,7 +21,8 @@ use Rattle.marks.proofs.Picks.{length-picked}
 use Rattle.marks.proofs.Dots.{length-run}
 use Rattle.sketch.specs.declared.Source.{Source}
 use Rattle.sketch.specs.declared.Sketched.{Sketched}
-use Rattle.sketch.specs.Drawn.{between, valueIn, valueAt, Placed, sourceSize, sourcesOf, clockIn, drawn, Ready, sectionsOf}
+use Rattle.walks.specs.Walk.{between}
+use Rattle.sketch.specs.Drawn.{valueNamed, valueFrom, Placed, sourceSize, sourcesOf, clockApart, drawn, Ready, sectionsOf}
 
 -- a total over elements that g has changed
 pub total-map : {A B : Type 0} (size : A → ℕ) (other : B → ℕ) (g : A → B) (l : List A) → ((x : A) → x ∈ l → size x ≡ other (g x))
@@ -29,7 +32,7 @@ total-map size other g [] f = refl
 total-map size other g (x ∷ l) f = ap₂ _+_ (f x (List·Memᴰ·head refl)) (total-map size other g l (λ y i. f y (List·Memᴰ·tail i)))
 
 -- a source stands for its value's records
-pub value-size : {s : List ℕ} (x : Source) → Placed s x → sourceSize x ≡ valueSize (valueIn s x)
+pub value-size : {s : List ℕ} (x : Source) → Placed s x → sourceSize x ≡ valueSize (valueNamed s x)
 value-size {s} x h =
     let run = between s (x .from) (x .to) in
     let a = h .order in
@@ -42,13 +45,13 @@ value-size {s} x h =
 
 -- the records of an entry that is drawn
 abbrev pub sketchedSize : Sketched → ℕ
-sketchedSize k = length (dotsOf (clockIn (k .own))) + totalOf sourceSize (sourcesOf k)
+sketchedSize k = length (dotsOf (clockApart (k .own))) + totalOf sourceSize (sourcesOf k)
 
 pub entry-size : {s t : List ℕ} (k : Sketched) → Ready s t k → sketchedSize k ≡ entrySize (drawn s t k)
 entry-size {s} {t} k h =
-    ap₂ _+_ (ap length (sym (dots-of (dotsOf (clockIn (k .own))) refl)))
-    (total-map sourceSize valueSize (valueAt s t) (sourcesOf k) (λ x i. value-size x (h .each x i))
-    ∙ ap (totalOf valueSize) (sym (take-pad noValue valueLimit (map (valueAt s t) (sourcesOf k)))))
+    ap₂ _+_ (ap length (sym (dots-of (dotsOf (clockApart (k .own))) refl)))
+    (total-map sourceSize valueSize (valueFrom s t) (sourcesOf k) (λ x i. value-size x (h .each x i))
+    ∙ ap (totalOf valueSize) (sym (take-pad noValue valueLimit (map (valueFrom s t) (sourcesOf k)))))
 
 -- one more
 pub total-snoc : {A : Type 0} (size : A → ℕ) (l : List A) (x : A) → totalOf size (l ++ (x ∷ [])) ≡ totalOf size l + size x

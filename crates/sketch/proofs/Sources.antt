@@ -7,15 +7,17 @@ use native.Mathlib.Omega.{arith}
 use lib.Dec.{eqb}
 use lib.ListN.{length, drop, getD, length-take, length-map}
 use borrow.Author.Tests.{eq-eqb, ne-eqb, eqb-true, eqb-false}
-use Rattle.lists.proofs.Orders.{apart}
-use Rattle.lists.proofs.Pads.{take-pad}
+use Rattle.listlaws.proofs.Orders.{apart}
+use Rattle.listlaws.proofs.Pads.{take-pad}
 use Rattle.scan.proofs.Eachs.{decide}
-use Rattle.clock.specs.Dots.{dotLimit, dotsOf}
+use Rattle.limits.specs.Limits.{dotLimit, valueLimit}
+use Rattle.clock.specs.Dots.{dotsOf}
 use Rattle.clock.proofs.Packs.{dots-of}
-use Rattle.register.specs.Values.{valueLimit, noValue}
-use Rattle.parts.specs.declared.Entry.{Entry}
+use Rattle.register.specs.Values.{noValue}
+use Rattle.entries.specs.declared.Entry.{Entry}
 use Rattle.records.specs.declared.Record.{Record}
-use Rattle.records.specs.Records.{recordFrom, bytesOf, Wrote, recordBytes}
+use Rattle.records.specs.Records.{recordFrom, bytesOf, recordBytes}
+use Rattle.records.specs.Writing.{Wrote}
 use Rattle.records.proofs.Writing.{Writing, wrote-one}
 use Rattle.clockimage.specs.Image.{dotRecord, dotRecords, contentOf, contentRecord}
 use Rattle.mapimage.specs.MapImage.{flatFrom, valueRecord, valueRecords, entryRecords}
@@ -25,7 +27,8 @@ use Rattle.marks.specs.Marks.{picked}
 use Rattle.sketch.specs.declared.Source.{Source}
 use Rattle.sketch.specs.declared.Sketched.{Sketched}
 use Rattle.sketch.specs.declared.Sketch.{Sketch}
-use Rattle.sketch.specs.Drawn.{between, valueIn, imageOf, valueAt, Placed, sourcesOf, clockIn, drawn, itemsOf, drawnAll, sectionsOf}
+use Rattle.walks.specs.Walk.{between}
+use Rattle.sketch.specs.Drawn.{valueNamed, imageNamed, valueFrom, Placed, sourcesOf, clockApart, drawn, itemsOf, drawnAll, sectionsOf}
 
 -- what a read past the end of an array would give
 abbrev pub noSourceRead : Source
@@ -46,33 +49,33 @@ module _ {s : List ℕ} {x : Source} (h : Placed s x) where
   run-short = let a = h .few in let b = h .order in omega (arith, length-take (x .to * 16 - x .from * 16) (drop (x .from * 16) s))
 
 module _ (s : List ℕ) (x : Source) where
-  left-dots : dotsOf (valueIn s x .clock) ≡ picked (x .marks) (runDots (between s (x .from) (x .to)))
+  left-dots : dotsOf (valueNamed s x .clock) ≡ picked (x .marks) (runDots (between s (x .from) (x .to)))
   left-dots = dots-of _ refl
 
-  pub dots-room : (key index at room : ℕ) → at + length (dotRecords 4 index key (dotsOf (valueIn s x .clock))) * 16 ≤ room
+  pub dots-room : (key index at room : ℕ) → at + length (dotRecords 4 index key (dotsOf (valueNamed s x .clock))) * 16 ≤ room
       → at + length (picked (x .marks) (runDots (between s (x .from) (x .to)))) * 16 ≤ room
-  dots-room key index at room h = omega (arith, length-map (dotsOf (valueIn s x .clock)) (dotRecord 4 index key), ap length left-dots)
+  dots-room key index at room h = omega (arith, length-map (dotsOf (valueNamed s x .clock)) (dotRecord 4 index key), ap length left-dots)
 
   pub dots-written : (key index : ℕ) {at next : ℕ} {entry exit : List ℕ}
       → Wrote at (bytesOf (dotRecords 4 index key (picked (x .marks) (runDots (between s (x .from) (x .to)))))) entry exit next
-      → Wrote at (bytesOf (dotRecords 4 index key (dotsOf (valueIn s x .clock)))) entry exit next
+      → Wrote at (bytesOf (dotRecords 4 index key (dotsOf (valueNamed s x .clock)))) entry exit next
   dots-written key index w = rw left-dots w
 
   pub value-written : (key index : ℕ) {at next : ℕ} {entry exit : List ℕ} (r : Record) → r ≡ recordFrom s (x .value * 16)
       → Wrote at (recordBytes (contentRecord 3 index key (contentOf r))) entry exit next
-      → Wrote at (bytesOf (valueRecord key index (valueIn s x) ∷ [])) entry exit next
+      → Wrote at (bytesOf (valueRecord key index (valueNamed s x) ∷ [])) entry exit next
   value-written key index r e w = wrote-one _ _ _ _ _ (rw (← e) w)
 
 -- what holds in the image that a source names
 module _ (P : List ℕ → Type 0) (s t : List ℕ) (x : Source) where
-  pub in-second : x .second ≡ true → (P (imageOf s t x) → P t) × (P t → P (imageOf s t x))
+  pub in-second : x .second ≡ true → (P (imageNamed s t x) → P t) × (P t → P (imageNamed s t x))
   in-second e = go (x .second) e
     where
       go : (b : Bool) → b ≡ true → (P (cond b t s) → P t) × (P t → P (cond b t s))
       go true q = (λ p. p, λ p. p)
       go false q = apart (sym q)
 
-  pub in-first : x .second ≡ false → (P (imageOf s t x) → P s) × (P s → P (imageOf s t x))
+  pub in-first : x .second ≡ false → (P (imageNamed s t x) → P s) × (P s → P (imageNamed s t x))
   in-first e = go (x .second) e
     where
       go : (b : Bool) → b ≡ false → (P (cond b t s) → P s) × (P s → P (cond b t s))
@@ -81,13 +84,13 @@ module _ (P : List ℕ → Type 0) (s t : List ℕ) (x : Source) where
 
 -- the records of an entry that is drawn, by kind
 module _ (s t : List ℕ) (k : Sketched) where
-  pub entry-dots : (kind : ℕ) → kind ≡ 2 → entryRecords kind 0 (drawn s t k) ≡ dotRecords 2 0 (k .key) (dotsOf (clockIn (k .own)))
-  entry-dots kind e = rw (eq-eqb kind 2 e) (ap (dotRecords 2 0 (k .key)) (dots-of (dotsOf (clockIn (k .own))) refl))
+  pub entry-dots : (kind : ℕ) → kind ≡ 2 → entryRecords kind 0 (drawn s t k) ≡ dotRecords 2 0 (k .key) (dotsOf (clockApart (k .own)))
+  entry-dots kind e = rw (eq-eqb kind 2 e) (ap (dotRecords 2 0 (k .key)) (dots-of (dotsOf (clockApart (k .own))) refl))
 
   pub entry-more : (kind : ℕ) → (kind ≡ 2 → ⊥) → entryRecords kind 0 (drawn s t k) ≡ flatFrom (valueRecords kind (k .key)) 0
-      (map (valueAt s t) (sourcesOf k))
+      (map (valueFrom s t) (sourcesOf k))
   entry-more kind e = rw (ne-eqb kind 2 e) (ap (flatFrom (valueRecords kind (k .key)) 0)
-      (take-pad noValue valueLimit (map (valueAt s t) (sourcesOf k))))
+      (take-pad noValue valueLimit (map (valueFrom s t) (sourcesOf k))))
 
 pub wrote-as : {x y : List Record} {at next : ℕ} {entry exit : List ℕ} → x ≡ y → Wrote at (bytesOf y) entry exit next
     → Wrote at (bytesOf x) entry exit next

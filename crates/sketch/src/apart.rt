@@ -2,16 +2,17 @@
 ghost use mathlib.Core.Path.{_≡_};
 ghost use Prim.Native.Nat.{_≤_};
 ghost use lib.ListN.{length};
-ghost use Rattle.clock.specs.Dots.{dotLimit, dotsOf};
-ghost use Rattle.sketch.specs.Drawn.{clockIn};
+ghost use Rattle.limits.specs.Limits.{dotLimit};
+ghost use Rattle.clock.specs.Dots.{dotsOf};
+ghost use Rattle.sketch.specs.Drawn.{clockApart};
 use crate::Flat;
 use clock::Clock;
-use clock::DOTS;
 use clock::Dot;
+use limits::DOTS;
 
 impl Flat {
     pub fn of(c: Clock) -> Flat
-        ensures { λ r. ⌜ clockIn r ≡ c ⌝ }
+        ensures { λ r. ⌜ clockApart r ≡ c ⌝ }
     {
         let mut counters: [u64; DOTS] = [0; DOTS];
         let mut actors: [u16; DOTS] = [0; DOTS];
@@ -30,7 +31,7 @@ impl Flat {
     }
 
     pub fn clock(self) -> Clock
-        ensures { λ r. ⌜ r ≡ clockIn self ⌝ }
+        ensures { λ r. ⌜ r ≡ clockApart self ⌝ }
     {
         let none = Dot {
             actor: 0,
@@ -51,7 +52,7 @@ impl Flat {
     }
 
     pub fn size(self) -> usize
-        ensures { λ r. ⌜ (r ≡ length (dotsOf (clockIn self))) × (r ≤ dotLimit) ⌝ }
+        ensures { λ r. ⌜ (r ≡ length (dotsOf (clockApart self))) × (r ≤ dotLimit) ⌝ }
     {
         let n = self.len;
         if n < DOTS { n } else { DOTS }

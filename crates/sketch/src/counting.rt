@@ -3,19 +3,18 @@ ghost use mathlib.Core.Path.{_≡_};
 ghost use mathlib.Core.List.{List, [], _∷_, _++_};
 ghost use Prim.Native.Nat.{ℕ, _+_, _*_, _-_, _≤_, _<_};
 ghost use Rattle.clock.specs.declared.Dot.{Dot};
-ghost use Rattle.clock.specs.Dots.{dotLimit};
+ghost use Rattle.limits.specs.Limits.{dotLimit, valueLimit, entryLimit};
 ghost use Rattle.register.specs.declared.Value.{Value};
-ghost use Rattle.register.specs.Values.{valueLimit};
-ghost use Rattle.parts.specs.declared.Entry.{Entry};
-ghost use Rattle.parts.specs.Model.{entryLimit, entryAs};
-ghost use Rattle.answers.specs.Sizes.{totalOf};
+ghost use Rattle.entries.specs.declared.Entry.{Entry};
+ghost use Rattle.entries.specs.Model.{entryAs};
+ghost use Rattle.listlaws.specs.Fold.{totalOf};
 ghost use Rattle.sketch.specs.Drawn.{Placed, sourceSize, sourcesOf, Ready, Draws, Summed};
 use crate::Sketched;
 use crate::Source;
 use crate::Sums;
-use clock::DOTS;
-use parts::ENTRIES;
-use register::VALUES;
+use limits::DOTS;
+use limits::ENTRIES;
+use limits::VALUES;
 
 // How many dots a source's run has.
 fn run_length(x: Source) -> usize

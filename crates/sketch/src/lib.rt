@@ -1,33 +1,12 @@
-// The entries of a result, drawn from images where they lie, and written from there.
+// The entries of a result: where they lie in the images that they are drawn from, how many records they have, and their image.
 pub mod apart;
 pub mod counting;
-pub mod drawing;
-pub mod walking;
+pub mod growing;
 pub mod writing;
 
-use clock::DOTS;
-use parts::ENTRIES;
-use register::VALUES;
-use walks::Span;
-
-// One more place than an entry has values: where each one's dots begin, and where the last one's end.
-pub const STARTS: usize = 5;
-
-// Where the next entry's dots, values and values' dots begin: numbers of records.
-pub struct Cursor {
-    pub own: usize,
-    pub value: usize,
-    pub dot: usize,
-}
-
-// An entry where it lies: its key, its dots, its values, where each value's dots begin, and where the next entry stands.
-pub struct Lain {
-    pub key: u32,
-    pub dots: Span,
-    pub values: Span,
-    pub starts: [usize; STARTS],
-    pub next: Cursor,
-}
+use limits::DOTS;
+use limits::ENTRIES;
+use limits::VALUES;
 
 // What is left of a value: in the first of two images or in the second, where its record and its dots stand, and which dots.
 pub struct Source {

@@ -4,28 +4,25 @@ ghost use mathlib.Core.List.{map, _++_};
 ghost use Prim.Native.Nat.{_+_, _*_, _≤_};
 ghost use lib.ListN.{length};
 ghost use Rattle.clock.specs.Dots.{dotsOf};
-ghost use Rattle.register.specs.Values.{valueLimit};
-ghost use Rattle.parts.specs.Model.{entryLimit};
-ghost use Rattle.records.specs.Records.{bytesOf, Wrote};
+ghost use Rattle.limits.specs.Limits.{entryLimit};
+ghost use Rattle.records.specs.Records.{bytesOf};
+ghost use Rattle.records.specs.Writing.{Wrote};
+ghost use Rattle.records.specs.Kinds.{clockDotKind};
 ghost use Rattle.clockimage.specs.Image.{dotRecords};
 ghost use Rattle.mapimage.specs.MapImage.{flatFrom, valueRecords, entryRecords};
-ghost use Rattle.sketch.specs.Drawn.{valueIn, imageOf, valueAt, Placed, sourcesOf, drawn, Ready, itemsOf, AllReady, drawnAll, sectionsOf};
+ghost use Rattle.sketch.specs.Drawn.{valueNamed, imageNamed, valueFrom, Placed, sourcesOf, drawn, Ready, itemsOf, AllReady, drawnAll};
+ghost use Rattle.sketch.specs.Drawn.{sectionsOf};
 use crate::Sketch;
 use crate::Sketched;
 use crate::Source;
 use clock::Clock;
-use parts::ENTRIES;
+use limits::ENTRIES;
+use records::CLOCK_DOT;
+use records::ENTRY_DOT;
 use records::Record;
-use register::VALUES;
-
-impl Sketched {
-    pub fn size(self) -> usize
-        ensures { λ r. ⌜ (r ≡ length (sourcesOf self)) × (r ≤ valueLimit) ⌝ }
-    {
-        let n = self.len;
-        if n < VALUES { n } else { VALUES }
-    }
-}
+use records::VALUE;
+use records::VALUE_DOT;
+use records::WAITING_DOT;
 
 impl Sketch {
     pub fn size(self) -> usize
@@ -39,14 +36,14 @@ impl Sketch {
 
 // Writes the record of kind 3 of a value in s, or what is left of its dots.
 fn write_in(s: &[u8], x: Source, kind: u8, key: u32, index: u8, out: &mut [u8], at: usize) -> usize
-    requires { ⌜ Placed (now s) x × (at + length (valueRecords kind key index (valueIn (now s) x)) * 16 ≤ length (now out)) ⌝ }
-    ensures { λ next. ⌜ Wrote at (bytesOf (valueRecords kind key index (valueIn (now (s .entry)) x))) (now (out .entry)) (now (out .exit)) next ⌝ }
+    requires { ⌜ Placed (now s) x × (at + length (valueRecords kind key index (valueNamed (now s) x)) * 16 ≤ length (now out)) ⌝ }
+    ensures { λ next. ⌜ Wrote at (bytesOf (valueRecords kind key index (valueNamed (now (s .entry)) x))) (now (out .entry)) (now (out .exit)) next ⌝ }
 {
-    if kind == 3 {
+    if kind == VALUE {
         let place = x.value as usize * 16;
         let held = records::read_record(s, place);
         let r = Record {
-            kind: 3,
+            kind: VALUE,
             index,
             actor: held.actor,
             key,
@@ -57,7 +54,7 @@ fn write_in(s: &[u8], x: Source, kind: u8, key: u32, index: u8, out: &mut [u8], 
     let from = x.from as usize * 16;
     let to = x.to as usize * 16;
     let marks = x.marks;
-    marks::write_picked(out, at, 4, index, key, &s[from..to], marks)
+    marks::write_picked(out, at, VALUE_DOT, index, key, &s[from..to], marks)
 }
 
 // The same in the image that the source names.
@@ -71,8 +68,10 @@ fn write_source(
     out: &mut [u8],
     at: usize,
 ) -> usize
-    requires { ⌜ Placed (imageOf (now s) (now t) x) x × (at + length (valueRecords kind key index (valueAt (now s) (now t) x)) * 16 ≤ length (now out)) ⌝ }
-    ensures { λ next. ⌜ Wrote at (bytesOf (valueRecords kind key index (valueAt (now (s .entry)) (now (t .entry)) x))) (now (out .entry)) (now (out .exit)) next ⌝ }
+    requires { ⌜ Placed (imageNamed (now s) (now t) x) x × (at + length (valueRecords kind key index (valueFrom (now s) (now t) x)) * 16 ≤ length
+        (now out)) ⌝ }
+    ensures { λ next. ⌜ Wrote at (bytesOf (valueRecords kind key index (valueFrom (now (s .entry)) (now (t .entry)) x))) (now (out .entry))
+        (now (out .exit)) next ⌝ }
 {
     if x.second {
         return write_in(t, x, kind, key, index, out, at);
@@ -82,8 +81,10 @@ fn write_source(
 
 // The values of an entry, one after the other.
 fn write_sources(s: &[u8], t: &[u8], e: Sketched, kind: u8, out: &mut [u8], at: usize) -> usize
-    requires { ⌜ Ready (now s) (now t) e × (at + length (flatFrom (valueRecords kind (e .key)) 0 (map (valueAt (now s) (now t)) (sourcesOf e))) * 16 ≤ length (now out)) ⌝ }
-    ensures { λ next. ⌜ Wrote at (bytesOf (flatFrom (valueRecords kind (e .key)) 0 (map (valueAt (now (s .entry)) (now (t .entry))) (sourcesOf e)))) (now (out .entry)) (now (out .exit)) next ⌝ }
+    requires { ⌜ Ready (now s) (now t) e
+        × (at + length (flatFrom (valueRecords kind (e .key)) 0 (map (valueFrom (now s) (now t)) (sourcesOf e))) * 16 ≤ length (now out)) ⌝ }
+    ensures { λ next. ⌜ Wrote at (bytesOf (flatFrom (valueRecords kind (e .key)) 0 (map (valueFrom (now (s .entry)) (now (t .entry))) (sourcesOf e))))
+        (now (out .entry)) (now (out .exit)) next ⌝ }
 {
     let n = e.size();
     let mut next = at;
@@ -100,26 +101,29 @@ fn write_sources(s: &[u8], t: &[u8], e: Sketched, kind: u8, out: &mut [u8], at: 
 // An entry's records of one kind.
 fn write_entry(s: &[u8], t: &[u8], e: Sketched, kind: u8, out: &mut [u8], at: usize) -> usize
     requires { ⌜ Ready (now s) (now t) e × (at + length (entryRecords kind 0 (drawn (now s) (now t) e)) * 16 ≤ length (now out)) ⌝ }
-    ensures { λ next. ⌜ Wrote at (bytesOf (entryRecords kind 0 (drawn (now (s .entry)) (now (t .entry)) e))) (now (out .entry)) (now (out .exit)) next ⌝ }
+    ensures { λ next. ⌜ Wrote at (bytesOf (entryRecords kind 0 (drawn (now (s .entry)) (now (t .entry)) e))) (now (out .entry))
+        (now (out .exit)) next ⌝ }
 {
-    if kind == 2 {
+    if kind == ENTRY_DOT {
         let own = e.own;
         let clock = own.clock();
-        return clockimage::write_dots(out, at, 2, 0, e.key, clock);
+        return clockimage::write_dots(out, at, ENTRY_DOT, 0, e.key, clock);
     }
     write_sources(s, t, e, kind, out, at)
 }
 
 // The records of a map's clock and of its entries: one section behind the other. One loop, and the clock here, so that the sketch is copied once.
 pub fn write_sketch(s: &[u8], t: &[u8], clock: Clock, sk: Sketch, out: &mut [u8]) -> usize
-    requires { ⌜ AllReady (now s) (now t) sk × (length (dotRecords 1 0 0 (dotsOf clock) ++ sectionsOf (drawnAll (now s) (now t) sk)) * 16 ≤ length (now out)) ⌝ }
-    ensures { λ next. ⌜ Wrote 0 (bytesOf (dotRecords 1 0 0 (dotsOf clock) ++ sectionsOf (drawnAll (now (s .entry)) (now (t .entry)) sk))) (now (out .entry)) (now (out .exit)) next ⌝ }
+    requires { ⌜ AllReady (now s) (now t) sk
+        × (length (dotRecords clockDotKind 0 0 (dotsOf clock) ++ sectionsOf (drawnAll (now s) (now t) sk)) * 16 ≤ length (now out)) ⌝ }
+    ensures { λ next. ⌜ Wrote 0 (bytesOf (dotRecords clockDotKind 0 0 (dotsOf clock) ++ sectionsOf (drawnAll (now (s .entry)) (now (t .entry)) sk)))
+        (now (out .entry)) (now (out .exit)) next ⌝ }
 {
     let n = sk.size();
-    let mut next = clockimage::write_dots(out, 0, 1, 0, 0, clock);
-    let mut kind: u8 = 2;
+    let mut next = clockimage::write_dots(out, 0, CLOCK_DOT, 0, 0, clock);
+    let mut kind: u8 = ENTRY_DOT;
     let mut i: usize = 0;
-    while kind < 5 {
+    while kind < WAITING_DOT {
         if i < n {
             let e = sk.items[i];
             i += 1;

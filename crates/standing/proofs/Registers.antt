@@ -6,14 +6,15 @@ use Prim.Native.Nat.{ℕ, _+_, _≤_, _<_}
 use native.Mathlib.Numerals.{add-one}
 use lib.ListN.{length, take, getD, set, replicate, length-replicate}
 use lib.Seq.{take-suc, take-all}
-use Rattle.lists.specs.First.{firstIn}
-use Rattle.lists.specs.Sift.{sift, those}
-use Rattle.lists.proofs.Tally.{some-snoc}
+use Rattle.listlaws.specs.First.{firstIn}
+use Rattle.listlaws.specs.Sift.{sift, those}
+use Rattle.listlaws.proofs.Tally.{some-snoc}
 use Rattle.scan.proofs.Rooms.{those-yes, those-no}
 use Rattle.clock.specs.declared.Order.{Order}
 use Rattle.clock.specs.Dots.{dotsOf, orderOf}
 use Rattle.register.specs.declared.Value.{Value}
-use Rattle.register.specs.Values.{valueLimit, noValue, yielding, yields, outdone, standing, remaining, oursLeft, mergeValues}
+use Rattle.limits.specs.Limits.{valueLimit}
+use Rattle.register.specs.Values.{noValue, yielding, yields, outdone, standing, remaining, oursLeft, mergeValues}
 use Rattle.marks.specs.Marks.{picked}
 use Rattle.marks.proofs.Picks.{picked-all}
 use Rattle.marks.proofs.Marking.{Marking, marking-start, marking-off, marking-skip, marking-end}

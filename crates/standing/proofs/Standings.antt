@@ -5,11 +5,11 @@ use mathlib.Core.List.{List, [], _∷_, _++_, map}
 use Prim.Native.Nat.{ℕ, _+_, _*_, _-_, _≤_, _<_}
 use lib.ListN.{length, take, drop, getD, set}
 use lib.Seq.{take-length}
-use Rattle.lists.specs.First.{firstIn, some}
-use Rattle.lists.specs.Sift.{those}
-use Rattle.lists.proofs.Tally.{some-snoc}
-use Rattle.lists.proofs.Passing.{Passing, passing-start, passing-here, passing-on, passing-end}
-use Rattle.lists.proofs.Those.{those-same, those-those, those-all}
+use Rattle.listlaws.specs.First.{firstIn, some}
+use Rattle.listlaws.specs.Sift.{those}
+use Rattle.listlaws.proofs.Tally.{some-snoc}
+use Rattle.listlaws.proofs.Passing.{Passing, passing-start, passing-here, passing-on, passing-end}
+use Rattle.listlaws.proofs.Those.{those-same, those-those, those-all}
 use Rattle.clock.specs.declared.Order.{Order}
 use Rattle.clock.specs.declared.Order.the-variants.{Equal, Greater, Less, Concurrent}
 use Rattle.clock.specs.Dots.{dotsOf, covers, outcome, orderOf}

@@ -2,7 +2,7 @@
 ghost use mathlib.Core.Path.{_≡_};
 ghost use mathlib.Core.Bool.{true, false, cond};
 ghost use mathlib.Core.List.{List, [], _∷_, _++_};
-ghost use Rattle.lists.specs.Sift.{those};
+ghost use Rattle.listlaws.specs.Sift.{those};
 ghost use Rattle.clock.specs.Dots.{dotsOf};
 ghost use Rattle.clock.specs.Lawful.{Lawful};
 ghost use Rattle.register.specs.declared.Value.{Value};
@@ -11,7 +11,7 @@ ghost use Rattle.runs.specs.Run.{runDots};
 ghost use Rattle.marks.specs.Marks.{picked};
 ghost use Rattle.comparing.specs.Registers.{RunsOf};
 use clock::Order;
-use register::VALUES;
+use limits::VALUES;
 
 // Which of our values stand in a merge, and which of theirs.
 pub struct Standing {

@@ -7,8 +7,9 @@ use native.Mathlib.Omega.{arith}
 use lib.ListN.{length, drop, getD, length-map, length-drop}
 use lib.Seq.{length-take-le}
 use borrow.Author.Tests.{eq-eqb, ne-eqb}
-use Rattle.clock.specs.Dots.{dotLimit, dotsOf, isEmpty}
-use Rattle.parts.specs.declared.Update.{Update}
+use Rattle.limits.specs.Limits.{dotLimit}
+use Rattle.clock.specs.Dots.{dotsOf, isEmpty}
+use Rattle.entries.specs.declared.Update.{Update}
 use Rattle.map.specs.Valid.{UpdateWithin}
 use Rattle.records.specs.declared.Record.{Record}
 use Rattle.records.specs.Records.{recordFrom, recordsFrom, recordsOf}
@@ -17,10 +18,9 @@ use Rattle.clockimage.specs.Image.{dotOf, dotRecord, dotRecords, contentOf}
 use Rattle.clockimage.proofs.RoundTrip.{dots-back}
 use Rattle.opimage.specs.OpImage.{noRecord, updateHead, putValue, updateRecords}
 use Rattle.runs.specs.Run.{runDots}
-use Rattle.walks.specs.Walk.{part}
+use Rattle.walks.specs.Walk.{part, between}
 use Rattle.walks.proofs.Loops.{slice-part, part-on}
 use Rattle.marks.proofs.Dots.{length-run}
-use Rattle.sketch.specs.Drawn.{between}
 use Rattle.updating.specs.Updated.{PutLies}
 
 module _ (op : List ℕ) {u : Update} (h : UpdateWithin u) (e : updateRecords u ≡ recordsOf op) where

@@ -5,25 +5,25 @@ use mathlib.Core.List.{List, []}
 use mathlib.Core.Logic.{inl, inr}
 use Prim.Native.Nat.{ℕ, _<_}
 use native.Mathlib.Omega.{arith}
-use Rattle.lists.specs.Order.{_∈_}
-use Rattle.lists.proofs.Orders.{apart}
-use Rattle.parts.specs.declared.Entry.{Entry}
-use Rattle.parts.specs.declared.Update.{Update}
-use Rattle.parts.specs.Model.{entryAs}
-use Rattle.parts.specs.Entries.{putEntries}
+use Rattle.listlaws.specs.Order.{_∈_}
+use Rattle.listlaws.proofs.Orders.{apart}
+use Rattle.entries.specs.declared.Entry.{Entry}
+use Rattle.entries.specs.declared.Update.{Update}
+use Rattle.entries.specs.Model.{entryAs}
+use Rattle.entries.specs.Entries.{putEntries}
 use Rattle.walks.specs.declared.Layout.{Layout}
-use Rattle.sketch.specs.declared.Cursor.{Cursor}
-use Rattle.sketch.specs.declared.Lain.{Lain}
-use Rattle.sketch.specs.Walking.{Ahead, LiesAt, Steps}
-use Rattle.merging.proofs.Comings.{first-in, rest-in, its-more, its-least, its-fewer}
+use Rattle.entrywalk.specs.declared.Cursor.{Cursor}
+use Rattle.entrywalk.specs.declared.Lain.{Lain}
+use Rattle.entrywalk.specs.Walking.{Ahead, LiesAt, Steps}
+use Rattle.entrywalk.proofs.Fronts.{first-in, rest-in, its-more, its-least, its-fewer}
 use Rattle.updating.specs.declared.Next.{Next}
-use Rattle.updating.specs.Updated.{Comes}
+use Rattle.updating.specs.Updated.{UpdateComes}
 use Rattle.updating.proofs.Puts.{put-behind, put-first, put-on}
 
 module _ {s : List ℕ} {l : Layout} (u : Update) {x : Cursor} {es : List Entry} (h : Ahead s l x es) where
   module _ {r : Lain} (g : Steps s l x es r) where
     -- the put is done
-    pub comes-behind : Comes s l u x true es (record { entry = r; put = false })
+    pub comes-behind : UpdateComes s l u x true es (record { entry = r; put = false })
     comes-behind =
         let on = g .onward in
         let end = g .rest .own .order in
@@ -43,7 +43,7 @@ module _ {s : List ℕ} {l : Layout} (u : Update) {x : Cursor} {es : List Entry}
         }
 
     -- it is to come, behind this entry
-    pub comes-before : r .key < u .key → Comes s l u x false es (record { entry = r; put = false })
+    pub comes-before : r .key < u .key → UpdateComes s l u x false es (record { entry = r; put = false })
     comes-before low =
         let on = g .onward in
         let end = g .rest .own .order in
@@ -64,7 +64,7 @@ module _ {s : List ℕ} {l : Layout} (u : Update) {x : Cursor} {es : List Entry}
         }
 
     -- it goes on this entry
-    pub comes-on : r .key ≡ u .key → Comes s l u x false es (record { entry = r; put = true })
+    pub comes-on : r .key ≡ u .key → UpdateComes s l u x false es (record { entry = r; put = true })
     comes-on level =
         let on = g .onward in
         let end = g .rest .own .order in
@@ -86,7 +86,7 @@ module _ {s : List ℕ} {l : Layout} (u : Update) {x : Cursor} {es : List Entry}
 
   -- it goes before all of them, where the map has no entry
   pub comes-new : (r : Lain) → ((e : Entry) → e ∈ es → u .key < e .key) → LiesAt s (entryAs (u .key) [] []) r → r .next ≡ x
-      → Comes s l u x false es (record { entry = r; put = true })
+      → UpdateComes s l u x false es (record { entry = r; put = true })
   comes-new r above none on =
       let place = ap (λ (c : Cursor). c .own) on in
       record {
@@ -105,6 +105,7 @@ module _ {s : List ℕ} {l : Layout} (u : Update) {x : Cursor} {es : List Entry}
       }
 
 -- as the flag says
-pub comes-told : {s : List ℕ} {l : Layout} {u : Update} {x : Cursor} {done b : Bool} {es : List Entry} {r : Next} → done ≡ b → Comes s l u x b es r
-    → Comes s l u x done es r
-comes-told {s} {l} {u} {x} {done} {b} {es} {r} t c = subst (λ z. Comes s l u x z es r) (sym t) c
+pub comes-told : {s : List ℕ} {l : Layout} {u : Update} {x : Cursor} {done b : Bool} {es : List Entry} {r : Next} → done ≡ b
+    → UpdateComes s l u x b es r
+    → UpdateComes s l u x done es r
+comes-told {s} {l} {u} {x} {done} {b} {es} {r} t c = subst (λ z. UpdateComes s l u x z es r) (sym t) c

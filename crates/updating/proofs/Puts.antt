@@ -6,15 +6,15 @@ use Prim.Native.Nat.{_<_}
 use native.Mathlib.Omega.{arith}
 use lib.Dec.{eqb}
 use borrow.Author.Tests.{lt-ltb, le-ltb, eq-eqb, ne-eqb}
-use Rattle.lists.specs.First.{firstIn}
-use Rattle.lists.specs.Order.{_∈_}
-use Rattle.lists.specs.Sift.{sift, those}
-use Rattle.lists.proofs.Firsts.{first-none}
-use Rattle.lists.proofs.Those.{those-all, those-none}
-use Rattle.parts.specs.declared.Entry.{Entry}
-use Rattle.parts.specs.declared.Update.{Update}
-use Rattle.parts.specs.Model.{entryAs}
-use Rattle.parts.specs.Entries.{putEntry, entryAt, aside, putEntries}
+use Rattle.listlaws.specs.First.{firstIn}
+use Rattle.listlaws.specs.Order.{_∈_}
+use Rattle.listlaws.specs.Sift.{sift, those}
+use Rattle.listlaws.proofs.Firsts.{first-none}
+use Rattle.listlaws.proofs.Those.{those-all, those-none}
+use Rattle.entries.specs.declared.Entry.{Entry}
+use Rattle.entries.specs.declared.Update.{Update}
+use Rattle.entries.specs.Model.{entryAs}
+use Rattle.entries.specs.Entries.{putEntry, entryAt, aside, putEntries}
 
 module _ (u : Update) where
   pub put-behind : (e : Entry) (es : List Entry) → e .key < u .key → putEntries u (e ∷ es) ≡ e ∷ putEntries u es

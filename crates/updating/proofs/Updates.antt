@@ -6,18 +6,19 @@ use mathlib.Core.Logic.{⊎-elim}
 use Prim.Native.Nat.{ℕ, _+_, _*_, _≤_}
 use native.Mathlib.Omega.{arith}
 use lib.ListN.{length}
-use Rattle.lists.specs.Order.{_∈_}
-use Rattle.lists.specs.Sift.{sift}
+use Rattle.listlaws.specs.Order.{_∈_}
+use Rattle.listlaws.specs.Sift.{sift}
 use Rattle.clock.specs.declared.Dot.{Dot}
-use Rattle.clock.specs.Dots.{dotLimit, clockOf, isEmpty, addDot}
+use Rattle.limits.specs.Limits.{dotLimit, entryLimit}
+use Rattle.clock.specs.Dots.{clockOf, isEmpty, addDot}
 use Rattle.register.specs.declared.Value.{Value}
 use Rattle.register.specs.Values.{alive}
-use Rattle.parts.specs.declared.Entry.{Entry}
-use Rattle.parts.specs.declared.Update.{Update}
-use Rattle.parts.specs.Model.{entryLimit, dotsIn, entryAs}
-use Rattle.parts.specs.Entries.{stays, run, putEntries}
-use Rattle.parts.proofs.Finish.{one-stays, one-goes}
-use Rattle.parts.proofs.Pieces.{dots-in}
+use Rattle.entries.specs.declared.Entry.{Entry}
+use Rattle.entries.specs.declared.Update.{Update}
+use Rattle.entries.specs.Model.{dotsIn, entryAs}
+use Rattle.entries.specs.Entries.{stays, run, putEntries}
+use Rattle.entries.proofs.Finishing.{one-stays, one-goes}
+use Rattle.entries.proofs.Packs.{dots-in}
 use Rattle.map.specs.declared.Map.{Map}
 use Rattle.map.specs.Model.{seenBy, entriesIn, waitingIn}
 use Rattle.map.specs.Valid.{UpdateWithin}
@@ -26,17 +27,17 @@ use Rattle.mapimage.specs.MapImage.{keyNumber}
 use Rattle.walks.specs.declared.Layout.{Layout}
 use Rattle.layout.specs.Whole.{Lies}
 use Rattle.queued.specs.Queue.{cutsFor, Keyed}
-use Rattle.sketch.specs.declared.Cursor.{Cursor}
+use Rattle.entrywalk.specs.declared.Cursor.{Cursor}
 use Rattle.sketch.specs.declared.Sketch.{Sketch}
 use Rattle.sketch.specs.declared.Sketched.{Sketched}
-use Rattle.sketch.specs.Walking.{Ahead}
-use Rattle.sketch.specs.Drawn.{clockIn, Draws, Sketches}
-use Rattle.sketch.proofs.Stepping.{startOf, all-ahead}
+use Rattle.entrywalk.specs.Walking.{Ahead}
+use Rattle.sketch.specs.Drawn.{clockApart, Draws, Sketches}
+use Rattle.entrywalk.proofs.Stepping.{startOf, all-ahead}
 use Rattle.leaving.specs.Left.{valueLeft}
 use Rattle.leaving.proofs.Growing.{Grown, grown-on, grown-same, grown-end}
-use Rattle.merging.proofs.Fronts.{ahead-none}
+use Rattle.entrywalk.proofs.Fronts.{ahead-none}
 use Rattle.updating.specs.declared.Next.{Next}
-use Rattle.updating.specs.Updated.{entryTo, dotsTo, valuesTo, coming, puts, Comes}
+use Rattle.updating.specs.Updated.{entryTo, dotsTo, valuesTo, coming, puts, UpdateComes}
 use Rattle.updating.proofs.Values.{run-left, entry-to, valid-to, fits-old, fits-new}
 
 abbrev pub updatedEntries : Map → Update → List Entry
@@ -54,7 +55,8 @@ pub record Drawing (m : Map) (u : Update) (s t : List ℕ) (l : Layout) (last : 
   pub few : out .sums .count + (length es + puts done) ≤ 2 * entryLimit
   pub grown : Grown (Sketches s t) (updatedEntries m u) (sift stays (run (waitingIn m)) (coming u done es)) out
 
-pub drawing-start : {s t : List ℕ} {m : Map} (u : Update) {l : Layout} {first last : ℕ} {out : Sketch} → Lies s m l → Keyed s first last 0 (waitingIn m) → out .sums .count ≡ 0 → Sketches s t [] out
+pub drawing-start : {s t : List ℕ} {m : Map} (u : Update) {l : Layout} {first last : ℕ} {out : Sketch} → Lies s m l
+    → Keyed s first last 0 (waitingIn m) → out .sums .count ≡ 0 → Sketches s t [] out
     → Drawing m u s t l last out first (startOf l) false
 drawing-start {s} {t} {m} u h keys none p =
     let a = fits-means m (h .within .limits) .count in
@@ -72,7 +74,7 @@ drawing-start {s} {t} {m} u h keys none p =
 
 module _ {m : Map} {u : Update} {s t : List ℕ} {l : Layout} {last : ℕ} {out : Sketch} {f : ℕ} {x : Cursor} {done : Bool}
     (d : Drawing m u s t l last out f x done) where
-  module _ {r : Next} (c : Comes s l u x done (d .es) r) where
+  module _ {r : Next} (c : UpdateComes s l u x done (d .es) r) where
     abbrev key : ℕ
     key = r .entry .key
 
@@ -92,7 +94,7 @@ module _ {m : Map} {u : Update} {s t : List ℕ} {l : Layout} {last : ℕ} {out 
     -- what was drawn of the key, by the entry that lies there
     abbrev pub Drew : ℕ → Sketched → Type 0
     Drew k sk =
-        (clockIn (sk .own) ≡ clockOf (cutsFor (waitingIn m) k (dotsTo u (r .put) (c .entry))))
+        (clockApart (sk .own) ≡ clockOf (cutsFor (waitingIn m) k (dotsTo u (r .put) (c .entry))))
         × (isEmpty (cutsFor (waitingIn m) k (dotsTo u (r .put) (c .entry))) ≡ false
         → Draws s t key (cutsFor (waitingIn m) k (dotsTo u (r .put) (c .entry)))
         (sift alive (valueLeft (waitingIn m) [] k []) (valuesTo u (r .put) (c .entry))) sk)
@@ -128,7 +130,8 @@ module _ {m : Map} {u : Update} {s t : List ℕ} {l : Layout} {last : ℕ} {out 
           ∙ ap (λ z. z ∷ sift stays (run (waitingIn m)) (coming u (done || r .put) (c .more))) its-fate)
           step
 
-    pub drawing-on : {next : Sketch} {g : ℕ} → Keyed s g last (keyNumber 0 (key + 1)) (waitingIn m) → next .sums .count ≤ out .sums .count + 1 → Left next
+    pub drawing-on : {next : Sketch} {g : ℕ} → Keyed s g last (keyNumber 0 (key + 1)) (waitingIn m) → next .sums .count ≤ out .sums .count + 1
+        → Left next
         → Drawing m u s t l last next g (r .entry .next) (done || r .put)
     drawing-on p few h =
         let a = d .few in

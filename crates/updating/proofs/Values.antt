@@ -5,34 +5,36 @@ use mathlib.Core.List.{List, [], _∷_, _++_}
 use Prim.Native.Nat.{ℕ, zero, suc, _≤_}
 use native.Mathlib.Omega.{arith}
 use lib.ListN.{length, replicate, getD}
-use Rattle.lists.specs.First.{firstIn}
-use Rattle.lists.specs.Fold.{fold}
-use Rattle.lists.specs.Order.{_∈_}
-use Rattle.lists.specs.Sift.{sift, those}
-use Rattle.lists.proofs.Sifts.{sift-append}
+use Rattle.listlaws.specs.First.{firstIn}
+use Rattle.listlaws.specs.Fold.{fold}
+use Rattle.listlaws.specs.Order.{_∈_}
+use Rattle.listlaws.specs.Sift.{sift, those}
+use Rattle.listlaws.proofs.Sifts.{sift-append}
 use Rattle.clock.specs.declared.Dot.{Dot}
-use Rattle.clock.specs.Dots.{dotLimit, dotsOf, isEmpty, cutDots, addDot}
+use Rattle.limits.specs.Limits.{dotLimit, waitingLimit}
+use Rattle.clock.specs.Dots.{dotsOf, isEmpty, cutDots, addDot}
 use Rattle.clock.proofs.Cuts.{cut-none}
 use Rattle.clock.proofs.Joins.{lawful-nil, lawful-add}
 use Rattle.clock.proofs.Within.{covered-length, covers-nil, covers-adds}
 use Rattle.register.specs.declared.Value.{Value}
 use Rattle.register.specs.Values.{alive, outdone, remaining, putValues}
 use Rattle.register.proofs.Kept.{put-each}
-use Rattle.parts.specs.declared.Entry.{Entry}
-use Rattle.parts.specs.declared.Removal.{Removal}
-use Rattle.parts.specs.declared.Update.{Update}
-use Rattle.parts.specs.Model.{waitingLimit, dotsIn, valuesIn, entryAs}
-use Rattle.parts.specs.Entries.{listed, run, putEntry}
-use Rattle.parts.specs.Valid.{ValidValue, ValidEntry}
-use Rattle.parts.proofs.Cuts.{cut-none-values}
-use Rattle.parts.proofs.Fits.{added-length}
-use Rattle.parts.proofs.Pieces.{dots-in}
+use Rattle.entries.specs.declared.Entry.{Entry}
+use Rattle.removals.specs.declared.Removal.{Removal}
+use Rattle.entries.specs.declared.Update.{Update}
+use Rattle.entries.specs.Model.{dotsIn, valuesIn, entryAs}
+use Rattle.removals.specs.Waits.{listed}
+use Rattle.entries.specs.Entries.{run, putEntry}
+use Rattle.entries.specs.Valid.{ValidValue, ValidEntry}
+use Rattle.entries.proofs.Cuts.{cut-none-values}
+use Rattle.entries.proofs.ClocksFit.{added-length}
+use Rattle.entries.proofs.Packs.{dots-in}
 use Rattle.map.specs.Valid.{UpdateWithin}
 use Rattle.clock.specs.Lawful.{Lawful}
 use Rattle.queued.specs.Queue.{cutsFor, lists, Marked}
-use Rattle.sketch.specs.Walking.{Fit}
+use Rattle.entrywalk.specs.Walking.{Fit}
 use Rattle.leaving.specs.Left.{valueLeft}
-use Rattle.merging.proofs.Fates.{fated}
+use Rattle.leaving.proofs.Fates.{fated}
 use Rattle.updating.specs.Updated.{entryTo, dotsTo, valuesTo}
 
 -- of no removals none lists a key

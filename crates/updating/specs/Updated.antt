@@ -5,23 +5,24 @@ use mathlib.Core.List.{List, [], _∷_}
 use mathlib.Core.Logic.{_⊎_}
 use Prim.Native.Nat.{ℕ, _+_, _-_, _/_, _≤_, _<_}
 use lib.ListN.{length}
-use Rattle.lists.specs.Order.{_∈_}
+use Rattle.listlaws.specs.Order.{_∈_}
 use Rattle.clock.specs.declared.Dot.{Dot}
-use Rattle.clock.specs.Dots.{dotLimit, dotsOf, addDot}
+use Rattle.limits.specs.Limits.{dotLimit}
+use Rattle.clock.specs.Dots.{dotsOf, addDot}
 use Rattle.clock.specs.Lawful.{Lawful}
 use Rattle.register.specs.declared.Value.{Value}
 use Rattle.register.specs.Values.{putValues}
-use Rattle.parts.specs.declared.Entry.{Entry}
-use Rattle.parts.specs.declared.Update.{Update}
-use Rattle.parts.specs.Model.{dotsIn, valuesIn, entryAs}
-use Rattle.parts.specs.Entries.{putEntry, putEntries}
+use Rattle.entries.specs.declared.Entry.{Entry}
+use Rattle.entries.specs.declared.Update.{Update}
+use Rattle.entries.specs.Model.{dotsIn, valuesIn, entryAs}
+use Rattle.entries.specs.Entries.{putEntry, putEntries}
 use Rattle.records.specs.Records.{recordFrom}
 use Rattle.clockimage.specs.Image.{contentOf}
 use Rattle.runs.specs.Run.{runDots}
 use Rattle.walks.specs.declared.Layout.{Layout}
-use Rattle.sketch.specs.declared.Cursor.{Cursor}
-use Rattle.sketch.specs.Walking.{Ahead, LiesAt}
-use Rattle.sketch.specs.Drawn.{between}
+use Rattle.entrywalk.specs.declared.Cursor.{Cursor}
+use Rattle.entrywalk.specs.Walking.{Ahead, LiesAt}
+use Rattle.walks.specs.Walk.{between}
 use Rattle.updating.specs.declared.Next.{Next}
 
 -- an entry, with the put or without
@@ -52,7 +53,7 @@ pub record PutLies (op : List ℕ) (u : Update) : Type 0 where
   pub lawful : Lawful (dotsOf (u .put .clock))
 
 -- what comes next of the entries es and of a put that is done or not: an entry, empty where the map has none of the put's key
-pub record Comes (s : List ℕ) (l : Layout) (u : Update) (x : Cursor) (done : Bool) (es : List Entry) (r : Next) : Type 0 where
+pub record UpdateComes (s : List ℕ) (l : Layout) (u : Update) (x : Cursor) (done : Bool) (es : List Entry) (r : Next) : Type 0 where
   pub entry : Entry
   pub more : List Entry
   pub first : coming u done es ≡ entryTo u (r .put) entry ∷ coming u (done || r .put) more

@@ -4,15 +4,16 @@ ghost use mathlib.Core.Bool.{true, false};
 ghost use mathlib.Core.List.{List, []};
 ghost use Prim.Native.Nat.{ℕ, _+_, _≤_, _<_};
 ghost use lib.ListN.{length};
-ghost use Rattle.lists.specs.Sift.{sift};
+ghost use Rattle.listlaws.specs.Sift.{sift};
 ghost use Rattle.clock.specs.declared.Dot.{Dot};
-ghost use Rattle.clock.specs.Dots.{dotLimit, clockOf, isEmpty, counterIn, addDot};
-ghost use Rattle.register.specs.Values.{valueLimit, alive, putValues};
-ghost use Rattle.parts.specs.declared.Entry.{Entry};
-ghost use Rattle.parts.specs.declared.Removal.{Removal};
-ghost use Rattle.parts.specs.declared.Update.{Update};
-ghost use Rattle.parts.specs.Model.{valuesIn};
-ghost use Rattle.parts.specs.Entries.{stays, run, putEntries};
+ghost use Rattle.limits.specs.Limits.{dotLimit, valueLimit};
+ghost use Rattle.clock.specs.Dots.{clockOf, isEmpty, counterIn, addDot};
+ghost use Rattle.register.specs.Values.{alive, putValues};
+ghost use Rattle.entries.specs.declared.Entry.{Entry};
+ghost use Rattle.removals.specs.declared.Removal.{Removal};
+ghost use Rattle.entries.specs.declared.Update.{Update};
+ghost use Rattle.entries.specs.Model.{valuesIn};
+ghost use Rattle.entries.specs.Entries.{stays, run, putEntries};
 ghost use Rattle.map.specs.Model.{seenBy, entriesIn, waitingIn};
 ghost use Rattle.map.specs.Valid.{UpdateWithin};
 ghost use Rattle.records.specs.Records.{recordsOf};
@@ -22,21 +23,21 @@ ghost use Rattle.maprecords.specs.Related.{readMap};
 ghost use Rattle.layout.specs.Whole.{Lies};
 ghost use Rattle.marks.specs.Marks.{picked};
 ghost use Rattle.queued.specs.Queue.{Keyed, cutsFor, Queued, Marked};
-ghost use Rattle.sketch.specs.Walking.{LiesAt};
-ghost use Rattle.sketch.specs.Drawn.{valueIn, Placed, clockIn, Draws, Sketches};
+ghost use Rattle.entrywalk.specs.Walking.{LiesAt};
+ghost use Rattle.sketch.specs.Drawn.{valueNamed, Placed, clockApart, Draws, Sketches};
 ghost use Rattle.leaving.specs.Left.{valueLeft};
 ghost use Rattle.updating.specs.Updated.{dotsTo, valuesTo, PutLies};
 use crate::Next;
 use clock::Clock;
-use clock::DOTS;
 use clock::Dot;
-use parts::ENTRIES;
-use parts::Update;
-use parts::WAITING;
+use entries::Update;
+use entrywalk::Cursor;
+use entrywalk::Lain;
+use limits::DOTS;
+use limits::ENTRIES;
+use limits::VALUES;
+use limits::WAITING;
 use queued::Queue;
-use register::VALUES;
-use sketch::Cursor;
-use sketch::Lain;
 use sketch::Sketch;
 use sketch::Sketched;
 use sketch::Source;
@@ -49,7 +50,7 @@ fn clock_to(s: &[u8], x: Lain, put: bool, dot: Dot) -> Clock
     ensures { λ r. ⌜ ((u : Update) (e : Entry) → u .dot ≡ dot → LiesAt (now (s .entry)) e x → length (dotsTo u put e) ≤ dotLimit
         → r ≡ clockOf (dotsTo u put e)) ⌝ }
 {
-    let own = leaving::own_clock(s, x);
+    let own = entrywalk::own_clock(s, x);
     if put {
         let grown = own.add(dot);
         return grown.clock;
@@ -95,7 +96,7 @@ fn put_source(s: &[u8], op: &[u8], q: Queue, under: [bool; WAITING]) -> Source
     requires { ⌜ ((u : Update) × PutLies (now op) u) × ((w : List Removal) × Queued (now s) q w) ⌝ }
     ensures { λ r. ⌜ ((r .second ≡ true) × ((r .from ≤ r .to) × (r .to ≤ r .from + dotLimit)))
         × ((u : Update) (w : List Removal) (key : ℕ) → PutLies (now (op .entry)) u → Queued (now (s .entry)) q w → Marked w key under
-        → Placed (now (op .entry)) r × (valueIn (now (op .entry)) r ≡ valueLeft w [] key [] (u .put))) ⌝ }
+        → Placed (now (op .entry)) r × (valueNamed (now (op .entry)) r ≡ valueLeft w [] key [] (u .put))) ⌝ }
 {
     let m = op.len() / 16;
     let end = m * 16;
@@ -148,7 +149,7 @@ fn draw_key(s: &[u8], op: &[u8], c: Next, dot: Dot, q: Queue, under: [bool; WAIT
     ensures { λ r. ⌜ ((u : Update) (e : Entry) (w : List Removal) → u .dot ≡ dot → PutLies (now (op .entry)) u → LiesAt (now (s .entry)) e (c .entry)
         → length (dotsTo u (c .put) e) ≤ dotLimit
         → Queued (now (s .entry)) q w → Marked w (e .key) under
-        → (clockIn (r .own) ≡ clockOf (cutsFor w (e .key) (dotsTo u (c .put) e))) × (isEmpty (cutsFor w (e .key) (dotsTo u (c .put) e)) ≡ false
+        → (clockApart (r .own) ≡ clockOf (cutsFor w (e .key) (dotsTo u (c .put) e))) × (isEmpty (cutsFor w (e .key) (dotsTo u (c .put) e)) ≡ false
         → Draws (now (s .entry)) (now (op .entry)) (c .entry .key) (cutsFor w (e .key) (dotsTo u (c .put) e))
         (sift alive (valueLeft w [] (e .key) []) (valuesTo u (c .put) e)) r)) ⌝ }
 {
@@ -166,7 +167,8 @@ fn draw_key(s: &[u8], op: &[u8], c: Next, dot: Dot, q: Queue, under: [bool; WAIT
     draw_standing(bare, s, x, [true; VALUES], q, under)
 }
 
-// The entries of an update: each with the waiting removals that list its key, and the put where it goes; the removals' keys stand from one place to another.
+// The entries of an update: each with the waiting removals that list its key, and the put where it goes; the removals' keys stand from one
+// place to another.
 fn draw_keys(
     s: &[u8],
     l: Layout,

@@ -2,7 +2,7 @@
 pub mod drawing;
 pub mod stepping;
 
-use sketch::Lain;
+use entrywalk::Lain;
 
 // What comes next: an entry of the map, or none at the put's key, and whether the put goes there.
 pub struct Next {

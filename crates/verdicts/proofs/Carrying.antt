@@ -55,7 +55,8 @@ pub carried-not : (with : ℕ) (a : Answer) (n : ℕ) → eqb (firstOf (a .first
 unfolding carriedOf
 carried-not with a n e = rw e
 
-pub carried-here : (with : ℕ) (a : Answer) (n : ℕ) → eqb (firstOf (a .first ∷ a .second ∷ [])) 0 ≡ true → eqb (a .own) with ≡ true → n ≡ carriedOf with a n
+pub carried-here : (with : ℕ) (a : Answer) (n : ℕ) → eqb (firstOf (a .first ∷ a .second ∷ [])) 0 ≡ true → eqb (a .own) with ≡ true
+    → n ≡ carriedOf with a n
 unfolding carriedOf
 carried-here with a n e f = rw (e, f)
 
@@ -69,8 +70,10 @@ unfolding numberOf firstOf
 number-alone n = decide (eqb n 0) (λ t. rw t (sym (eqb-true n 0 t))) (λ f. rw f)
 
 -- what a validation finds, or nothing where an image is refused
-pub nothing-found : {F : Type 0} (first second : ℕ) (f nothing : F) → eqb (firstOf (first ∷ second ∷ [])) 0 ≡ false → nothing ≡ cond (eqb (firstOf (first ∷ second ∷ [])) 0) f nothing
+pub nothing-found : {F : Type 0} (first second : ℕ) (f nothing : F) → eqb (firstOf (first ∷ second ∷ [])) 0 ≡ false
+    → nothing ≡ cond (eqb (firstOf (first ∷ second ∷ [])) 0) f nothing
 nothing-found first second f nothing e = rw e
 
-pub found : {F : Type 0} (first second : ℕ) (f nothing : F) → eqb (firstOf (first ∷ second ∷ [])) 0 ≡ true → f ≡ cond (eqb (firstOf (first ∷ second ∷ [])) 0) f nothing
+pub found : {F : Type 0} (first second : ℕ) (f nothing : F) → eqb (firstOf (first ∷ second ∷ [])) 0 ≡ true
+    → f ≡ cond (eqb (firstOf (first ∷ second ∷ [])) 0) f nothing
 found first second f nothing e = rw e

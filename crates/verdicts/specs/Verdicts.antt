@@ -8,14 +8,14 @@ use Rattle.asking.specs.declared.CvRDTValidation.the-variants.{Once}
 use Rattle.opimage.specs.OpImage.{readOp}
 use Rattle.maprecords.specs.Related.{readMap}
 use Rattle.answers.specs.Answer.{firstOf, numberOf}
-use Rattle.promises.specs.Calls.{orderOf, orderAnswer, spentOf, spentAnswer}
+use Rattle.promises.specs.Calls.{opValidation, orderAnswer, spentOf, spentAnswer}
 use Rattle.verdicts.specs.declared.OpVerdict.{OpVerdict}
 use Rattle.verdicts.specs.declared.MergeVerdict.{MergeVerdict}
 
 abbrev pub opVerdict : List ℕ → List ℕ → OpVerdict
 opVerdict map op = record {
   number = numberOf (orderAnswer map op) [];
-  order = cond (eqb (firstOf (readMap map .number ∷ readOp op .number ∷ [])) 0) (orderOf map op) Fits;
+  order = cond (eqb (firstOf (readMap map .number ∷ readOp op .number ∷ [])) 0) (opValidation map op) Fits;
 }
 
 abbrev pub mergeVerdict : List ℕ → List ℕ → MergeVerdict

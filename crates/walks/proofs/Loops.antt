@@ -11,15 +11,15 @@ use lib.ListN.{length, take, drop, getD, set, replicate}
 use Rattle.records.specs.declared.Record.{Record}
 use Rattle.records.specs.Records.{recordFrom, recordsFrom, recordsOf}
 use Rattle.records.proofs.Joined.{length-records, records-slice}
-use Rattle.register.specs.Values.{valueLimit}
-use Rattle.parts.specs.Model.{entryLimit, waitingLimit, keyLimit}
+use Rattle.limits.specs.Limits.{valueLimit, entryLimit, waitingLimit, keyLimit, dotLimit}
 use Rattle.runs.specs.Run.{runDots}
-use Rattle.walks.specs.Walk.{Sections, part, fieldOf, dotTest, valueTest, ownTest, runEnd, valuesEnd, isNone, firstKey, entriesEnd, Splits, waitsEnd, keyTest, keysGood}
+use Rattle.walks.specs.Walk.{Sections, part, fieldOf, dotTest, valueTest, ownTest, runEnd, valuesEnd, isNone, firstKey, entriesEnd, Splits}
+use Rattle.walks.specs.Walk.{waitsEnd, keyTest, keysGood}
 use Rattle.clock.specs.declared.Clock.{Clock}
-use Rattle.clock.specs.Dots.{dotLimit, dotsOf, clockOf}
+use Rattle.clock.specs.Dots.{dotsOf, clockOf}
 use Rattle.clock.proofs.Packs.{dots-of}
-use Rattle.parts.specs.Waits.{clockBefore}
-use Rattle.lists.proofs.Orders.{apart}
+use Rattle.removals.specs.Waits.{clockBefore}
+use Rattle.listlaws.proofs.Orders.{apart}
 use Rattle.clock.specs.declared.Dot.{Dot}
 use Rattle.clockimage.specs.Image.{dotOf}
 use Rattle.walks.specs.declared.Layout.{Layout}
@@ -59,7 +59,8 @@ pub slice-part : (s : List ℕ) (i j : ℕ) → i ≤ j → j * 16 ≤ length s 
 slice-part s i j a b = records-slice s (i * 16) (j * 16 - i * 16) (j - i) (omega arith) (omega arith)
 
 -- and their clock
-pub clock-between : (s : List ℕ) (i j : ℕ) → i ≤ j → j * 16 ≤ length s → clockOf (runDots (take (j * 16 - i * 16) (drop (i * 16) s))) ≡ clockOf (map dotOf (part s i j))
+pub clock-between : (s : List ℕ) (i j : ℕ) → i ≤ j → j * 16 ≤ length s
+    → clockOf (runDots (take (j * 16 - i * 16) (drop (i * 16) s))) ≡ clockOf (map dotOf (part s i j))
 clock-between s i j a b = ap (λ l. clockOf (map dotOf l)) (slice-part s i j a b)
 
 -- what is left of a run from place i on
@@ -114,7 +115,8 @@ part-none s i j h =
 
 -- what is left of a key's values from place i on
 pub record Valuing (key : ℕ) (s : List ℕ) (at end dots last i p : ℕ) : Type 0 where
-  pub left : valuesEnd key valueLimit 0 0 (part s at end) (part s dots last) ≡ valuesEnd key (valueLimit - i) i p (part s (at + i) end) (part s (dots + p) last)
+  pub left : valuesEnd key valueLimit 0 0 (part s at end) (part s dots last) ≡ valuesEnd key (valueLimit - i) i p (part s (at + i) end)
+      (part s (dots + p) last)
 
 module _ (key : ℕ) (s : List ℕ) (at end dots last : ℕ) where
   abbrev whole : Passed
@@ -124,7 +126,8 @@ module _ (key : ℕ) (s : List ℕ) (at end dots last : ℕ) where
   values-start = let e : at + 0 ≡ at = omega arith in let f : dots + 0 ≡ dots = omega arith in record { left = rw (e, f) }
 
   module _ {i p : ℕ} (h : Valuing key s at end dots last i p) where
-    module _ (r : Record) (b : Bool) (e : r ≡ recordFrom s ((at + i) * 16)) (f : b ≡ valueTest key i r) (few : i < valueLimit) (inside : at + i < end) where
+    module _ (r : Record) (b : Bool) (e : r ≡ recordFrom s ((at + i) * 16)) (f : b ≡ valueTest key i r) (few : i < valueLimit)
+        (inside : at + i < end) where
       pub values-fail : b ≡ false → record { good = true; values = i; dots = p } ≡ whole
       unfolding valuesEnd
       values-fail t =
@@ -144,13 +147,27 @@ module _ (key : ℕ) (s : List ℕ) (at end dots last : ℕ) where
             let n : valueLimit - i ≡ suc (valueLimit - (i + 1)) = omega arith in
             let k : at + (i + 1) ≡ at + i + 1 = omega arith in
             let m : dots + (p + q) ≡ dots + p + q = omega arith in
-            record { left = h .left ∙ rw (part-on s (at + i) end inside, n, ← e, ← f, t, ← g, ne-eqb q 0 z, k, m, part-drop s q (dots + p) last room) }
+            record {
+              left = h .left ∙ rw (
+                part-on s (at + i) end inside,
+                n,
+                ← e,
+                ← f,
+                t,
+                ← g,
+                ne-eqb q 0 z,
+                k,
+                m,
+                part-drop s q (dots + p) last room,
+              );
+            }
 
     pub values-stop : (i < valueLimit → end ≤ at + i) → record { good = true; values = i; dots = p } ≡ whole
     unfolding valuesEnd
     values-stop a =
         decide (ltb i valueLimit) (λ t. sym (h .left ∙ rw (part-end s (at + i) end (a (ltb-true i valueLimit t)))))
-        (λ f. let k = ltb-false i valueLimit f in let n : valueLimit - i ≡ 0 = omega arith in sym (h .left ∙ rw n (none (part s (at + i) end) (part s (dots + p) last))))
+        (λ f. let k = ltb-false i valueLimit f in let n : valueLimit - i ≡ 0 = omega arith in
+        sym (h .left ∙ rw n (none (part s (at + i) end) (part s (dots + p) last))))
       where
         none : (l m : List Record) → valuesEnd key 0 i p l m ≡ record { good = true; values = i; dots = p }
         none [] m = refl
@@ -158,7 +175,8 @@ module _ (key : ℕ) (s : List ℕ) (at end dots last : ℕ) where
 
 -- what is left of the entries
 pub record Entering (c : List Dot) (s : List ℕ) (start third fourth fifth own values dots n low : ℕ) : Type 0 where
-  pub left : entriesEnd c entryLimit 0 0 (part s start third) (part s third fourth) (part s fourth fifth) ≡ entriesEnd c (entryLimit - n) n low (part s own third) (part s values fourth) (part s dots fifth)
+  pub left : entriesEnd c entryLimit 0 0 (part s start third) (part s third fourth) (part s fourth fifth) ≡ entriesEnd c (entryLimit - n) n low
+      (part s own third) (part s values fourth) (part s dots fifth)
 
 module _ (c : List Dot) (s : List ℕ) (start third fourth fifth : ℕ) where
   abbrev all : ℕ
@@ -182,13 +200,27 @@ module _ (c : List Dot) (s : List ℕ) (start third fourth fifth : ℕ) where
           let k : entryLimit - n ≡ suc (entryLimit - (n + 1)) = omega arith in
           sym (h .left ∙ rw (k, some, its-key, ← f, ← g, t))
 
-      pub enter-on : own + q ≤ third → values + v .values ≤ fourth → dots + v .dots ≤ fifth → ltb 0 q && (leb low (r .key) && v .good) ≡ true → Entering c s start third fourth fifth (own + q) (values + v .values) (dots + v .dots) (n + 1) (r .key + 1)
+      pub enter-on : own + q ≤ third → values + v .values ≤ fourth → dots + v .dots ≤ fifth → ltb 0 q && (leb low (r .key) && v .good) ≡ true
+          → Entering c s start third fourth fifth (own + q) (values + v .values) (dots + v .dots) (n + 1) (r .key + 1)
       unfolding entriesEnd
       enter-on a b d t =
           let k : entryLimit - n ≡ suc (entryLimit - (n + 1)) = omega arith in
-          record { left = h .left ∙ rw (k, some, its-key, ← f, ← g, t, part-drop s q own third a, part-drop s (v .values) values fourth b, part-drop s (v .dots) dots fifth d) }
+          record {
+            left = h .left ∙ rw (
+              k,
+              some,
+              its-key,
+              ← f,
+              ← g,
+              t,
+              part-drop s q own third a,
+              part-drop s (v .values) values fourth b,
+              part-drop s (v .dots) dots fifth d,
+            );
+          }
 
-    pub enter-stops : own ≤ third → values ≤ fourth → dots ≤ fifth → (n < entryLimit → third ≤ own) → cond (eqb own third && (eqb values fourth && eqb dots fifth)) n (entryLimit + 1) ≡ all
+    pub enter-stops : own ≤ third → values ≤ fourth → dots ≤ fifth → (n < entryLimit → third ≤ own)
+        → cond (eqb own third && (eqb values fourth && eqb dots fifth)) n (entryLimit + 1) ≡ all
     unfolding entriesEnd
     enter-stops a b d z =
         rw (← part-none s own third a, ← part-none s values fourth b, ← part-none s dots fifth d)
@@ -201,7 +233,8 @@ module _ (c : List Dot) (s : List ℕ) (start third fourth fifth : ℕ) where
 -- a place of a lower field stands before the split, and one of another does not
 module _ {s : List ℕ} {field bound from end at : ℕ} (h : Splits s field bound from end at) (mid : ℕ) where
   pub split-above : mid < end → fieldOf field (recordFrom s (mid * 16)) < bound → mid + 1 ≤ at
-  split-above a b = decide (ltb mid at) (λ t. omega (arith, ltb-true mid at t)) (λ f. let k = h .higher mid (ltb-false mid at f) a in absurd (omega arith))
+  split-above a b = decide (ltb mid at) (λ t. omega (arith, ltb-true mid at t)) (λ f. let k = h .higher mid (ltb-false mid at f) a in
+      absurd (omega arith))
 
   pub split-below : from ≤ mid → bound ≤ fieldOf field (recordFrom s (mid * 16)) → at ≤ mid
   split-below a b = decide (ltb mid at) (λ t. let k = h .lower mid a (ltb-true mid at t) in absurd (omega arith)) (λ f. ltb-false mid at f)
@@ -210,7 +243,8 @@ pub part-take : (s : List ℕ) (q i j : ℕ) → i + q ≤ j → take q (part s 
 part-take s zero i j h = sym (part-end s i (i + 0) (omega arith))
 part-take s (suc q) i j h =
     let e : i + suc q ≡ i + 1 + q = omega arith in
-    rw (part-on s i j (omega arith), part-on s i (i + suc q) (omega arith), e) (ap (λ l. recordFrom s (i * 16) ∷ l) (part-take s q (i + 1) j (omega arith)))
+    rw (part-on s i j (omega arith), part-on s i (i + suc q) (omega arith), e)
+    (ap (λ l. recordFrom s (i * 16) ∷ l) (part-take s q (i + 1) j (omega arith)))
 
 -- what is left of the waiting clocks
 pub record Queueing (s : List ℕ) (start sixth at n : ℕ) (last : Clock) : Type 0 where
@@ -221,7 +255,8 @@ module _ (s : List ℕ) (start sixth : ℕ) where
   queue-start e = record { left = ap (λ l. waitsEnd waitingLimit 0 l (part s start sixth)) (sym (dots-of [] e)) }
 
   module _ {at n : ℕ} {last : Clock} (h : Queueing s start sixth at n last) where
-    module _ (q : ℕ) (clock : Clock) (b : Bool) (e : q ≡ runEnd (dotTest 5 n 0) 0 dotLimit 0 (part s at sixth)) (room : at + q ≤ sixth) (f : clock ≡ clockOf (map dotOf (part s at (at + q))))
+    module _ (q : ℕ) (clock : Clock) (b : Bool) (e : q ≡ runEnd (dotTest 5 n 0) 0 dotLimit 0 (part s at sixth)) (room : at + q ≤ sixth)
+        (f : clock ≡ clockOf (map dotOf (part s at (at + q))))
         (g : b ≡ clockBefore (dotsOf last) (dotsOf clock)) (few : n < waitingLimit) (inside : at < sixth) where
       left-some : isNone (part s at sixth) ≡ false
       left-some = part-none s at sixth (omega arith) ∙ ne-eqb at sixth (λ e. omega arith)
@@ -241,7 +276,8 @@ module _ (s : List ℕ) (start sixth : ℕ) where
           let k : waitingLimit - n ≡ suc (waitingLimit - (n + 1)) = omega arith in
           record { left = h .left ∙ rw (k, left-some, ← e, its-clock, ← g, t, part-drop s q at sixth room) }
 
-    pub queue-stops : at ≤ sixth → (n < waitingLimit → sixth ≤ at) → cond (eqb at sixth) n (waitingLimit + 1) ≡ waitsEnd waitingLimit 0 [] (part s start sixth)
+    pub queue-stops : at ≤ sixth → (n < waitingLimit → sixth ≤ at) → cond (eqb at sixth) n (waitingLimit + 1) ≡ waitsEnd waitingLimit 0 []
+        (part s start sixth)
     unfolding waitsEnd
     queue-stops a z =
         rw (← part-none s at sixth a)
@@ -265,11 +301,13 @@ module _ (n : ℕ) (s : List ℕ) (at end : ℕ) where
       unfolding keysGood
       keys-fail t = sym (h .left ∙ rw (part-on s i end inside, ← e, ← f, t))
 
-      pub keys-lack : b ≡ true → leb low (r .key * 256 + r .index) && ltb (getD counts (r .index) 0) keyLimit ≡ false → false ≡ keysGood n (replicate waitingLimit 0) 0 (part s at end)
+      pub keys-lack : b ≡ true → leb low (r .key * 256 + r .index) && ltb (getD counts (r .index) 0) keyLimit ≡ false
+          → false ≡ keysGood n (replicate waitingLimit 0) 0 (part s at end)
       unfolding keysGood
       keys-lack t u = sym (h .left ∙ rw (part-on s i end inside, ← e, ← f, t, u))
 
-      pub keys-on : b ≡ true → leb low (r .key * 256 + r .index) && ltb (getD counts (r .index) 0) keyLimit ≡ true → Listing n s at end (i + 1) (r .key * 256 + r .index + 1) (set counts (r .index) (getD counts (r .index) 0 + 1))
+      pub keys-on : b ≡ true → leb low (r .key * 256 + r .index) && ltb (getD counts (r .index) 0) keyLimit ≡ true
+          → Listing n s at end (i + 1) (r .key * 256 + r .index + 1) (set counts (r .index) (getD counts (r .index) 0 + 1))
       unfolding keysGood
       keys-on t u = record { left = h .left ∙ rw (part-on s i end inside, ← e, ← f, t, u) }
 

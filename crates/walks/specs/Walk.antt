@@ -5,15 +5,15 @@ use mathlib.Core.List.{List, [], _∷_, map}
 use lib.Dec.{eqb, ltb, leb}
 use lib.ListN.{length, take, drop, getD, set}
 use Rattle.clock.specs.declared.Dot.{Dot}
-use Rattle.clock.specs.Dots.{dotLimit, counterIn}
+use Rattle.limits.specs.Limits.{dotLimit, valueLimit, entryLimit, waitingLimit, keyLimit}
+use Rattle.clock.specs.Dots.{counterIn}
 use Rattle.records.specs.declared.Record.{Record}
 use Rattle.records.specs.Records.{recordFrom, recordsFrom}
 use Rattle.clockimage.specs.Image.{dotOf}
-use Rattle.parts.specs.Waits.{clockBefore}
+use Rattle.removals.specs.Waits.{clockBefore}
 use Rattle.mapimage.specs.MapImage.{keyNumber}
 use Rattle.opimage.specs.OpImage.{noRecord}
-use Rattle.register.specs.Values.{valueLimit}
-use Rattle.parts.specs.Model.{entryLimit, waitingLimit, keyLimit}
+use Rattle.records.specs.Kinds.{entryDotKind, valueKind, valueDotKind, waitingDotKind, waitingKeyKind}
 use Rattle.walks.specs.declared.Passed.{Passed}
 use Rattle.walks.specs.declared.Layout.{Layout}
 
@@ -30,16 +30,20 @@ pub record Sections (n : ℕ) (l : Layout) : Type 0 where
 abbrev pub part : List ℕ → ℕ → ℕ → List Record
 part s i j = recordsFrom s (i * 16) (j - i)
 
+-- the same as bytes
+abbrev pub between : List ℕ → ℕ → ℕ → List ℕ
+between s i j = take (j * 16 - i * 16) (drop (i * 16) s)
+
 -- a dot's record of a kind, an index and a key, with a counter
 unfoldable pub dotTest : ℕ → ℕ → ℕ → Record → Bool
 dotTest kind index key r = eqb (r .kind) kind && (eqb (r .index) index && (eqb (r .key) key && ltb 0 (r .number)))
 
 -- the same of an entry's dot, which the map clock covers
 unfoldable pub ownTest : List Dot → ℕ → Record → Bool
-ownTest c key r = dotTest 2 0 key r && leb (r .number) (counterIn c (r .actor))
+ownTest c key r = dotTest entryDotKind 0 key r && leb (r .number) (counterIn c (r .actor))
 
 unfoldable pub valueTest : ℕ → ℕ → Record → Bool
-valueTest key index r = eqb (r .kind) 3 && (eqb (r .index) index && eqb (r .key) key)
+valueTest key index r = eqb (r .kind) valueKind && (eqb (r .index) index && eqb (r .key) key)
 
 -- i and how many records pass from the first on, n at most, their actors ascending from `low` on
 unfoldable pub runEnd : (Record → Bool) → ℕ → ℕ → ℕ → List Record → ℕ
@@ -52,7 +56,7 @@ unfoldable pub valuesEnd : ℕ → ℕ → ℕ → ℕ → List Record → List 
 valuesEnd key n i p [] d = record { good = true; values = i; dots = p }
 valuesEnd key zero i p (r ∷ b) d = record { good = true; values = i; dots = p }
 valuesEnd key (suc n) i p (r ∷ b) d =
-    let q = runEnd (dotTest 4 i key) 0 dotLimit 0 d in
+    let q = runEnd (dotTest valueDotKind i key) 0 dotLimit 0 d in
     let on = valuesEnd key n (i + 1) (p + q) b (drop q d) in
     cond (valueTest key i r) (cond (eqb q 0) (record { good = false; values = i; dots = p }) on) (record { good = true; values = i; dots = p })
 
@@ -79,21 +83,22 @@ entriesEnd c (suc f) n low a b d =
 unfoldable pub waitsEnd : ℕ → ℕ → List Dot → List Record → ℕ
 waitsEnd zero n last l = cond (isNone l) n (waitingLimit + 1)
 waitsEnd (suc f) n last l =
-    let q = runEnd (dotTest 5 n 0) 0 dotLimit 0 l in
+    let q = runEnd (dotTest waitingDotKind n 0) 0 dotLimit 0 l in
     let clock = map dotOf (take q l) in
     let on = waitsEnd f (n + 1) clock (drop q l) in
     cond (isNone l) n (cond (clockBefore last clock) on (waitingLimit + 1))
 
 -- a waiting key under one of n removals
 unfoldable pub keyTest : ℕ → Record → Bool
-keyTest n r = eqb (r .kind) 6 && (eqb (r .actor) 0 && (eqb (r .number) 0 && ltb (r .index) n))
+keyTest n r = eqb (r .kind) waitingKeyKind && (eqb (r .actor) 0 && (eqb (r .number) 0 && ltb (r .index) n))
 
 -- waiting keys ascend from `low` on, and no removal has too many, some of which are counted
 unfoldable pub keysGood : ℕ → List ℕ → ℕ → List Record → Bool
 keysGood n counts low [] = true
 keysGood n counts low (r ∷ l) =
     let c = getD counts (r .index) 0 in
-    (keyTest n r && (leb low (keyNumber (r .index) (r .key)) && ltb c keyLimit)) && keysGood n (set counts (r .index) (c + 1)) (keyNumber (r .index) (r .key) + 1) l
+    (keyTest n r && (leb low (keyNumber (r .index) (r .key)) && ltb c keyLimit))
+    && keysGood n (set counts (r .index) (c + 1)) (keyNumber (r .index) (r .key) + 1) l
 
 -- what records ascend by: kinds in an image, keys in a kind, indexes under a key
 abbrev pub fieldOf : ℕ → Record → ℕ

@@ -3,17 +3,22 @@ ghost use mathlib.Core.Path.{_≡_};
 ghost use mathlib.Core.List.{[]};
 ghost use Prim.Native.Nat.{ℕ, _+_, _*_, _≤_, _<_};
 ghost use lib.ListN.{length, replicate};
-ghost use Rattle.clock.specs.Dots.{dotLimit, dotsOf};
-ghost use Rattle.register.specs.Values.{valueLimit};
-ghost use Rattle.parts.specs.Model.{entryLimit, waitingLimit};
-ghost use Rattle.walks.specs.Walk.{part, fieldOf, dotTest, ownTest, valueTest, runEnd, valuesEnd, entriesEnd, Sections, Splits, waitsEnd, keyTest, keysGood};
+ghost use Rattle.limits.specs.Limits.{dotLimit, valueLimit, entryLimit, waitingLimit};
+ghost use Rattle.clock.specs.Dots.{dotsOf};
+ghost use Rattle.walks.specs.Walk.{part, fieldOf, dotTest, ownTest, valueTest, runEnd, valuesEnd, entriesEnd, Sections, Splits, waitsEnd};
+ghost use Rattle.walks.specs.Walk.{keyTest, keysGood};
 use clock::Clock;
-use clock::DOTS;
-use parts::ENTRIES;
-use parts::KEYS;
-use parts::WAITING;
+use limits::DOTS;
+use limits::ENTRIES;
+use limits::KEYS;
+use limits::VALUES;
+use limits::WAITING;
+use records::ENTRY_DOT;
 use records::Record;
-use register::VALUES;
+use records::VALUE;
+use records::VALUE_DOT;
+use records::WAITING_DOT;
+use records::WAITING_KEY;
 
 // How many values of a key there are, and how many dots they have; not good where a value has none.
 pub struct Passed {
@@ -41,13 +46,13 @@ pub fn own_test(clock: Clock, key: u32, r: Record) -> bool
     ensures { λ b. ⌜ b ≡ ownTest (dotsOf clock) key r ⌝ }
 {
     let seen = clock.get(r.actor);
-    dot_test(2, 0, key, r) & (r.number <= seen)
+    dot_test(ENTRY_DOT, 0, key, r) & (r.number <= seen)
 }
 
 pub fn value_test(key: u32, index: u8, r: Record) -> bool
     ensures { λ b. ⌜ b ≡ valueTest key index r ⌝ }
 {
-    (r.kind == 3) & ((r.index == index) & (r.key == key))
+    (r.kind == VALUE) & ((r.index == index) & (r.key == key))
 }
 
 // How many dots of one kind, index and key stand from `at` on: at most as many as a clock holds, actors ascend.
@@ -93,7 +98,8 @@ pub fn own_end(s: &[u8], at: usize, end: usize, key: u32, clock: Clock) -> usize
 // How many values of a key stand from `at` on, and how many dots they have from `dots` on: no more than a register holds, each with a dot.
 pub fn values_end(s: &[u8], at: usize, end: usize, dots: usize, last: usize, key: u32) -> Passed
     requires { ⌜ (at ≤ end) × ((end * 16 ≤ length (now s)) × ((dots ≤ last) × (last * 16 ≤ length (now s)))) ⌝ }
-    ensures { λ r. ⌜ (r ≡ valuesEnd key valueLimit 0 0 (part (now (s .entry)) at end) (part (now (s .entry)) dots last)) × ((at + r .values ≤ end) × (dots + r .dots ≤ last)) ⌝ }
+    ensures { λ r. ⌜ (r ≡ valuesEnd key valueLimit 0 0 (part (now (s .entry)) at end) (part (now (s .entry)) dots last))
+        × ((at + r .values ≤ end) × (dots + r .dots ≤ last)) ⌝ }
 {
     let top = lower(VALUES, end - at);
     let mut p: usize = 0;
@@ -108,7 +114,7 @@ pub fn values_end(s: &[u8], at: usize, end: usize, dots: usize, last: usize, key
                 dots: p,
             };
         }
-        let q = run_end(s, dots + p, last, 4, k, key);
+        let q = run_end(s, dots + p, last, VALUE_DOT, k, key);
         if q == 0 {
             return Passed {
                 good: false,
@@ -139,7 +145,8 @@ pub struct Layout {
 // How many entries there are; one more than there can be where they are no good.
 pub fn count_entries(s: &[u8], l: Layout, clock: Clock) -> usize
     requires { ⌜ Sections (length (now s)) l ⌝ }
-    ensures { λ r. ⌜ r ≡ entriesEnd (dotsOf clock) entryLimit 0 0 (part (now (s .entry)) (l .second) (l .third)) (part (now (s .entry)) (l .third) (l .fourth)) (part (now (s .entry)) (l .fourth) (l .fifth)) ⌝ }
+    ensures { λ r. ⌜ r ≡ entriesEnd (dotsOf clock) entryLimit 0 0 (part (now (s .entry)) (l .second) (l .third))
+        (part (now (s .entry)) (l .third) (l .fourth)) (part (now (s .entry)) (l .fourth) (l .fifth)) ⌝ }
 {
     let third = l.third;
     let fourth = l.fourth;
@@ -181,11 +188,11 @@ pub fn count_waiting(s: &[u8], l: Layout) -> usize
     let mut last = Clock::new();
     let mut n: usize = 0;
     while (at < sixth) & (n < WAITING) {
-        let q = run_end(s, at, sixth, 5, n as u8, 0);
+        let q = run_end(s, at, sixth, WAITING_DOT, n as u8, 0);
         let from = at * 16;
         let to = (at + q) * 16;
         let clock = runs::clock_of(&s[from..to]);
-        if !parts::queue::clock_before(last, clock) {
+        if !removals::clock_before(last, clock) {
             return WAITING + 1;
         }
         at += q;
@@ -198,7 +205,7 @@ pub fn count_waiting(s: &[u8], l: Layout) -> usize
 pub fn key_test(n: usize, r: Record) -> bool
     ensures { λ b. ⌜ b ≡ keyTest n r ⌝ }
 {
-    (r.kind == 6) & ((r.actor == 0) & ((r.number == 0) & ((r.index as usize) < n)))
+    (r.kind == WAITING_KEY) & ((r.actor == 0) & ((r.number == 0) & ((r.index as usize) < n)))
 }
 
 // Whether the waiting keys ascend, each under one of n removals, none of which has too many.
@@ -226,6 +233,9 @@ pub fn keys_good(s: &[u8], at: usize, end: usize, n: usize) -> bool
     }
     true
 }
+
+// Above every key.
+pub const BEYOND_KEYS: u64 = 0x1_0000_0000;
 
 // What records ascend by: kinds in an image, keys in a kind, indexes under a key.
 pub const BY_KIND: u8 = 0;

@@ -3,7 +3,7 @@ use mathlib.Core.Path.{_≡_, refl, sym, _∙_}
 use Prim.Native.Nat.{_≤_, _-_}
 use lib.ListN.{drop}
 use Rattle.clock.specs.Dots.{noDot, dotsOf}
-use Rattle.advance.specs.Advancing.{rising}
+use Rattle.advance.specs.Advancing.{risingDots}
 use Rattle.advance.proofs.Risings.{rising-stops, rising-goes, rising-end}
 use borrow.Author.Needs.{needs}
 use native.Mathlib.Omega.{arith}
@@ -11,7 +11,7 @@ use Rattle.advance.proofs.rises.Statement.{statement}
 use Rattle.advance.proofs.rises.Tie as tie
 
 abbrev Inv-loop : tie.InvT-loop
-Inv-loop clock n low₀ i₀ low i = (i ≤ n) × (rising 0 (dotsOf clock) ≡ rising low (drop i (dotsOf clock)))
+Inv-loop clock n low₀ i₀ low i = (i ≤ n) × (risingDots 0 (dotsOf clock) ≡ risingDots low (drop i (dotsOf clock)))
 
 abbrev μ-loop : tie.MeasureT-loop
 μ-loop clock n low₀ i₀ low i = n - i

@@ -2,9 +2,10 @@
 use mathlib.Core.Path.{_≡_}
 use Prim.Native.Nat.{_+_, _*_, _≤_, _-_}
 use lib.ListN.{drop}
-use Rattle.parts.specs.Model.{entriesOf}
-use Rattle.parts.proofs.Packs.{noneRead}
-use Rattle.answers.specs.Sizes.{entryMost, totalOf, entrySize}
+use Rattle.entries.specs.Model.{entriesOf}
+use Rattle.entries.proofs.Packs.{noneRead}
+use Rattle.answers.specs.Sizes.{entryMost, entrySize}
+use Rattle.listlaws.specs.Fold.{totalOf}
 use Rattle.answers.proofs.Totals.{total-on, total-end}
 use borrow.Author.Needs.{needs}
 use native.Mathlib.Omega.{arith}
@@ -12,7 +13,8 @@ use Rattle.answers.proofs.count_entries.Statement.{statement}
 use Rattle.answers.proofs.count_entries.Tie as tie
 
 abbrev Inv-loop : tie.InvT-loop
-Inv-loop entries n total₀ i₀ total i = (i ≤ n) × ((total ≤ i * entryMost) × (total + totalOf entrySize (drop i (entriesOf entries)) ≡ totalOf entrySize (entriesOf entries)))
+Inv-loop entries n total₀ i₀ total i = (i ≤ n) × ((total ≤ i * entryMost)
+    × (total + totalOf entrySize (drop i (entriesOf entries)) ≡ totalOf entrySize (entriesOf entries)))
 
 abbrev μ-loop : tie.MeasureT-loop
 μ-loop entries n total₀ i₀ total i = n - i

@@ -4,7 +4,8 @@ use Prim.Native.Nat.{_+_, _*_, _≤_, _-_}
 use lib.ListN.{drop}
 use Rattle.register.specs.Values.{valuesOf}
 use Rattle.register.proofs.Packs.{noneRead}
-use Rattle.answers.specs.Sizes.{valueMost, totalOf, valueSize}
+use Rattle.answers.specs.Sizes.{valueMost, valueSize}
+use Rattle.listlaws.specs.Fold.{totalOf}
 use Rattle.answers.proofs.Totals.{total-on, total-end}
 use borrow.Author.Needs.{needs}
 use native.Mathlib.Omega.{arith}
@@ -12,7 +13,8 @@ use Rattle.answers.proofs.count_values.Statement.{statement}
 use Rattle.answers.proofs.count_values.Tie as tie
 
 abbrev Inv-loop : tie.InvT-loop
-Inv-loop register n total₀ i₀ total i = (i ≤ n) × ((total ≤ i * valueMost) × (total + totalOf valueSize (drop i (valuesOf register)) ≡ totalOf valueSize (valuesOf register)))
+Inv-loop register n total₀ i₀ total i = (i ≤ n) × ((total ≤ i * valueMost)
+    × (total + totalOf valueSize (drop i (valuesOf register)) ≡ totalOf valueSize (valuesOf register)))
 
 abbrev μ-loop : tie.MeasureT-loop
 μ-loop register n total₀ i₀ total i = n - i

@@ -2,9 +2,10 @@
 use mathlib.Core.Path.{_≡_}
 use Prim.Native.Nat.{_+_, _*_, _≤_, _-_}
 use lib.ListN.{drop}
-use Rattle.parts.specs.Model.{waitingOf}
-use Rattle.parts.proofs.Packs.{noRemovalRead}
-use Rattle.answers.specs.Sizes.{removalMost, totalOf, removalSize}
+use Rattle.removals.specs.Model.{waitingOf}
+use Rattle.removals.proofs.Packs.{noRemovalRead}
+use Rattle.answers.specs.Sizes.{removalMost, removalSize}
+use Rattle.listlaws.specs.Fold.{totalOf}
 use Rattle.answers.proofs.Totals.{total-on, total-end}
 use borrow.Author.Needs.{needs}
 use native.Mathlib.Omega.{arith}
@@ -12,7 +13,8 @@ use Rattle.answers.proofs.count_waiting.Statement.{statement}
 use Rattle.answers.proofs.count_waiting.Tie as tie
 
 abbrev Inv-loop : tie.InvT-loop
-Inv-loop waiting n total₀ i₀ total i = (i ≤ n) × ((total ≤ i * removalMost) × (total + totalOf removalSize (drop i (waitingOf waiting)) ≡ totalOf removalSize (waitingOf waiting)))
+Inv-loop waiting n total₀ i₀ total i = (i ≤ n) × ((total ≤ i * removalMost)
+    × (total + totalOf removalSize (drop i (waitingOf waiting)) ≡ totalOf removalSize (waitingOf waiting)))
 
 abbrev μ-loop : tie.MeasureT-loop
 μ-loop waiting n total₀ i₀ total i = n - i

@@ -7,11 +7,11 @@ use Rattle.answers.proofs.give_op.Statement.{statement}
 use Rattle.answers.proofs.give_op.Tie as tie
 
 returns : tie.Need-returns
-returns c = refuses _ _ (number-own _ _ refl refl refl (c .if1 .taken)) (c .if1 .taken)
+returns c = rw (c .word .ensures) (refuses _ _ (number-own _ _ refl refl refl (c .before .if1 .taken)) (c .before .if1 .taken))
 
 returns-2 : tie.Need-returns-2
 returns-2 c =
-    refuses _ _ (number-short _ _ refl refl (c .before .before .if1 .left) (omega arith)) (omega arith)
+    rw (c .word2 .ensures) (refuses _ _ (number-short _ _ refl refl (c .before .before .before .if1 .left) (omega arith)) (omega arith))
 
 write-op-requires : tie.Need-write-op-requires
 write-op-requires c κs =
@@ -26,5 +26,5 @@ returns-3 c =
 pub give-op-spec : {M : Type 1} → statement M
 give-op-spec =
     tie.close
-    (tie.spec (λ c. search needs) returns (λ c κs. search needs) (λ c. search needs) returns-2 write-op-requires (λ c. search needs)
+    (tie.spec (λ c κs. search needs) returns (λ c κs. search needs) (λ c κs. search needs) returns-2 write-op-requires (λ c. search needs)
     returns-3)

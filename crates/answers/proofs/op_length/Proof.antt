@@ -14,8 +14,10 @@ returns c =
 
 returns-2 : tie.Need-returns-2
 returns-2 c =
-    let r = c .before .before .before .before .before .before .args .op .removal in
-    (rw (c .before .before .before .before .before .if1 .left, length-bytes (removalRecords r)) (simp (length-append, length-map) (omega arith)), omega arith)
+    let r = c .before .before .before .before .before .before .args .op .removal in (
+      rw (c .before .before .before .before .before .if1 .left, length-bytes (removalRecords r)) (simp (length-append, length-map) (omega arith)),
+      omega arith,
+    )
 
 pub op-length-spec : {M : Type 1} → statement M
 op-length-spec =

@@ -35,7 +35,13 @@ returns-2 c =
     let g = h .before in
     let i = g .before in
     c .missing2 .ensures
-    ∙ rw (← i .before .before .get .ensures, sym (i .before .too-high .ensures) ∙ i .if1 .left, ← g .get2 .ensures, sym (h .too-high2 .ensures) ∙ j .if2 .taken)
+    ∙ rw (
+      ← i .before .before .get .ensures,
+      sym (i .before .too-high .ensures) ∙ i .if1 .left,
+      ← g .get2 .ensures,
+      sym (h .too-high2 .ensures)
+          ∙ j .if2 .taken,
+    )
 
 returns-3 : tie.Need-returns-3
 unfolding following
@@ -43,7 +49,13 @@ returns-3 c =
     let h = c .before in
     let g = h .before in
     let i = g .before in
-    rw (← i .before .before .get .ensures, sym (i .before .too-high .ensures) ∙ i .if1 .left, ← g .get2 .ensures, sym (h .too-high2 .ensures) ∙ c .if2 .left)
+    rw (
+      ← i .before .before .get .ensures,
+      sym (i .before .too-high .ensures) ∙ i .if1 .left,
+      ← g .get2 .ensures,
+      sym (h .too-high2 .ensures)
+          ∙ c .if2 .left,
+    )
 
 pub follow-spec : {M : Type 1} → statement M
 follow-spec =

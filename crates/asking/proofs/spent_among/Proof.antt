@@ -1,7 +1,7 @@
 -- `spent_among` meets its contract: the loop looks for an entry that shares a dot.
 use mathlib.Core.Path.{sym, _∙_}
 use Prim.Native.Nat.{_≤_, _-_}
-use Rattle.parts.proofs.Packs.{noneRead}
+use Rattle.entries.proofs.Packs.{noneRead}
 use Rattle.asking.specs.Asking.{spentBy}
 use Rattle.asking.proofs.Askings.{Searching, searching-start, searching-here, searching-on, searching-end}
 use borrow.Author.Needs.{needs}

@@ -1,7 +1,7 @@
 -- `spent_under` meets its contract: the loop looks for a dot that both hold.
 use Prim.Native.Nat.{_≤_, _-_}
 use borrow.Author.Tests.{eq-eqb, ne-eqb}
-use Rattle.lists.proofs.Passing.{Passing, passing-start, passing-here, passing-on, passing-end}
+use Rattle.listlaws.proofs.Passing.{Passing, passing-start, passing-here, passing-on, passing-end}
 use Rattle.clock.specs.Dots.{noDot, dotsOf, shared}
 use Rattle.asking.specs.declared.CvRDTValidation.the-variants.{Once, Twice}
 use Rattle.asking.specs.Asking.{spentUnder}
@@ -27,7 +27,8 @@ returns-2 : tie.Need-returns-2 Inv-loop μ-loop
 unfolding spentUnder
 returns-2 c =
     let s = c .before .before .before .before .before in
-    rw (ne-eqb _ _ (s .before .before .if1 .left)) (passing-here noDot (s .loop .inv .1) (omega arith) (eq-eqb _ _ (rw (c .before .before .get .ensures) at (c .if2 .taken))))
+    rw (ne-eqb _ _ (s .before .before .if1 .left)) (passing-here noDot (s .loop .inv .1) (omega arith)
+    (eq-eqb _ _ (rw (c .before .before .get .ensures) at (c .if2 .taken))))
 
 loop-again : tie.Need-loop-again Inv-loop μ-loop
 loop-again c =

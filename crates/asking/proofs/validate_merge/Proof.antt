@@ -1,8 +1,8 @@
 -- `validate_merge` meets its contract: the loop looks for an entry of ours that shares a dot.
 use mathlib.Core.Path.{sym, _∙_}
 use Prim.Native.Nat.{_≤_, _-_}
-use Rattle.parts.specs.Model.{entriesOf}
-use Rattle.parts.proofs.Packs.{noneRead}
+use Rattle.entries.specs.Model.{entriesOf}
+use Rattle.entries.proofs.Packs.{noneRead}
 use Rattle.asking.specs.Asking.{spentBy, firstSpent, validateMerge}
 use Rattle.asking.proofs.Askings.{Searching, searching-start, searching-here, searching-on, searching-end}
 use borrow.Author.Needs.{needs}

@@ -18,10 +18,14 @@ returns-2 : tie.Need-returns-2
 returns-2 c =
     let s = c .before .before .before .before in
     let m = ap (λ (r : ReadMap). r .number) (s .before .before .read-map .ensures) in
-    second-out _ _ (sym m ∙ s .if1 .left) (ap (λ (r : ReadOp). r .number) (c .before .before .before .read-op .ensures)) (c .before .if2 .taken) (c .word2 .ensures)
+    second-out _ _ (sym m ∙ s .if1 .left) (ap (λ (r : ReadOp). r .number) (c .before .before .before .read-op .ensures)) (c .before .if2 .taken)
+    (c .word2 .ensures)
 
 apply-requires : tie.Need-apply-requires
-apply-requires c κs = (read-within _ (c .before .before .before .before .before .read-map .ensures), read-op-within _ (c .before .before .read-op .ensures))
+apply-requires c κs = (
+  read-within _ (c .before .before .before .before .before .read-map .ensures),
+  read-op-within _ (c .before .before .read-op .ensures),
+)
 
 give-map-requires : tie.Need-give-map-requires
 give-map-requires c κs =
@@ -34,8 +38,10 @@ returns-3 c =
     let s = c .before .before .before .before .before .before .before in
     let m = s .before .before .before .read-map .ensures in
     let o = s .read-op .ensures in
-    map-out _ _ (sym (ap (λ (r : ReadMap). r .number) m) ∙ s .before .if1 .left) (sym (ap (λ (r : ReadOp). r .number) o) ∙ c .before .before .before .before .before .if2 .left)
-    (c .before .before .before .before .apply .ensures ∙ ap₂ (λ (m : ReadMap) (o : ReadOp). judged (apply (m .map) (o .op))) m o) (c .before .before .give-map .ensures)
+    map-out _ _ (sym (ap (λ (r : ReadMap). r .number) m) ∙ s .before .if1 .left)
+    (sym (ap (λ (r : ReadOp). r .number) o) ∙ c .before .before .before .before .before .if2 .left)
+    (c .before .before .before .before .apply .ensures ∙ ap₂ (λ (m : ReadMap) (o : ReadOp). judged (apply (m .map) (o .op))) m o)
+    (c .before .before .give-map .ensures)
 
 pub apply-spec : {M : Type 1} → statement M
 apply-spec =

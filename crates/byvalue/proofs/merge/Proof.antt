@@ -17,10 +17,14 @@ returns-2 : tie.Need-returns-2
 returns-2 c =
     let s = c .before .before .before .before in
     let m = ap (λ (r : ReadMap). r .number) (s .before .before .read-map .ensures) in
-    second-out _ _ (sym m ∙ s .if1 .left) (ap (λ (r : ReadMap). r .number) (c .before .before .before .read-map2 .ensures)) (c .before .if2 .taken) (c .word2 .ensures)
+    second-out _ _ (sym m ∙ s .if1 .left) (ap (λ (r : ReadMap). r .number) (c .before .before .before .read-map2 .ensures)) (c .before .if2 .taken)
+    (c .word2 .ensures)
 
 merge-requires : tie.Need-merge-requires
-merge-requires c κs = (read-within _ (c .before .before .before .before .before .read-map .ensures), read-within _ (c .before .before .read-map2 .ensures))
+merge-requires c κs =
+    let first = read-within _ (c .before .before .before .before .before .read-map .ensures) in
+    let second = read-within _ (c .before .before .read-map2 .ensures) in
+    (first, second)
 
 give-map-requires : tie.Need-give-map-requires
 give-map-requires c κs =
@@ -33,8 +37,10 @@ returns-3 c =
     let s = c .before .before .before .before .before .before .before in
     let m = s .before .before .before .read-map .ensures in
     let o = s .read-map2 .ensures in
-    map-out _ _ (sym (ap (λ (r : ReadMap). r .number) m) ∙ s .before .if1 .left) (sym (ap (λ (r : ReadMap). r .number) o) ∙ c .before .before .before .before .before .if2 .left)
-    (c .before .before .before .before .merge .ensures ∙ ap₂ (λ (m o : ReadMap). judged (merge (m .map) (o .map))) m o) (c .before .before .give-map .ensures)
+    map-out _ _ (sym (ap (λ (r : ReadMap). r .number) m) ∙ s .before .if1 .left)
+    (sym (ap (λ (r : ReadMap). r .number) o) ∙ c .before .before .before .before .before .if2 .left)
+    (c .before .before .before .before .merge .ensures ∙ ap₂ (λ (m o : ReadMap). judged (merge (m .map) (o .map))) m o)
+    (c .before .before .give-map .ensures)
 
 pub merge-spec : {M : Type 1} → statement M
 merge-spec =

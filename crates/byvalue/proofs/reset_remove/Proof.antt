@@ -19,7 +19,8 @@ returns-2 : tie.Need-returns-2
 returns-2 c =
     let s = c .before .before .before .before in
     let m = ap (λ (r : ReadMap). r .number) (s .before .before .read-map .ensures) in
-    second-out _ _ (sym m ∙ s .if1 .left) (ap (λ (r : ReadClock). r .number) (c .before .before .before .read-clock .ensures)) (c .before .if2 .taken) (c .word2 .ensures)
+    second-out _ _ (sym m ∙ s .if1 .left) (ap (λ (r : ReadClock). r .number) (c .before .before .before .read-clock .ensures)) (c .before .if2 .taken)
+    (c .word2 .ensures)
 
 reset-remove-requires : tie.Need-reset-remove-requires
 reset-remove-requires c κs = read-within _ (c .before .before .before .before .before .read-map .ensures)
@@ -35,8 +36,10 @@ returns-3 c =
     let s = c .before .before .before .before .before .before .before in
     let m = s .before .before .before .read-map .ensures in
     let o = s .read-clock .ensures in
-    map-out _ _ (sym (ap (λ (r : ReadMap). r .number) m) ∙ s .before .if1 .left) (sym (ap (λ (r : ReadClock). r .number) o) ∙ c .before .before .before .before .before .if2 .left)
-    (c .before .before .before .before .reset-remove .ensures ∙ ap₂ (λ (m : ReadMap) (k : ReadClock). judged (reset (m .map) (dotsOf (k .clock)))) m o) (c .before .before .give-map .ensures)
+    map-out _ _ (sym (ap (λ (r : ReadMap). r .number) m) ∙ s .before .if1 .left)
+    (sym (ap (λ (r : ReadClock). r .number) o) ∙ c .before .before .before .before .before .if2 .left)
+    (c .before .before .before .before .reset-remove .ensures ∙ ap₂ (λ (m : ReadMap) (k : ReadClock). judged (reset (m .map) (dotsOf (k .clock)))) m
+    o) (c .before .before .give-map .ensures)
 
 pub reset-remove-spec : {M : Type 1} → statement M
 reset-remove-spec =

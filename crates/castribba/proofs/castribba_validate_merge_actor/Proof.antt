@@ -8,7 +8,8 @@ use Rattle.castribba.proofs.castribba_validate_merge_actor.Statement.{s
 use Rattle.castribba.proofs.castribba_validate_merge_actor.Tie as tie
 
 returns : tie.Need-returns
-returns c = c .spent-actor .ensures ∙ ap (λ (v : MergeVerdict). spentActor (v .spent)) (c .before .merge .ensures) ∙ spent-carried spentActor refl _ _ _
+returns c = c .spent-actor .ensures ∙ ap (λ (v : MergeVerdict). spentActor (v .spent)) (c .before .merge .ensures)
+    ∙ spent-carried spentActor refl _ _ _
 
 pub castribba-validate-merge-actor-spec : {M : Type 1} → statement M
 castribba-validate-merge-actor-spec =

@@ -8,7 +8,8 @@ use Rattle.castribba.proofs.castribba_validate_merge_counter.Statement.
 use Rattle.castribba.proofs.castribba_validate_merge_counter.Tie as tie
 
 returns : tie.Need-returns
-returns c = c .spent-counter .ensures ∙ ap (λ (v : MergeVerdict). spentCounter (v .spent)) (c .before .merge .ensures) ∙ spent-carried spentCounter refl _ _ _
+returns c = c .spent-counter .ensures ∙ ap (λ (v : MergeVerdict). spentCounter (v .spent)) (c .before .merge .ensures)
+    ∙ spent-carried spentCounter refl _ _ _
 
 pub castribba-validate-merge-counter-spec : {M : Type 1} → statement M
 castribba-validate-merge-counter-spec =

@@ -8,7 +8,8 @@ use Rattle.castribba.proofs.castribba_validate_merge_their_key.Statemen
 use Rattle.castribba.proofs.castribba_validate_merge_their_key.Tie as tie
 
 returns : tie.Need-returns
-returns c = c .spent-theirs .ensures ∙ ap (λ (v : MergeVerdict). spentTheirs (v .spent)) (c .before .merge .ensures) ∙ spent-carried spentTheirs refl _ _ _
+returns c = c .spent-theirs .ensures ∙ ap (λ (v : MergeVerdict). spentTheirs (v .spent)) (c .before .merge .ensures)
+    ∙ spent-carried spentTheirs refl _ _ _
 
 pub castribba-validate-merge-their-key-spec : {M : Type 1} → statement M
 castribba-validate-merge-their-key-spec =

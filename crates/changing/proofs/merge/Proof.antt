@@ -12,7 +12,8 @@ returns : tie.Need-returns
 returns f = first-out _ _ (f .before .before .before .lay-out .ensures .0) (f .before .if1 .taken) (f .word .ensures)
 
 returns-2 : tie.Need-returns-2
-returns-2 f = second-out _ _ (sym (f .before .before .before .before .before .before .lay-out .ensures .0) ∙ f .before .before .before .before .if1 .left) (f .before .before .before .lay-out2 .ensures .0) (f .before .if2 .taken) (f .word2 .ensures)
+returns-2 f = second-out _ _ (sym (f .before .before .before .before .before .before .lay-out .ensures .0)
+    ∙ f .before .before .before .before .if1 .left) (f .before .before .before .lay-out2 .ensures .0) (f .before .if2 .taken) (f .word2 .ensures)
 
 merge-with-requires : tie.Need-merge-with-requires
 merge-with-requires f κs =
@@ -25,7 +26,11 @@ merge-with-requires f κs =
 returns-3 : tie.Need-returns-3
 returns-3 f =
     let a = f .before .before .before .before .before .before .before .before .before .before .before .before .before .args in
-    map-out _ _ {j = judged (merge (readMap (a .map .now) .map) (readMap (a .other .now) .map))} (sym (f .before .before .before .before .before .before .before .before .before .lay-out .ensures .0) ∙ f .before .before .before .before .before .before .before .if1 .left) (sym (f .before .before .before .before .before .before .lay-out2 .ensures .0) ∙ f .before .before .before .before .if2 .left) refl (f .before .before .merge-with .ensures)
+    map-out _ _ {j = judged (merge (readMap (a .map .now) .map) (readMap (a .other .now) .map))}
+    (sym (f .before .before .before .before .before .before .before .before .before .lay-out .ensures .0)
+    ∙ f .before .before .before .before .before .before .before .if1 .left)
+    (sym (f .before .before .before .before .before .before .lay-out2 .ensures .0) ∙ f .before .before .before .before .if2 .left) refl
+    (f .before .before .merge-with .ensures)
 
 pub merge-spec : {M : Type 1} → statement M
 merge-spec =

@@ -3,7 +3,7 @@ use mathlib.Core.Path.{ap₂, _∙_}
 use Rattle.clock.specs.Dots.{dotsOf, fitted, joinDots}
 use Rattle.clock.proofs.Packs.{dots-of, over-means, within-means, within-clock}
 use Rattle.clock.proofs.Joins.{lawful-join}
-use Rattle.changing.proofs.Results.{answered, merged-laid, merged-draft, merged-long, map-short}
+use Rattle.drafting.proofs.Results.{answered, merged-laid, merged-draft, merged-long, map-short}
 use borrow.Author.Needs.{needs}
 use Rattle.changing.proofs.merge_with.Statement.{statement}
 use Rattle.changing.proofs.merge_with.Tie as tie
@@ -21,9 +21,16 @@ join-plan-requires f κs =
     let p = c .before .before .before .before .before .before .before .before .before .before .before .before .pre in
     let h = p .0 .0 in
     let k = p .0 .1 in
-    let j = c .before .before .before .before .before .before .join .ensures ∙ ap₂ (λ x y. fitted (joinDots (dotsOf x) (dotsOf y))) (h .clock) (k .clock) in
-    let t = c .before .before .before .before .before .if1 .left in
-    ((_, c .before .queue-of .ensures), ((_, c .queue-of2 .ensures), rw (dots-of _ (within-clock _ j t)) (lawful-join (h .lies .within .valid .clock) (k .lies .within .valid .clock))))
+    let j = c .before .before .before .before .before .before .join .ensures
+    ∙ ap₂ (λ x y. fitted (joinDots (dotsOf x) (dotsOf y))) (h .clock) (k .clock) in
+    let t = c .before .before .before .before .before .if1 .left in (
+      (_, c .before .queue-of .ensures),
+      (
+        (_, c .queue-of2 .ensures),
+        rw (dots-of _ (within-clock _ j t))
+            (lawful-join (h .lies .within .valid .clock) (k .lies .within .valid .clock)),
+      ),
+    )
 
 draw-merged-requires : tie.Need-draw-merged-requires
 draw-merged-requires f κs =
@@ -31,7 +38,8 @@ draw-merged-requires f κs =
     let p = c .before .before .before .before .before .before .before .before .before .before .before .before .pre in
     let h = p .0 .0 in
     let k = p .0 .1 in
-    let j = c .before .before .before .before .before .before .join .ensures ∙ ap₂ (λ x y. fitted (joinDots (dotsOf x) (dotsOf y))) (h .clock) (k .clock) in
+    let j = c .before .before .before .before .before .before .join .ensures
+    ∙ ap₂ (λ x y. fitted (joinDots (dotsOf x) (dotsOf y))) (h .clock) (k .clock) in
     let t = c .before .before .before .before .before .if1 .left in
     ((h, k), ((c .before .queue-of .ensures, c .queue-of2 .ensures), ((map-short _ (p .1 .0), map-short _ (p .1 .1)), within-means _ j t)))
 
@@ -41,9 +49,20 @@ finish-requires f κs =
     let p = c .before .before .before .before .before .before .before .before .before .before .before .before .pre in
     let h = p .0 .0 in
     let k = p .0 .1 in
-    let j = c .before .before .before .before .before .before .join .ensures ∙ ap₂ (λ x y. fitted (joinDots (dotsOf x) (dotsOf y))) (h .clock) (k .clock) in
-    let t = c .before .before .before .before .before .if1 .left in
-    (_, (_, (_, merged-draft h k (within-means _ j t) (within-clock _ j t) (f .before .draw-merged .ensures) (f .before .before .join-plan .ensures _ _ (c .before .queue-of .ensures) (c .queue-of2 .ensures) (h .lies .within .valid .waiting) (k .lies .within .valid .waiting)))))
+    let j = c .before .before .before .before .before .before .join .ensures
+    ∙ ap₂ (λ x y. fitted (joinDots (dotsOf x) (dotsOf y))) (h .clock) (k .clock) in
+    let t = c .before .before .before .before .before .if1 .left in (
+      _,
+      (
+        _,
+        (
+          _,
+          merged-draft h k (within-means _ j t) (within-clock _ j t) (f .before .draw-merged .ensures)
+              (f .before .before .join-plan .ensures _ _ (c .before .queue-of .ensures) (c .queue-of2 .ensures) (h .lies .within .valid .waiting)
+              (k .lies .within .valid .waiting)),
+        ),
+      ),
+    )
 
 returns-2 : tie.Need-returns-2
 returns-2 f =
@@ -51,9 +70,13 @@ returns-2 f =
     let p = c .before .before .before .before .before .before .before .before .before .before .before .before .pre in
     let h = p .0 .0 in
     let k = p .0 .1 in
-    let j = c .before .before .before .before .before .before .join .ensures ∙ ap₂ (λ x y. fitted (joinDots (dotsOf x) (dotsOf y))) (h .clock) (k .clock) in
+    let j = c .before .before .before .before .before .before .join .ensures
+    ∙ ap₂ (λ x y. fitted (joinDots (dotsOf x) (dotsOf y))) (h .clock) (k .clock) in
     let t = c .before .before .before .before .before .if1 .left in
-    answered (merged-laid h k) (f .before .before .finish .ensures _ _ _ (merged-draft h k (within-means _ j t) (within-clock _ j t) (f .before .before .before .before .draw-merged .ensures) (f .before .before .before .before .before .join-plan .ensures _ _ (c .before .queue-of .ensures) (c .queue-of2 .ensures) (h .lies .within .valid .waiting) (k .lies .within .valid .waiting))))
+    answered (merged-laid h k) (f .before .before .finish .ensures _ _ _
+    (merged-draft h k (within-means _ j t) (within-clock _ j t) (f .before .before .before .before .draw-merged .ensures)
+    (f .before .before .before .before .before .join-plan .ensures _ _ (c .before .queue-of .ensures) (c .queue-of2 .ensures)
+    (h .lies .within .valid .waiting) (k .lies .within .valid .waiting))))
 
 pub merge-with-spec : {M : Type 1} → statement M
 merge-with-spec =

@@ -2,9 +2,9 @@
 use mathlib.Core.Path.{ap, sym, _∙_}
 use Prim.Native.Nat.{_<_}
 use borrow.Author.Tests.{ltb-true, lt-ltb}
-use Rattle.clock.specs.Dots.{dotLimit}
+use Rattle.limits.specs.Limits.{dotLimit}
 use Rattle.scan.proofs.Eachs.{decide, both, both-left, both-right}
-use Rattle.lists.proofs.Orders.{apart}
+use Rattle.listlaws.proofs.Orders.{apart}
 use native.Mathlib.Omega.{arith}
 use Rattle.clockimage.proofs.clock_with.Statement.{statement}
 use Rattle.clockimage.proofs.clock_with.Tie as tie
@@ -20,7 +20,8 @@ returns-2 : tie.Need-returns-2
 returns-2 c l e room =
     let a = c .before .before .args in
     decide (a .more)
-    (λ t. let q : a .clock .len < dotLimit = omega (arith, room t, ap (λ k. k .len) e) in apart (sym (both (a .more) _ t (lt-ltb _ _ q)) ∙ c .if1 .left))
+    (λ t. let q : a .clock .len < dotLimit = omega (arith, room t, ap (λ k. k .len) e) in
+    apart (sym (both (a .more) _ t (lt-ltb _ _ q)) ∙ c .if1 .left))
     (λ f. rw f e)
 
 pub clock-with-spec : {M : Type 1} → statement M

@@ -4,7 +4,8 @@ use Prim.Native.Nat.{_≤_, _-_, _/_}
 use lib.ListN.{length}
 use borrow.Author.Tests.{lt-ltb, le-ltb, eq-eqb, ne-eqb}
 use Rattle.records.proofs.Feeding.{Feeding, feed-start, feed-on, feed-end}
-use Rattle.clockimage.specs.ClockImage.{readClock, ClockSoFar}
+use Rattle.clockimage.specs.ClockImage.{readClock}
+use Rattle.clockimage.specs.SoFar.{ClockSoFar}
 use borrow.Author.Needs.{needs}
 use native.Mathlib.Omega.{arith}
 use Rattle.clockimage.proofs.read_clock.Statement.{statement}
@@ -28,8 +29,14 @@ loop-holds : tie.Need-loop-holds Inv-loop μ-loop
 loop-holds c = (refl, (omega arith, feed-start _ (c .new .ensures)))
 
 loop-again : tie.Need-loop-again Inv-loop μ-loop
-loop-again c =
-    (refl, (omega arith, feed-on _ (c .before .before .before .loop .inv .1 .1) (omega arith) (λ l f. rw (← c .before .read-record .ensures) (c .take .ensures l f))))
+loop-again c = (
+  refl,
+  (
+    omega arith,
+    feed-on _ (c .before .before .before .loop .inv .1 .1) (omega arith)
+        (λ l f. rw (← c .before .read-record .ensures) (c .take .ensures l f)),
+  ),
+)
 
 returns-3 : tie.Need-returns-3 Inv-loop μ-loop
 unfolding readClock

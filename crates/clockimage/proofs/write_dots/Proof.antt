@@ -1,11 +1,11 @@
 -- `write_dots` meets its contract: a record for each dot, one behind the other.
-use mathlib.Core.Path.{refl, ap}
+use mathlib.Core.Path.{ap}
 use mathlib.Core.List.{[], _∷_, map}
 use Prim.Native.Nat.{_≤_, _-_}
 use lib.ListN.{drop, getD, length-map}
-use Rattle.lists.proofs.Rests.{map-on, drop-end}
+use Rattle.listlaws.proofs.Rests.{map-on, drop-end}
 use Rattle.clock.specs.Dots.{noDot, dotsOf}
-use Rattle.records.proofs.Writing.{Writing, write-start, write-room, write-on, write-end, wrote-one}
+use Rattle.records.proofs.Writing.{Writing, write-start, write-room, write-on, write-end, wrote-one, write-kept}
 use Rattle.clockimage.specs.Image.{dotRecord, dotRecords}
 use borrow.Author.Needs.{needs}
 use native.Mathlib.Omega.{arith}
@@ -13,7 +13,8 @@ use Rattle.clockimage.proofs.write_dots.Statement.{statement}
 use Rattle.clockimage.proofs.write_dots.Tie as tie
 
 abbrev Inv-loop : tie.InvT-loop
-Inv-loop out₀ at kind index key clock n next₀ i₀ out next i = (i ≤ n) × Writing (dotRecords kind index key (dotsOf clock)) (dotRecords kind index key (drop i (dotsOf clock))) at out₀ out next
+Inv-loop out₀ at kind index key clock n next₀ i₀ out next i = (i ≤ n) × Writing (dotRecords kind index key (dotsOf clock))
+    (dotRecords kind index key (drop i (dotsOf clock))) at out₀ out next
 
 abbrev μ-loop : tie.MeasureT-loop
 μ-loop out₀ at kind index key clock n next₀ i₀ out next i = n - i
@@ -42,12 +43,13 @@ loop-again c =
     (omega arith, write-on _ _ _ (r ∷ []) (s .loop .inv .1) e (wrote-one r _ _ _ _ (w .ensures)))
 
 same-length : tie.Need-same-length Inv-loop μ-loop
-same-length c = write-room _ _ _ [] _ (c .before .loop .inv .1) refl .1
+same-length c = write-kept _ _ _ (c .before .loop .inv .1)
 
 returns : tie.Need-returns Inv-loop μ-loop
 returns c =
     let a = c .before .before .before .before .args in
-    write-end _ _ _ (c .before .loop .inv .1) (ap (map (dotRecord (a .kind) (a .index) (a .key))) (drop-end (dotsOf (a .t6)) (c .before .loop .i) (omega arith)))
+    write-end _ _ _ (c .before .loop .inv .1) (ap (map (dotRecord (a .kind) (a .index) (a .key)))
+    (drop-end (dotsOf (a .t6)) (c .before .loop .i) (omega arith)))
 
 pub write-dots-spec : {M : Type 1} → statement M
 write-dots-spec =

@@ -2,10 +2,10 @@
 use mathlib.Core.Path.{_≡_, refl, ap, ap₂, sym, _∙_, subst}
 use mathlib.Core.Bool.{Bool, true, false, _&&_}
 use mathlib.Core.List.{List}
-use mathlib.Core.Logic.{_⊎_, ⊎-elim, inl, inr}
+use mathlib.Core.Logic.{_⊎_, ⊎-elim, inl, inr, ⊎-swap}
 use Prim.Native.Nat.{ℕ, _≤_, _<_, _-_, _+_, _/_}
 use lib.Dec.{leb}
-use lib.ListN.{length, take, getD}
+use lib.ListN.{length, getD}
 use lib.Seq.{take-length}
 use borrow.Author.Tests.{ltb-true, ltb-false, le-leb, lt-leb, not-true}
 use Rattle.clock.specs.declared.Dot.{Dot}
@@ -14,15 +14,11 @@ use Rattle.clock.specs.Dots.{noDot, outcome, orderOf, covers}
 use Rattle.clock.specs.Lawful.{Lawful}
 use Rattle.clock.proofs.Walks.{Covering, covering-start, covering-past, covering-both, covering-missed, covering-end, covering-gone}
 use Rattle.runs.specs.Run.{runDots}
-use Rattle.marks.proofs.Dots.{run-at, length-run}
+use Rattle.marks.proofs.Dots.{run-at, length-run, all}
 use borrow.Author.Needs.{needs}
 use native.Mathlib.Omega.{arith}
 use Rattle.comparing.proofs.compare_runs.Statement.{statement}
 use Rattle.comparing.proofs.compare_runs.Tie as tie
-
--- all of a list, as the walk speaks of it
-abbrev all : List Dot → List Dot
-all l = take (length l) l
 
 abbrev Inv-loop : tie.InvT-loop
 Inv-loop x y n m over₀ under₀ i₀ j₀ over under i j =
@@ -138,15 +134,18 @@ module _ (c : tie.After-dot-at2 Inv-loop μ-loop) where
 returns : tie.Need-returns Inv-loop μ-loop
 returns c =
     let y = c .before .before .before .before in
-    apart-runs (ours y) (theirs y) (covering-gone (at y .loop .inv .2) (not-true _ (c .if3 .taken))) (covering-gone (first-under y (c .before .if2 .taken)) refl)
+    apart-runs (ours y) (theirs y) (covering-gone (at y .loop .inv .2) (not-true _ (c .if3 .taken)))
+    (covering-gone (first-under y (c .before .if2 .taken)) refl)
 
 loop-again : tie.Need-loop-again Inv-loop μ-loop
-loop-again c = let y = c .before .before .before .before in let e = c .before .if2 .taken in (omega arith, search needs, first-over y e, first-under y e)
+loop-again c = let y = c .before .before .before .before in let e = c .before .if2 .taken in
+    (omega arith, search needs, first-over y e, first-under y e)
 
 returns-2 : tie.Need-returns-2 Inv-loop μ-loop
 returns-2 c =
     let y = c .before .before .before .before .before .before .before in
-    apart-runs (ours y) (theirs y) (covering-gone (second-over y (c .before .if4 .taken)) refl) (covering-gone (at y .loop .inv .3) (not-true _ (c .if5 .taken)))
+    apart-runs (ours y) (theirs y) (covering-gone (second-over y (c .before .if4 .taken)) refl)
+    (covering-gone (at y .loop .inv .3) (not-true _ (c .if5 .taken)))
 
 loop-again-2 : tie.Need-loop-again-2 Inv-loop μ-loop
 loop-again-2 c =
@@ -157,43 +156,59 @@ loop-again-2 c =
 returns-3 : tie.Need-returns-3 Inv-loop μ-loop
 returns-3 c =
     let y = c .before .before .before .before .before .before .before .before .before .before in
-    let e : y .before .dot-at .result .actor ≡ y .dot-at2 .result .actor = omega (arith, c .before .before .before .before .if4 .left, c .before .before .before .before .before .before .before .if2 .left) in
+    let e : y .before .dot-at .result .actor ≡ y .dot-at2 .result .actor = omega
+    (arith, c .before .before .before .before .if4 .left, c .before .before .before .before .before .before .before .if2 .left) in
     apart-runs (ours y) (theirs y) (covering-gone (both-over y e) (and-no (at y .loop .over) (lt-leb _ _ (c .before .if6 .taken))))
     (covering-gone (at y .loop .inv .3) (not-true _ (c .if7 .taken)))
 
 loop-again-3 : tie.Need-loop-again-3 Inv-loop μ-loop
 loop-again-3 c =
     let y = c .before .before .before .before .before .before .before .before .before .before in
-    let e : y .before .dot-at .result .actor ≡ y .dot-at2 .result .actor = omega (arith, c .before .before .before .before .if4 .left, c .before .before .before .before .before .before .before .if2 .left) in
+    let e : y .before .dot-at .result .actor ≡ y .dot-at2 .result .actor = omega
+    (arith, c .before .before .before .before .if4 .left, c .before .before .before .before .before .before .before .if2 .left) in
     let k = c .before .if6 .taken in (
       omega (arith, y .before .before .before .loop-test),
       omega (arith, in-second y),
       flagged (and-no (at y .loop .over) (lt-leb _ _ k)) (both-over y e),
-      flagged (and-yes (at y .loop .under) (le-leb (y .before .dot-at .result .counter) (y .dot-at2 .result .counter) (omega (arith, k)))) (both-under y e),
+      flagged (and-yes (at y .loop .under) (le-leb (y .before .dot-at .result .counter) (y .dot-at2 .result .counter) (omega (arith, k))))
+          (both-under y e),
     )
 
 returns-4 : tie.Need-returns-4 Inv-loop μ-loop
 returns-4 c =
     let y = c .before .before .before .before .before .before .before .before .before .before .before .before .before in
-    let e : y .before .dot-at .result .actor ≡ y .dot-at2 .result .actor = omega (arith, c .before .before .before .before .before .before .before .if4 .left, c .before .before .before .before .before .before .before .before .before .before .if2 .left) in
+    let e : y .before .dot-at .result .actor ≡ y .dot-at2 .result .actor = omega (
+      arith,
+      c .before .before .before .before .before .before .before .if4 .left,
+      c .before .before .before .before .before .before .before .before .before .before .if2 .left,
+    ) in
     apart-runs (ours y) (theirs y) (covering-gone (at y .loop .inv .2) (not-true _ (c .if9 .taken)))
     (covering-gone (both-under y e) (and-no (at y .loop .under) (lt-leb _ _ (c .before .if8 .taken))))
 
 loop-again-4 : tie.Need-loop-again-4 Inv-loop μ-loop
 loop-again-4 c =
     let y = c .before .before .before .before .before .before .before .before .before .before .before .before .before in
-    let e : y .before .dot-at .result .actor ≡ y .dot-at2 .result .actor = omega (arith, c .before .before .before .before .before .before .before .if4 .left, c .before .before .before .before .before .before .before .before .before .before .if2 .left) in
+    let e : y .before .dot-at .result .actor ≡ y .dot-at2 .result .actor = omega (
+      arith,
+      c .before .before .before .before .before .before .before .if4 .left,
+      c .before .before .before .before .before .before .before .before .before .before .if2 .left,
+    ) in
     let k = c .before .if8 .taken in (
       omega (arith, y .before .before .before .loop-test),
       omega (arith, in-second y),
-      flagged (and-yes (at y .loop .over) (le-leb (y .dot-at2 .result .counter) (y .before .dot-at .result .counter) (omega (arith, k)))) (both-over y e),
+      flagged (and-yes (at y .loop .over) (le-leb (y .dot-at2 .result .counter) (y .before .dot-at .result .counter) (omega (arith, k))))
+          (both-over y e),
       flagged (and-no (at y .loop .under) (lt-leb _ _ k)) (both-under y e),
     )
 
 loop-again-5 : tie.Need-loop-again-5 Inv-loop μ-loop
 loop-again-5 c =
     let y = c .before .before .before .before .before .before .before .before .before .before .before .before in
-    let e : y .before .dot-at .result .actor ≡ y .dot-at2 .result .actor = omega (arith, c .before .before .before .before .before .before .if4 .left, c .before .before .before .before .before .before .before .before .before .if2 .left) in (
+    let e : y .before .dot-at .result .actor ≡ y .dot-at2 .result .actor = omega (
+      arith,
+      c .before .before .before .before .before .before .if4 .left,
+      c .before .before .before .before .before .before .before .before .before .if2 .left,
+    ) in (
       omega (arith, y .before .before .before .loop-test),
       omega (arith, in-second y),
       flagged (and-yes (at y .loop .over) (le-leb _ _ (c .before .before .before .if6 .left))) (both-over y e),
@@ -212,10 +227,6 @@ left-over c =
     (λ w. inl (rw (take-length (runDots x)) (omega (arith, w .left, length-run x))))
     (c .loop-test .came)
 
-turned : {A B : Type 0} → A ⊎ B → B ⊎ A
-turned (inl a) = inr a
-turned (inr b) = inl b
-
 long : (s : List ℕ) → length s / 16 ≡ length (all (runDots s))
 long s = rw (take-length (runDots s)) (sym (length-run s))
 
@@ -230,7 +241,7 @@ returns-5 c =
     c .outcome .ensures
     ∙ ap₂ outcome
     (ap (λ k. s .loop .over && leb k (s .loop .j)) (long y) ∙ covering-end (s .loop .inv .2) (whole (p .1)) e ∙ covers-all (runDots x) (runDots y))
-    (ap (λ k. s .loop .under && leb k (s .loop .i)) (long x) ∙ covering-end (s .loop .inv .3) (whole (p .0)) (turned e) ∙ covers-all (runDots y)
+    (ap (λ k. s .loop .under && leb k (s .loop .i)) (long x) ∙ covering-end (s .loop .inv .3) (whole (p .0)) (⊎-swap e) ∙ covers-all (runDots y)
     (runDots x))
 
 pub compare-runs-spec : {M : Type 1} → statement M

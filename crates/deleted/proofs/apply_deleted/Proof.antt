@@ -6,7 +6,7 @@ use Rattle.opimage.specs.declared.ReadOp.{ReadOp}
 use Rattle.maprecords.specs.Related.{readMap}
 use Rattle.promises.proofs.Ways.{first-uncounted, second-uncounted, nothing-counted, map-counted}
 use Rattle.promises.proofs.Deletes.{update-deletes}
-use Rattle.changing.proofs.Results.{read-removal, applied-removal}
+use Rattle.drafting.proofs.Results.{read-removal, applied-removal}
 use Rattle.deleted.proofs.Counts.{removal-left}
 use borrow.Author.Needs.{needs}
 use Rattle.deleted.proofs.apply_deleted.Statement.{statement}

@@ -2,8 +2,8 @@
 use mathlib.Core.Path.{sym, _∙_}
 use native.Mathlib.Omega.{arith}
 use borrow.Author.Needs.{needs}
-use Rattle.changing.proofs.Numbers.{over-limit, short-room, done-room, settled}
-use Rattle.changing.proofs.Drafts.{counted}
+use Rattle.drafting.proofs.Numbers.{over-limit, short-room, done-room, settled}
+use Rattle.drafting.proofs.Drafts.{counted}
 use Rattle.deleted.proofs.Counts.{refused-uncounted, done-counted}
 use Rattle.deleted.proofs.fewer.Statement.{statement}
 use Rattle.deleted.proofs.fewer.Tie as tie
@@ -20,10 +20,12 @@ add-records : tie.Need-add-records
 add-records f = let r = f .before .before .before .before .before .before .before .pre .1 .1 .1 .1 .0 .entries .sums .room in omega arith
 
 add-records-2 : tie.Need-add-records-2
-add-records-2 f = let r = f .before .before .before .before .before .before .before .before .pre .1 .1 .1 .1 .0 .entries .sums .room in omega (arith, f .before .before .before .before .before .weigh .ensures .1)
+add-records-2 f = let r = f .before .before .before .before .before .before .before .before .pre .1 .1 .1 .1 .0 .entries .sums .room in
+    omega (arith, f .before .before .before .before .before .weigh .ensures .1)
 
 add-records-3 : tie.Need-add-records-3
-add-records-3 f = let r = f .before .before .before .before .before .before .before .before .pre .1 .1 .1 .1 .0 .entries .sums .room in omega (arith, f .before .before .before .before .before .weigh .ensures .1, f .before .before .size .ensures .1)
+add-records-3 f = let r = f .before .before .before .before .before .before .before .before .pre .1 .1 .1 .1 .0 .entries .sums .room in
+    omega (arith, f .before .before .before .before .before .weigh .ensures .1, f .before .before .size .ensures .1)
 
 returns-2 : tie.Need-returns-2
 returns-2 f items c l w n d e =

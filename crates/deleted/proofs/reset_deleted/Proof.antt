@@ -2,7 +2,7 @@
 use mathlib.Core.Path.{refl}
 use native.Mathlib.Omega.{arith}
 use Rattle.clock.proofs.Packs.{cut-left}
-use Rattle.changing.proofs.Results.{reset-laid, reset-draft, map-short}
+use Rattle.drafting.proofs.Results.{reset-laid, reset-draft, map-short}
 use Rattle.deleted.proofs.Counts.{reset-most, reset-rest, counted-as}
 use borrow.Author.Needs.{needs}
 use Rattle.deleted.proofs.reset_deleted.Statement.{statement}

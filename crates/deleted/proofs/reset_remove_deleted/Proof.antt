@@ -5,7 +5,7 @@ use Rattle.clockimage.specs.declared.ReadClock.{ReadClock}
 use Rattle.map.specs.Judging.{judged}
 use Rattle.map.specs.Resetting.{reset}
 use Rattle.maprecords.specs.Related.{readMap}
-use Rattle.oneimage.proofs.Clocks.{one-clock-image}
+use Rattle.oneimagelaws.proofs.Clocks.{one-clock-image}
 use Rattle.promises.proofs.Ways.{first-uncounted, second-uncounted, map-counted}
 use Rattle.deleted.proofs.Counts.{reset-left}
 use borrow.Author.Needs.{needs}

@@ -2,7 +2,8 @@
 use mathlib.Core.Path.{_≡_, ap, _∙_}
 use Prim.Native.Nat.{_+_, _*_, _≤_, _-_}
 use lib.ListN.{length, drop}
-use Rattle.answers.specs.Sizes.{entryMost, totalOf, valueSize, entrySize}
+use Rattle.answers.specs.Sizes.{entryMost, valueSize, entrySize}
+use Rattle.listlaws.specs.Fold.{totalOf}
 use Rattle.memory.specs.Memory.{ownPlace, entriesAt}
 use Rattle.delivery.proofs.Views.{length-dots, entry-dots, entry-values, entries-left, entries-end}
 use borrow.Author.Needs.{needs}

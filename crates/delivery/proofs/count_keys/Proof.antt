@@ -16,7 +16,8 @@ use Rattle.delivery.proofs.count_keys.Tie as tie
 
 abbrev Inv-loop : tie.InvT-loop
 Inv-loop mem total₀ best₀ total best =
-    (every (λ x. ltb x (2 ^ 40)) (flatFrom keyNumbers 0 (waitingAt mem)) ≡ true) × Counting (2 ^ 40) (flatFrom keyNumbers 0 (waitingAt mem)) total best
+    (every (λ x. ltb x (2 ^ 40)) (flatFrom keyNumbers 0 (waitingAt mem)) ≡ true)
+    × Counting (2 ^ 40) (flatFrom keyNumbers 0 (waitingAt mem)) total best
 
 abbrev μ-loop : tie.MeasureT-loop
 μ-loop mem total₀ best₀ total best = 2 ^ 40 - best

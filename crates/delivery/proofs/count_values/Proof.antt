@@ -2,7 +2,8 @@
 use mathlib.Core.Path.{_≡_, ap, _∙_}
 use Prim.Native.Nat.{_+_, _*_, _≤_, _-_}
 use lib.ListN.{length, drop}
-use Rattle.answers.specs.Sizes.{valueMost, totalOf, valueSize}
+use Rattle.answers.specs.Sizes.{valueMost, valueSize}
+use Rattle.listlaws.specs.Fold.{totalOf}
 use Rattle.memory.specs.Memory.{valuePlace, valuesAt}
 use Rattle.delivery.proofs.Views.{length-dots, values-left, values-end, value-dots}
 use borrow.Author.Needs.{needs}

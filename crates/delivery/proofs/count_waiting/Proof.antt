@@ -2,9 +2,9 @@
 use mathlib.Core.Path.{_≡_, ap}
 use Prim.Native.Nat.{_+_, _*_, _≤_, _-_}
 use lib.ListN.{length, drop}
-use Rattle.clock.specs.Dots.{dotLimit}
-use Rattle.parts.specs.Model.{underOf}
-use Rattle.answers.specs.Sizes.{totalOf}
+use Rattle.limits.specs.Limits.{dotLimit}
+use Rattle.removals.specs.Model.{underOf}
+use Rattle.listlaws.specs.Fold.{totalOf}
 use Rattle.memory.specs.Memory.{removalPlace, waitingAt}
 use Rattle.delivery.proofs.Views.{length-dots, waiting-left, waiting-end, under-dots}
 use borrow.Author.Needs.{needs}
@@ -14,7 +14,8 @@ use Rattle.delivery.proofs.count_waiting.Tie as tie
 
 abbrev Inv-loop : tie.InvT-loop
 Inv-loop mem n total₀ k₀ total k =
-    (k ≤ n) × ((total ≤ k * dotLimit) × (total + totalOf (λ x. length (underOf x)) (drop k (waitingAt mem)) ≡ totalOf (λ x. length (underOf x)) (waitingAt mem)))
+    (k ≤ n) × ((total ≤ k * dotLimit) × (total + totalOf (λ x. length (underOf x)) (drop k (waitingAt mem)) ≡ totalOf (λ x. length (underOf x))
+    (waitingAt mem)))
 
 abbrev μ-loop : tie.MeasureT-loop
 μ-loop mem n total₀ k₀ total k = n - k

@@ -25,7 +25,8 @@ next : (c : tie.After-dot-at Inv-loop μ-loop) → let s = c .before .before in
 next c =
     let s = c .before .before in
     let a = s .before .before .args in
-    dots-left (a .mem .now) (a .at) (s .loop .i) (omega arith) ∙ ap (λ d. d ∷ drop (s .loop .i + 1) (dotsAt (a .mem .now) (a .at))) (sym (c .dot-at .ensures))
+    dots-left (a .mem .now) (a .at) (s .loop .i) (omega arith) ∙ ap (λ d. d ∷ drop (s .loop .i + 1) (dotsAt (a .mem .now) (a .at)))
+    (sym (c .dot-at .ensures))
 
 returns : tie.Need-returns Inv-loop μ-loop
 returns c = let s = c .before .before .before .before in sym (s .loop .inv .1 ∙ counter-here _ (next (c .before .before)) (c .if1 .taken))

@@ -25,7 +25,8 @@ next : (c : tie.After-dot-at Inv-loop μ-loop) → let s = c .before .before in
 next c =
     let s = c .before .before in
     let a = s .before .before .args in
-    dots-left (a .mem .now) (a .other) (s .loop .i) (omega arith) ∙ ap (λ d. d ∷ drop (s .loop .i + 1) (dotsAt (a .mem .now) (a .other))) (sym (c .dot-at .ensures))
+    dots-left (a .mem .now) (a .other) (s .loop .i) (omega arith) ∙ ap (λ d. d ∷ drop (s .loop .i + 1) (dotsAt (a .mem .now) (a .other)))
+    (sym (c .dot-at .ensures))
 
 returns : tie.Need-returns Inv-loop μ-loop
 returns c =
@@ -34,8 +35,11 @@ returns c =
 
 loop-again : tie.Need-loop-again Inv-loop μ-loop
 loop-again c =
-    let s = c .before .before .before .before .before in
-    (omega arith, s .loop .inv .1 ∙ covers-on _ (next (c .before .before .before)) (omega (arith, c .before .before .counter-at .ensures, c .if1 .left)))
+    let s = c .before .before .before .before .before in (
+      omega arith,
+      s .loop .inv .1 ∙ covers-on _ (next (c .before .before .before))
+          (omega (arith, c .before .before .counter-at .ensures, c .if1 .left)),
+    )
 
 returns-2 : tie.Need-returns-2 Inv-loop μ-loop
 returns-2 c =

@@ -22,14 +22,16 @@ returns : tie.Need-returns Inv-loop μ-loop
 returns c =
     let s = c .before .before .before in
     let a = s .before .before .args in
-    sym (s .loop .inv .1 ∙ dotted-fails (a .mem .now) (valuePlace (a .j) (s .loop .i)) (values-left (a .mem .now) (a .j) (s .loop .i) (omega arith)) (omega (arith, c .before .count2 .ensures, c .if1 .taken)))
+    sym (s .loop .inv .1 ∙ dotted-fails (a .mem .now) (valuePlace (a .j) (s .loop .i)) (values-left (a .mem .now) (a .j) (s .loop .i) (omega arith))
+    (omega (arith, c .before .count2 .ensures, c .if1 .taken)))
 
 loop-again : tie.Need-loop-again Inv-loop μ-loop
 loop-again c =
     let s = c .before .before .before in
     let a = s .before .before .args in (
       omega arith,
-      s .loop .inv .1 ∙ dotted-on (a .mem .now) (valuePlace (a .j) (s .loop .i)) (values-left (a .mem .now) (a .j) (s .loop .i) (omega arith)) (λ e. c .if1 .left (c .before .count2 .ensures .0 ∙ e)),
+      s .loop .inv .1 ∙ dotted-on (a .mem .now) (valuePlace (a .j) (s .loop .i)) (values-left (a .mem .now) (a .j) (s .loop .i) (omega arith))
+          (λ e. c .if1 .left (c .before .count2 .ensures .0 ∙ e)),
     )
 
 returns-2 : tie.Need-returns-2 Inv-loop μ-loop

@@ -13,7 +13,8 @@ returns c = rw (c .word .ensures) (end-closed _ _ (c .before .if1 .taken))
 returns-2 : tie.Need-returns-2
 returns-2 c =
     let n = c .before .before .before in
-    rw (c .word2 .ensures, c .before .put8 .ensures) (end-refused _ _ (n .before .before .before .if1 .left) (n .before .number-of .ensures) (n .if2 .taken))
+    rw (c .word2 .ensures, c .before .put8 .ensures) (end-refused _ _ (n .before .before .before .if1 .left) (n .before .number-of .ensures)
+    (n .if2 .taken))
 
 -- the image is whole
 whole : (c : tie.After-image-length) → let n = c .before .before .before in 0 ≡ endNumber (n .before .before .before .before .before .args .mem .now)

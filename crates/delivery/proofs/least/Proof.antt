@@ -12,7 +12,8 @@ use Rattle.delivery.proofs.least.Statement.{statement}
 use Rattle.delivery.proofs.least.Tie as tie
 
 abbrev Inv-loop : tie.InvT-loop
-Inv-loop mem low n best₀ k₀ best k = (k ≤ n) × Least (2 ^ 40) low (2 ^ 40) (flatFrom keyNumbers 0 (waitingAt mem)) (flatFrom keyNumbers k (drop k (waitingAt mem))) best
+Inv-loop mem low n best₀ k₀ best k = (k ≤ n) × Least (2 ^ 40) low (2 ^ 40) (flatFrom keyNumbers 0 (waitingAt mem))
+    (flatFrom keyNumbers k (drop k (waitingAt mem))) best
 
 abbrev μ-loop : tie.MeasureT-loop
 μ-loop mem low n best₀ k₀ best k = n - k
@@ -25,8 +26,11 @@ unfolding flatFrom
 loop-again c =
     let s = c .before .before in
     let w = s .before .before .args .mem .now in
-    let e = ap (flatFrom keyNumbers (s .loop .k)) (waiting-left w (s .loop .k) (omega arith)) in
-    (omega arith, least-all (keyNumbers (s .loop .k) (removalAt w (s .loop .k))) (s .loop .inv .1) e (c .least-in .ensures .1) (c .least-in .ensures .0))
+    let e = ap (flatFrom keyNumbers (s .loop .k)) (waiting-left w (s .loop .k) (omega arith)) in (
+      omega arith,
+      least-all (keyNumbers (s .loop .k) (removalAt w (s .loop .k))) (s .loop .inv .1) e (c .least-in .ensures .1)
+          (c .least-in .ensures .0),
+    )
 
 returns : tie.Need-returns Inv-loop μ-loop
 unfolding flatFrom

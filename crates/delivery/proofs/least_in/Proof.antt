@@ -4,7 +4,7 @@ use mathlib.Core.List.{map}
 use Prim.Native.Nat.{_≤_, _-_, _^_}
 use lib.ListN.{drop}
 use borrow.Author.Tests.{lt-ltb}
-use Rattle.mapimage.specs.Sorted.{lesser}
+use Rattle.mapimage.specs.Least.{lesser}
 use Rattle.mapimage.specs.MapImage.{keyNumber, keyNumbers}
 use Rattle.mapimage.proofs.Flats.{Least, least-start, least-on, least-end}
 use Rattle.memory.specs.Memory.{listedAt, removalAt}
@@ -15,7 +15,8 @@ use Rattle.delivery.proofs.least_in.Statement.{statement}
 use Rattle.delivery.proofs.least_in.Tie as tie
 
 abbrev Inv-loop : tie.InvT-loop
-Inv-loop mem k low m at n index best₀ i₀ best i = (i ≤ n) × Least (2 ^ 40) low m (keyNumbers k (removalAt mem k)) (map (keyNumber k) (drop i (listedAt mem k))) best
+Inv-loop mem k low m at n index best₀ i₀ best i = (i ≤ n) × Least (2 ^ 40) low m (keyNumbers k (removalAt mem k))
+    (map (keyNumber k) (drop i (listedAt mem k))) best
 
 abbrev μ-loop : tie.MeasureT-loop
 μ-loop mem k low m at n index best₀ i₀ best i = n - i
@@ -28,8 +29,11 @@ loop-again c =
     let s = c .before .before .before .before .before in
     let a = s .before .before .args in
     let e = ap (map (keyNumber (a .k))) (listed-left (a .mem .now) (a .k) (s .loop .i) (omega arith)) in
-    let n = c .before .key-number .ensures .0 ∙ ap (keyNumber (a .k)) (c .before .before .read32 .ensures) in
-    (omega arith, least-on (s .loop .inv .1) e (lt-ltb _ (2 ^ 40) (rw n at (c .before .key-number .ensures .1))) (c .lesser .ensures ∙ ap (lesser (a .low) (s .loop .best)) n))
+    let n = c .before .key-number .ensures .0 ∙ ap (keyNumber (a .k)) (c .before .before .read32 .ensures) in (
+      omega arith,
+      least-on (s .loop .inv .1) e (lt-ltb _ (2 ^ 40) (rw n at (c .before .key-number .ensures .1)))
+          (c .lesser .ensures ∙ ap (lesser (a .low) (s .loop .best)) n),
+    )
 
 returns : tie.Need-returns Inv-loop μ-loop
 returns c =

@@ -2,8 +2,9 @@
 use mathlib.Core.Path.{_≡_, ap, sym, _∙_}
 use mathlib.Core.Bool.{cond}
 use Rattle.records.specs.Bytes.{numAt}
+use Rattle.maprecords.specs.Related.{lengthNumber}
 use Rattle.memory.specs.Memory.{lengthPlace}
-use Rattle.delivery.specs.Delivery.{lengthNumber, scannedAt}
+use Rattle.delivery.specs.Delivery.{scannedAt}
 use Rattle.delivery.proofs.Ends.{number-of-length, number-of-records, number-of-all}
 use borrow.Author.Needs.{needs}
 use Rattle.delivery.proofs.number_of.Statement.{statement}
@@ -22,7 +23,8 @@ returns-2 c =
     number-of-records _ (sym (of-length (l .before)) ∙ l .if1 .left) (c .before .scanned .ensures) (c .if2 .taken)
 
 -- neither the length nor a record by itself is wrong
-fine : (c : tie.After-related) → let w = c .before .before .before .before .before .before .before .before .args .mem .now in (lengthNumber (numAt 2 lengthPlace w) ≡ 0) × (scannedAt w ≡ 0)
+fine : (c : tie.After-related) → let w = c .before .before .before .before .before .before .before .before .args .mem .now in
+    (lengthNumber (numAt 2 lengthPlace w) ≡ 0) × (scannedAt w ≡ 0)
 fine c =
     let l = c .before .before .before .before in
     (sym (of-length (l .before)) ∙ l .if1 .left, sym (c .before .before .scanned .ensures) ∙ c .before .if2 .left)

@@ -5,7 +5,7 @@ use lib.ListN.{drop}
 use borrow.Author.Tests.{not-true, not-false}
 use Rattle.clock.specs.declared.Clock.{Clock}
 use Rattle.clock.specs.Dots.{dotsOf}
-use Rattle.parts.specs.Waits.{clockBefore, removalBefore}
+use Rattle.removals.specs.Waits.{clockBefore, removalBefore}
 use Rattle.maprecords.specs.Related.{ascend}
 use Rattle.memory.specs.Memory.{removalAt, waitingAt}
 use Rattle.delivery.proofs.Ascends.{ascend-on, ascend-fails, ascend-end}
@@ -24,9 +24,11 @@ loop-holds : tie.Need-loop-holds Inv-loop μ-loop
 loop-holds c = (omega arith, refl)
 
 -- two neighbours in the memory
-compared : (c : tie.After-clock-before Inv-loop μ-loop) → let s = c .before .before .before .before in let w = s .before .before .args .mem .now in c .clock-before .result ≡ removalBefore (removalAt w (s .loop .k - 1)) (removalAt w (s .loop .k))
+compared : (c : tie.After-clock-before Inv-loop μ-loop) → let s = c .before .before .before .before in let w = s .before .before .args .mem .now in
+    c .clock-before .result ≡ removalBefore (removalAt w (s .loop .k - 1)) (removalAt w (s .loop .k))
 compared c =
-    c .clock-before .ensures ∙ ap₂ (λ (x y : Clock). clockBefore (dotsOf x) (dotsOf y)) (c .before .before .clock-at .ensures) (c .before .clock-at2 .ensures)
+    c .clock-before .ensures ∙ ap₂ (λ (x y : Clock). clockBefore (dotsOf x) (dotsOf y))
+    (c .before .before .clock-at .ensures) (c .before .clock-at2 .ensures)
 
 returns : tie.Need-returns Inv-loop μ-loop
 returns c =

@@ -1,11 +1,10 @@
 -- `write_entries` meets its contract: one entry after the other.
-use mathlib.Core.Path.{refl, ap}
-use mathlib.Core.List.{[]}
+use mathlib.Core.Path.{ap}
 use Prim.Native.Nat.{_≤_, _-_}
 use lib.ListN.{drop}
-use Rattle.records.proofs.Writing.{Writing, write-start, write-room, write-on, write-end}
+use Rattle.records.proofs.Writing.{Writing, write-start, write-room, write-on, write-end, write-kept}
 use Rattle.mapimage.specs.MapImage.{flatFrom, entryRecords}
-use Rattle.memory.specs.Memory.{entryAt, entriesAt}
+use Rattle.memory.specs.Memory.{entryHeldAt, entriesAt}
 use Rattle.delivery.proofs.Views.{entries-left, entries-end}
 use borrow.Author.Needs.{needs}
 use native.Mathlib.Omega.{arith}
@@ -29,7 +28,7 @@ write-entry-requires c κs =
     let a = s .before .before .before .args in
     let f = entryRecords (a .kind) in
     let e = ap (flatFrom f (s .loop .j)) (entries-left (a .mem .now) (s .loop .j) (omega arith)) in
-    rw (c .before .entry-at .ensures) (write-room _ _ _ (f (s .loop .j) (entryAt (a .mem .now) (s .loop .j))) _ (s .loop .inv .1) e .0)
+    rw (c .before .entry-at .ensures) (write-room _ _ _ (f (s .loop .j) (entryHeldAt (a .mem .now) (s .loop .j))) _ (s .loop .inv .1) e .0)
 
 loop-again : tie.Need-loop-again Inv-loop μ-loop
 unfolding flatFrom
@@ -38,11 +37,14 @@ loop-again c =
     let s = d .before .before .before .before in
     let a = s .before .before .before .args in
     let f = entryRecords (a .kind) in
-    let e = ap (flatFrom f (s .loop .j)) (entries-left (a .mem .now) (s .loop .j) (omega arith)) in
-    (omega arith, write-on _ _ _ (f (s .loop .j) (entryAt (a .mem .now) (s .loop .j))) (s .loop .inv .1) e (rw (d .before .before .entry-at .ensures) at (d .write-entry .ensures)))
+    let e = ap (flatFrom f (s .loop .j)) (entries-left (a .mem .now) (s .loop .j) (omega arith)) in (
+      omega arith,
+      write-on _ _ _ (f (s .loop .j) (entryHeldAt (a .mem .now) (s .loop .j))) (s .loop .inv .1) e
+          (rw (d .before .before .entry-at .ensures) at (d .write-entry .ensures)),
+    )
 
 same-length : tie.Need-same-length Inv-loop μ-loop
-same-length c = write-room _ _ _ [] _ (c .before .loop .inv .1) refl .1
+same-length c = write-kept _ _ _ (c .before .loop .inv .1)
 
 returns : tie.Need-returns Inv-loop μ-loop
 unfolding flatFrom

@@ -3,8 +3,9 @@ use mathlib.Core.Path.{_≡_, refl, ap, _∙_}
 use mathlib.Core.List.{List, [], _++_}
 use Prim.Native.Nat.{ℕ, _+_}
 use lib.ListN.{length-map}
-use Rattle.lists.proofs.Pads.{take-pad}
-use Rattle.clock.specs.Dots.{dotLimit, noDot, dotsOf}
+use Rattle.listlaws.proofs.Pads.{take-pad}
+use Rattle.limits.specs.Limits.{dotLimit}
+use Rattle.clock.specs.Dots.{noDot, dotsOf}
 use Rattle.records.specs.declared.Record.{Record}
 use Rattle.records.proofs.Writing.{Writing, write-start, write-room, write-on, last-room, write-last}
 use Rattle.clockimage.specs.Image.{dotRecord, dotRecords}
@@ -49,32 +50,40 @@ none c = let w = start c .args .mem .now in write-start (from1 w) 0 _ (omega (ar
 clock-dots : (c : tie.After-write-dots-arg) → dotsOf (c .before .clock-at .result) ≡ dotsAt (start c .args .mem .now) clockPlace
 clock-dots c = ap dotsOf (c .before .clock-at .ensures) ∙ take-pad noDot dotLimit (dotsAt (start c .args .mem .now) clockPlace)
 
-first : (c : tie.After-write-dots) → let a = start (c .before) .args in Writing (from1 (a .mem .now)) (from2 (a .mem .now)) 0 (a .out .now) (c .write-dots .last .0) (c .write-dots .result)
-first c = let w = start (c .before) .args .mem .now in write-on _ _ _ (dots w) (none (c .before)) refl (rw (clock-dots (c .before)) at (c .write-dots .ensures))
+first : (c : tie.After-write-dots) → let a = start (c .before) .args in
+    Writing (from1 (a .mem .now)) (from2 (a .mem .now)) 0 (a .out .now) (c .write-dots .last .0) (c .write-dots .result)
+first c = let w = start (c .before) .args .mem .now in write-on _ _ _ (dots w) (none (c .before)) refl
+    (rw (clock-dots (c .before)) at (c .write-dots .ensures))
 
 abbrev back2 : tie.After-write-entries → tie.After-write-dots
 back2 c = c .before .before .before .before
 
-second : (c : tie.After-write-entries) → let a = start (back2 c .before) .args in Writing (from1 (a .mem .now)) (from3 (a .mem .now)) 0 (a .out .now) (c .write-entries .last .1 .1 .0) (c .write-entries .result)
+second : (c : tie.After-write-entries) → let a = start (back2 c .before) .args in
+    Writing (from1 (a .mem .now)) (from3 (a .mem .now)) 0 (a .out .now) (c .write-entries .last .1 .1 .0) (c .write-entries .result)
 second c = let w = start (back2 c .before) .args .mem .now in write-on _ _ _ (entries 2 w) (first (back2 c)) refl (c .write-entries .ensures)
 
 abbrev back3 : tie.After-write-entries2 → tie.After-write-entries
 back3 c = c .before .before .before .before
 
-third : (c : tie.After-write-entries2) → let a = start (back2 (back3 c) .before) .args in Writing (from1 (a .mem .now)) (from4 (a .mem .now)) 0 (a .out .now) (c .write-entries2 .last .1 .1 .0) (c .write-entries2 .result)
+third : (c : tie.After-write-entries2) → let a = start (back2 (back3 c) .before) .args in
+    Writing (from1 (a .mem .now)) (from4 (a .mem .now)) 0 (a .out .now) (c .write-entries2 .last .1 .1 .0) (c .write-entries2 .result)
 third c = let w = start (back2 (back3 c) .before) .args .mem .now in write-on _ _ _ (entries 3 w) (second (back3 c)) refl (c .write-entries2 .ensures)
 
 abbrev back4 : tie.After-write-entries3 → tie.After-write-entries2
 back4 c = c .before .before .before .before
 
-fourth : (c : tie.After-write-entries3) → let a = start (back2 (back3 (back4 c)) .before) .args in Writing (from1 (a .mem .now)) (from5 (a .mem .now)) 0 (a .out .now) (c .write-entries3 .last .1 .1 .0) (c .write-entries3 .result)
-fourth c = let w = start (back2 (back3 (back4 c)) .before) .args .mem .now in write-on _ _ _ (entries 4 w) (third (back4 c)) refl (c .write-entries3 .ensures)
+fourth : (c : tie.After-write-entries3) → let a = start (back2 (back3 (back4 c)) .before) .args in
+    Writing (from1 (a .mem .now)) (from5 (a .mem .now)) 0 (a .out .now) (c .write-entries3 .last .1 .1 .0) (c .write-entries3 .result)
+fourth c = let w = start (back2 (back3 (back4 c)) .before) .args .mem .now in
+    write-on _ _ _ (entries 4 w) (third (back4 c)) refl (c .write-entries3 .ensures)
 
 abbrev back5 : tie.After-write-waiting → tie.After-write-entries3
 back5 c = c .before .before .before .before
 
-fifth : (c : tie.After-write-waiting) → let a = start (back2 (back3 (back4 (back5 c))) .before) .args in Writing (from1 (a .mem .now)) (waitingKeys (waitingAt (a .mem .now))) 0 (a .out .now) (c .write-waiting .last .1 .0) (c .write-waiting .result)
-fifth c = let w = start (back2 (back3 (back4 (back5 c))) .before) .args .mem .now in write-on _ _ _ (flatFrom waitingDots 0 (waitingAt w)) (fourth (back5 c)) refl (c .write-waiting .ensures)
+fifth : (c : tie.After-write-waiting) → let a = start (back2 (back3 (back4 (back5 c))) .before) .args in
+    Writing (from1 (a .mem .now)) (waitingKeys (waitingAt (a .mem .now))) 0 (a .out .now) (c .write-waiting .last .1 .0) (c .write-waiting .result)
+fifth c = let w = start (back2 (back3 (back4 (back5 c))) .before) .args .mem .now in
+    write-on _ _ _ (flatFrom waitingDots 0 (waitingAt w)) (fourth (back5 c)) refl (c .write-waiting .ensures)
 
 write-dots-requires : tie.Need-write-dots-requires
 write-dots-requires c κs =

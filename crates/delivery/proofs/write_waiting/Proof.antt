@@ -1,11 +1,10 @@
 -- `write_waiting` meets its contract: one clock after the other.
-use mathlib.Core.Path.{refl, ap}
-use mathlib.Core.List.{[]}
+use mathlib.Core.Path.{ap}
 use Prim.Native.Nat.{_≤_, _-_}
 use lib.ListN.{drop, length-map}
 use Rattle.clockimage.specs.Image.{dotRecord}
-use Rattle.records.proofs.Writing.{Writing, write-start, write-room, write-on, write-end}
-use Rattle.parts.specs.Model.{underOf}
+use Rattle.records.proofs.Writing.{Writing, write-start, write-room, write-on, write-end, write-kept}
+use Rattle.removals.specs.Model.{underOf}
 use Rattle.mapimage.specs.MapImage.{flatFrom, waitingDots}
 use Rattle.memory.specs.Memory.{removalAt, waitingAt}
 use Rattle.delivery.proofs.Views.{waiting-left, waiting-end}
@@ -31,7 +30,11 @@ write-dots-requires c κs =
     let w = s .before .before .before .args .mem .now in
     let x = removalAt w (s .loop .k) in
     let e = ap (flatFrom waitingDots (s .loop .k)) (waiting-left w (s .loop .k) (omega arith)) in
-    rw (c .before .clock-at .ensures) (omega (arith, write-room _ _ _ (waitingDots (s .loop .k) x) _ (s .loop .inv .1) e .0, length-map (underOf x) (dotRecord 5 (s .loop .k) 0)))
+    rw (c .before .clock-at .ensures) (omega (
+      arith,
+      write-room _ _ _ (waitingDots (s .loop .k) x) _ (s .loop .inv .1) e .0,
+      length-map (underOf x) (dotRecord 5 (s .loop .k) 0),
+    ))
 
 loop-again : tie.Need-loop-again Inv-loop μ-loop
 unfolding flatFrom
@@ -39,11 +42,14 @@ loop-again c =
     let d = c .before .before in
     let s = d .before .before .before .before in
     let w = s .before .before .before .args .mem .now in
-    let e = ap (flatFrom waitingDots (s .loop .k)) (waiting-left w (s .loop .k) (omega arith)) in
-    (omega arith, write-on _ _ _ (waitingDots (s .loop .k) (removalAt w (s .loop .k))) (s .loop .inv .1) e (rw (d .before .before .clock-at .ensures) at (d .write-dots .ensures)))
+    let e = ap (flatFrom waitingDots (s .loop .k)) (waiting-left w (s .loop .k) (omega arith)) in (
+      omega arith,
+      write-on _ _ _ (waitingDots (s .loop .k) (removalAt w (s .loop .k))) (s .loop .inv .1) e
+          (rw (d .before .before .clock-at .ensures) at (d .write-dots .ensures)),
+    )
 
 same-length : tie.Need-same-length Inv-loop μ-loop
-same-length c = write-room _ _ _ [] _ (c .before .loop .inv .1) refl .1
+same-length c = write-kept _ _ _ (c .before .loop .inv .1)
 
 returns : tie.Need-returns Inv-loop μ-loop
 unfolding flatFrom

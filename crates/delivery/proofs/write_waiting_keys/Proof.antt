@@ -13,7 +13,8 @@ use Rattle.delivery.proofs.write_waiting_keys.Statement.{statement}
 use Rattle.delivery.proofs.write_waiting_keys.Tie as tie
 
 abbrev Inv-loop : tie.InvT-loop
-Inv-loop mem out₀ at next₀ best₀ out next best = (every (λ x. ltb x (2 ^ 40)) (flatFrom keyNumbers 0 (waitingAt mem)) ≡ true) × Selecting (2 ^ 40) (flatFrom keyNumbers 0 (waitingAt mem)) at out₀ out next best
+Inv-loop mem out₀ at next₀ best₀ out next best = (every (λ x. ltb x (2 ^ 40)) (flatFrom keyNumbers 0 (waitingAt mem)) ≡ true)
+    × Selecting (2 ^ 40) (flatFrom keyNumbers 0 (waitingAt mem)) at out₀ out next best
 
 abbrev μ-loop : tie.MeasureT-loop
 μ-loop mem out₀ at next₀ best₀ out next best = 2 ^ 40 - best
@@ -34,10 +35,16 @@ add-least : tie.Need-add-least Inv-loop μ-loop
 add-least c = omega arith
 
 loop-less : tie.Need-loop-less Inv-loop μ-loop
-loop-less c = let s = c .before .before .before .before .before .before in let r = select-on (2 ^ 40) _ _ _ (s .loop .inv .0) (s .loop .inv .1) (c .before .before .before .before .before .loop-test .taken) _ (c .before .before .before .write-record .ensures) (c .least2 .ensures .0) .1 in omega arith
+loop-less c = let s = c .before .before .before .before .before .before in
+    let r = select-on (2 ^ 40) _ _ _ (s .loop .inv .0) (s .loop .inv .1) (c .before .before .before .before .before .loop-test .taken) _
+    (c .before .before .before .write-record .ensures) (c .least2 .ensures .0) .1 in omega arith
 
 loop-again : tie.Need-loop-again Inv-loop μ-loop
-loop-again c = let s = c .before .before .before .before .before .before in (s .loop .inv .0, select-on (2 ^ 40) _ _ _ (s .loop .inv .0) (s .loop .inv .1) (c .before .before .before .before .before .loop-test .taken) _ (c .before .before .before .write-record .ensures) (c .least2 .ensures .0) .0)
+loop-again c = let s = c .before .before .before .before .before .before in (
+  s .loop .inv .0,
+  select-on (2 ^ 40) _ _ _ (s .loop .inv .0) (s .loop .inv .1) (c .before .before .before .before .before .loop-test .taken) _
+      (c .before .before .before .write-record .ensures) (c .least2 .ensures .0) .0,
+)
 
 same-length : tie.Need-same-length Inv-loop μ-loop
 same-length c = let s = c .before in select-kept (2 ^ 40) _ _ _ (s .loop .inv .0) (s .loop .inv .1)

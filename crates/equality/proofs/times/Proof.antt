@@ -3,8 +3,8 @@ use mathlib.Core.Path.{refl, ap, sym, _∙_}
 use mathlib.Core.List.{[]}
 use Prim.Native.Nat.{_≤_, _-_, _+_}
 use lib.ListN.{length}
-use Rattle.lists.proofs.Pads.{length-snoc}
-use Rattle.lists.proofs.Sifting.{Sifting, sifting-start, sifting-keep, sifting-drop, sifting-end}
+use Rattle.listlaws.proofs.Pads.{length-snoc}
+use Rattle.listlaws.proofs.Sifting.{Sifting, sifting-start, sifting-keep, sifting-drop, sifting-end}
 use Rattle.equality.specs.Equality.{samePair, timesIn}
 use Rattle.register.proofs.Packs.{noneRead}
 use borrow.Author.Needs.{needs}

@@ -4,32 +4,27 @@ use mathlib.Core.Bool.{Bool, true, false, _||_}
 use mathlib.Core.Logic.{_⊎_, ⊎-elim, inl, inr}
 use Prim.Native.Nat.{ℕ, _≤_, _<_, _-_, _+_}
 use lib.Dec.{ltb}
-use borrow.Author.Tests.{ltb-true, ltb-false}
-use Rattle.lists.proofs.Orders.{apart}
-use Rattle.lists.proofs.Sifting.{sifting-start}
+use borrow.Author.Tests.{ltb-true}
+use Rattle.listlaws.proofs.Sifting.{sifting-start}
+use Rattle.listlaws.proofs.Weaving.{both-past}
 use Rattle.clock.specs.declared.Clock.{Clock}
-use Rattle.clock.specs.Dots.{dotLimit, dotsOf}
+use Rattle.limits.specs.Limits.{dotLimit}
+use Rattle.clock.specs.Dots.{dotsOf}
 use Rattle.keeping.proofs.Meets.{Meets, meets}
-use Rattle.keeping.proofs.Walked.{Walked, Keeps, Deletes, Step, walked-start, walked-step, walked-end, keeps-room, keeps-on, keeps-off, keeps-end, deletes-room, deletes-on, deletes-off, deletes-end}
+use Rattle.keeping.proofs.Walked.{Walked, Keeps, Deletes, Step, walked-start, walked-step, walked-end, keeps-room, keeps-on, keeps-off}
+use Rattle.keeping.proofs.Walked.{keeps-end, deletes-room, deletes-on, deletes-off, deletes-end}
 use borrow.Author.Needs.{needs}
 use native.Mathlib.Omega.{arith}
 use Rattle.keeping.proofs.keeps.Statement.{statement}
 use Rattle.keeping.proofs.keeps.Tie as tie
 
--- one of two is left, or neither
+-- one of two is left
 one-left : (i n j m : ℕ) → (ltb i n || ltb j m) ≡ true → (i < n) ⊎ (j < m)
 one-left i n j m t = go (ltb i n) refl t
   where
     go : (b : Bool) → ltb i n ≡ b → (b || ltb j m) ≡ true → (i < n) ⊎ (j < m)
     go true e u = inl (ltb-true i n e)
     go false e u = inr (ltb-true j m u)
-
-none-left : (i n j m : ℕ) → (ltb i n || ltb j m) ≡ false → (n ≤ i) × (m ≤ j)
-none-left i n j m t = go (ltb i n) refl t
-  where
-    go : (b : Bool) → ltb i n ≡ b → (b || ltb j m) ≡ false → (n ≤ i) × (m ≤ j)
-    go true e u = apart u
-    go false e u = (ltb-false i n e, ltb-false j m u)
 
 -- how far the walk has come
 record Passed (x y mine yours : Clock) (i j p q : ℕ) (keep gone : Clock) : Type 0 where
@@ -169,7 +164,7 @@ returns c =
     let a = s .before .before .before .before .before .before .before .args in
     let p = s .before .before .before .before .before .before .before .pre in
     let g = s .loop .inv .2 in
-    let o = none-left (s .loop .i) (s .before .before .before .before .before .before .size .result) (s .loop .j)
+    let o = both-past (s .loop .i) (s .before .before .before .before .before .before .size .result) (s .loop .j)
     (s .before .before .before .before .before .size2 .result) (c .loop-test .left) in
     let n = walked-end (a .x) (a .y) (a .mine) (a .yours) (g .walked)
     (omega (arith, o .0, s .before .before .before .before .before .before .size .ensures))

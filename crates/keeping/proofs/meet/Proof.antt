@@ -2,7 +2,7 @@
 use mathlib.Core.Path.{sym, _∙_}
 use borrow.Author.Tests.{lt-ltb, le-ltb}
 use Rattle.clock.specs.Dots.{noDot, dotsOf}
-use Rattle.lists.proofs.Rests.{drop-step, drop-end}
+use Rattle.listlaws.proofs.Rests.{drop-step, drop-end}
 use Rattle.keeping.specs.Keeping.{meeting}
 use borrow.Author.Needs.{needs}
 use native.Mathlib.Omega.{arith}

@@ -5,7 +5,8 @@ use Rattle.keyed.proofs.spans_of.Statement.{statement}
 use Rattle.keyed.proofs.spans_of.Tie as tie
 
 returns : tie.Need-returns
-returns c = entry-lies (c .before .before .before .before .pre) _ (c .before .before .key-span .ensures) (c .before .key-span2 .ensures) (c .key-span3 .ensures)
+returns c = entry-lies (c .before .before .before .before .pre) _ (c .before .before .key-span .ensures) (c .before .key-span2 .ensures)
+    (c .key-span3 .ensures)
 
 pub spans-of-spec : {M : Type 1} → statement M
 spans-of-spec =

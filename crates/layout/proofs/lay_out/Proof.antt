@@ -17,9 +17,11 @@ returns c =
 
 returns-2 : tie.Need-returns-2
 returns-2 c =
-    let good = length-good (c .before .before .before .before .before .before .before .before .args .s .now) _ (c .before .before .before .before .before .before .length-number .ensures) (c .before .before .before .before .before .if1 .left) in
+    let good = length-good (c .before .before .before .before .before .before .before .before .args .s .now) _
+    (c .before .before .before .before .before .before .length-number .ensures) (c .before .before .before .before .before .if1 .left) in
     let p = c .before .before .before .before .sections .ensures in
-    refuses _ _ p good (run-refused _ _ p good _ (c .before .before .before .run-end .ensures .0) (c .before .before .if2 .taken)) _ _ (c .refused2 .ensures) (c .before .slow-number .ensures)
+    refuses _ _ p good (run-refused _ _ p good _ (c .before .before .before .run-end .ensures .0) (c .before .before .if2 .taken)) _ _
+    (c .refused2 .ensures) (c .before .slow-number .ensures)
 
 clock-of-requires : tie.Need-clock-of-requires
 clock-of-requires c κs =
@@ -28,10 +30,15 @@ clock-of-requires c κs =
 
 returns-3 : tie.Need-returns-3
 returns-3 c =
-    let good = length-good (c .before .before .before .before .before .before .before .before .before .before .before .before .before .args .s .now) _ (c .before .before .before .before .before .before .before .before .before .before .before .length-number .ensures) (c .before .before .before .before .before .before .before .before .before .before .if1 .left) in
+    let good = length-good (c .before .before .before .before .before .before .before .before .before .before .before .before .before .args .s .now) _
+    (c .before .before .before .before .before .before .before .before .before .before .before .length-number .ensures)
+    (c .before .before .before .before .before .before .before .before .before .before .if1 .left) in
     let p = c .before .before .before .before .before .before .before .before .before .sections .ensures in
     refuses _ _ p good
-    (counts-refused _ _ p good _ (c .before .before .before .before .before .before .before .before .run-end .ensures .0) _ _ _ (c .before .before .before .before .before .clock-of .ensures ∙ clock-between _ 0 _ (omega arith) (omega arith)) (c .before .before .before .before .before .before .before .if2 .left) (c .before .before .before .before .count-entries .ensures) (c .before .before .before .count-waiting .ensures) (c .before .before .if3 .taken))
+    (counts-refused _ _ p good _ (c .before .before .before .before .before .before .before .before .run-end .ensures .0) _ _ _
+    (c .before .before .before .before .before .clock-of .ensures ∙ clock-between _ 0 _ (omega arith) (omega arith))
+    (c .before .before .before .before .before .before .before .if2 .left) (c .before .before .before .before .count-entries .ensures)
+    (c .before .before .before .count-waiting .ensures) (c .before .before .if3 .taken))
     _ _ (c .refused3 .ensures) (c .before .slow-number2 .ensures)
 
 keys-good-requires : tie.Need-keys-good-requires
@@ -41,17 +48,30 @@ keys-good-requires c κs =
 
 returns-4 : tie.Need-returns-4
 returns-4 c =
-    let good = length-good (c .before .before .before .before .before .before .before .before .before .before .before .before .before .before .before .args .s .now) _ (c .before .before .before .before .before .before .before .before .before .before .before .before .before .length-number .ensures) (c .before .before .before .before .before .before .before .before .before .before .before .before .if1 .left) in
+    let good = length-good (c .before .before .before .before .before .before .before .before .before .before .before .before .before .before .before
+    .args .s .now) _ (c .before .before .before .before .before .before .before .before .before .before .before .before .before .length-number
+    .ensures) (c .before .before .before .before .before .before .before .before .before .before .before .before .if1 .left) in
     let p = c .before .before .before .before .before .before .before .before .before .before .before .sections .ensures in
     refuses _ _ p good
-    (all-told _ _ p good _ (c .before .before .before .before .before .before .before .before .before .before .run-end .ensures .0) _ _ _ (c .before .before .before .before .before .before .before .clock-of .ensures ∙ clock-between _ 0 _ (omega arith) (omega arith)) (c .before .before .before .before .before .before .before .before .before .if2 .left) (c .before .before .before .before .before .before .count-entries .ensures) (c .before .before .before .before .before .count-waiting .ensures) (c .before .before .before .before .if3 .left) _ (c .before .before .before .keys-good .ensures) ∙ not-true _ (c .before .before .if4 .taken))
+    (all-told _ _ p good _ (c .before .before .before .before .before .before .before .before .before .before .run-end .ensures .0) _ _ _
+    (c .before .before .before .before .before .before .before .clock-of .ensures ∙ clock-between _ 0 _ (omega arith) (omega arith))
+    (c .before .before .before .before .before .before .before .before .before .if2 .left)
+    (c .before .before .before .before .before .before .count-entries .ensures)
+    (c .before .before .before .before .before .count-waiting .ensures) (c .before .before .before .before .if3 .left) _
+    (c .before .before .before .keys-good .ensures) ∙ not-true _ (c .before .before .if4 .taken))
     _ _ (c .refused4 .ensures) (c .before .slow-number3 .ensures)
 
 returns-5 : tie.Need-returns-5
 returns-5 c =
-    let good = length-good (c .before .before .before .before .before .before .before .before .before .before .before .before .before .args .s .now) _ (c .before .before .before .before .before .before .before .before .before .before .before .length-number .ensures) (c .before .before .before .before .before .before .before .before .before .before .if1 .left) in
+    let good = length-good (c .before .before .before .before .before .before .before .before .before .before .before .before .before .args .s .now) _
+    (c .before .before .before .before .before .before .before .before .before .before .before .length-number .ensures)
+    (c .before .before .before .before .before .before .before .before .before .before .if1 .left) in
     let p = c .before .before .before .before .before .before .before .before .before .sections .ensures in
-    let a = accepts _ _ p good _ (c .before .before .before .before .before .before .before .before .run-end .ensures .0) _ _ _ (c .before .before .before .before .before .clock-of .ensures ∙ clock-between _ 0 _ (omega arith) (omega arith)) (c .before .before .before .before .before .before .before .if2 .left) (c .before .before .before .before .count-entries .ensures) (c .before .before .before .count-waiting .ensures) (c .before .before .if3 .left) _ (c .before .keys-good .ensures) (not-false _ (c .if4 .left)) in
+    let a = accepts _ _ p good _ (c .before .before .before .before .before .before .before .before .run-end .ensures .0) _ _ _
+    (c .before .before .before .before .before .clock-of .ensures ∙ clock-between _ 0 _ (omega arith) (omega arith))
+    (c .before .before .before .before .before .before .before .if2 .left) (c .before .before .before .before .count-entries .ensures)
+    (c .before .before .before .count-waiting .ensures) (c .before .before .if3 .left) _ (c .before .keys-good .ensures)
+    (not-false _ (c .if4 .left)) in
     (a .0, λ z. a .1)
 
 pub lay-out-spec : {M : Type 1} → statement M

@@ -2,7 +2,8 @@
 use mathlib.Core.Path.{ap, sym, _∙_}
 use native.Mathlib.Omega.{arith}
 use borrow.Author.Needs.{needs}
-use Rattle.clock.specs.Dots.{dotLimit, dotsOf, cutDots}
+use Rattle.limits.specs.Limits.{dotLimit}
+use Rattle.clock.specs.Dots.{dotsOf, cutDots}
 use Rattle.runs.specs.Run.{runDots}
 use Rattle.queued.specs.Queue.{cutsFor}
 use Rattle.marks.proofs.Picks.{picked-all}
@@ -26,7 +27,9 @@ returns-2 c =
     let p = z .pre .0 .0 in
     λ v w key q r m n.
     c .cut-listed-marks2 .ensures w key r n
-    ∙ ap (cutsFor w key) (c .before .cut-listed-marks .ensures v key q m ∙ ap (cutsFor v key) (c .before .before .cut-marks .ensures ∙ ap (cutDots (dotsOf (z .args .gone))) (picked-all (runDots (z .args .run .now)) dotLimit (omega (arith, length-run (z .args .run .now), p)))))
+    ∙ ap (cutsFor w key) (c .before .cut-listed-marks .ensures v key q m
+    ∙ ap (cutsFor v key) (c .before .before .cut-marks .ensures ∙ ap (cutDots (dotsOf (z .args .gone)))
+    (picked-all (runDots (z .args .run .now)) dotLimit (omega (arith, length-run (z .args .run .now), p)))))
 
 pub marks-left-spec : {M : Type 1} → statement M
 marks-left-spec = tie.close (tie.spec returns (λ c κs. search needs) (λ c κs. search needs) (λ c κs. search needs) returns-2)

@@ -4,7 +4,7 @@ use native.Mathlib.Omega.{arith}
 use borrow.Author.Needs.{needs}
 use Rattle.clock.specs.Dots.{clockOf, cutDots}
 use Rattle.queued.specs.Queue.{cutsFor}
-use Rattle.leaving.proofs.Lying.{value-run, value-short, value-lawful, value-content, value-stands}
+use Rattle.entrywalk.proofs.Lying.{value-says, value-content, value-stands}
 use Rattle.leaving.proofs.source_of.Statement.{statement}
 use Rattle.leaving.proofs.source_of.Tie as tie
 
@@ -51,7 +51,8 @@ part-marks-left-end c =
 marks-left-requires : tie.Need-marks-left-requires
 marks-left-requires c κs =
     let p = c .before .before .before .before .before .pre in
-    ((value-short (p .0 .1) _ (p .0 .2), (p .1 .0 .0, (value-lawful (p .0 .1) _ (p .0 .2), p .1 .0 .1 .0))), p .1 .1)
+    let h = value-says (p .0 .1) _ (p .0 .2) in
+    ((h .short, (p .1 .0 .0, (h .lawful, p .1 .0 .1 .0))), p .1 .1)
 
 add-place : tie.Need-add-place
 add-place c =
@@ -96,7 +97,8 @@ returns c =
           let g = value-stands h _ low in
           let a = g .place in
           let b = g .inside in
-          let dots = c .before .before .marks-left .ensures u w (e .key) q r m n ∙ ap (cutsFor w (e .key)) (ap (cutsFor u (e .key)) (ap (cutDots _) (value-run h _ low))) in (
+          let dots = c .before .before .marks-left .ensures u w (e .key) q r m n
+          ∙ ap (cutsFor w (e .key)) (ap (cutsFor u (e .key)) (ap (cutDots _) (value-says h _ low .dots))) in (
             record { order = g .order; few = g .few; run = g .run; value = omega arith },
             λ i. record { clock = clockOf (dots i); value = value-content h _ low i },
           ),

@@ -2,7 +2,7 @@
 use mathlib.Core.Path.{sym, _∙_}
 use borrow.Author.Needs.{needs}
 use borrow.Author.Tests.{not-true}
-use Rattle.lists.proofs.Orders.{apart}
+use Rattle.listlaws.proofs.Orders.{apart}
 use Rattle.clock.proofs.Empties.{empty-means}
 use Rattle.leaving.proofs.stay_whole.Statement.{statement}
 use Rattle.leaving.proofs.stay_whole.Tie as tie

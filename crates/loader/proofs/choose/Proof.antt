@@ -8,30 +8,30 @@ use native.Mathlib.Numerals.{add-one}
 use lib.ListN.{length, take, getD}
 use lib.Seq.{take-suc, take-all}
 use borrow.Author.Tests.{not-true, not-false}
-use Rattle.lists.specs.First.{firstIn}
-use Rattle.lists.specs.Sift.{sift, those}
+use Rattle.listlaws.specs.First.{firstIn}
+use Rattle.listlaws.specs.Sift.{sift, those}
 use Rattle.scan.proofs.Rooms.{those-yes, those-no}
 use Rattle.register.specs.declared.Value.{Value}
-use Rattle.register.specs.Values.{valueLimit, noValue}
+use Rattle.limits.specs.Limits.{valueLimit}
+use Rattle.register.specs.Values.{noValue}
 use Rattle.mapimage.specs.MapImage.{flatFrom, valueRecords}
-use Rattle.keyed.specs.Keyed.{Holds, Registered}
+use Rattle.keyed.specs.Keyed.{RecordsLie, Registered}
 use Rattle.comparing.specs.Registers.{RunsOf}
-use Rattle.sketch.proofs.Starts.{runs-compared}
-use Rattle.sketch.proofs.Lying.{many-there}
-use Rattle.loader.specs.declared.Report.{Report}
-use Rattle.loader.specs.Choice.{below, remaining, smallest, differ, reportOn, reportOf}
+use Rattle.entrywalk.proofs.Starts.{runs-compared}
+use Rattle.entrywalk.proofs.Lying.{many-there}
+use Rattle.loader.specs.Choice.{isBelow, undropped, smallest, differ, reportOn, reportOf}
 use borrow.Author.Needs.{needs}
 use Rattle.loader.proofs.choose.Statement.{statement}
 use Rattle.loader.proofs.choose.Tie as tie
 
 -- what is left of the first i values
 abbrev left : List Value → ℕ → List Value
-left l i = those (λ v. not (below l v)) (take i l)
+left l i = those (λ v. not (isBelow l v)) (take i l)
 
 abbrev Inv-loop : tie.InvT-loop
 Inv-loop map values n starts r₀ i₀ r i =
     ((i ≤ n) × ((r .count ≤ i) × (n ≤ valueLimit)))
-    × ((key : ℕ) (l : List Value) → Holds map (flatFrom (valueRecords 3 key) 0 l) values → RunsOf map starts n l → r ≡ reportOn (left l i))
+    × ((key : ℕ) (l : List Value) → RecordsLie map (flatFrom (valueRecords 3 key) 0 l) values → RunsOf map starts n l → r ≡ reportOn (left l i))
 
 abbrev μ-loop : tie.MeasureT-loop
 μ-loop map values n starts r₀ i₀ r i = n - i
@@ -71,11 +71,11 @@ module _ (l : List Value) (i : ℕ) (h : i < length l) where
   taken : take (i + 1) l ≡ take i l ++ (getD l i noValue ∷ [])
   taken = rw (add-one i) (take-suc l i noValue h)
 
-  stays : below l (getD l i noValue) ≡ false → left l (i + 1) ≡ left l i ++ (getD l i noValue ∷ [])
-  stays t = ap (those (λ v. not (below l v))) taken ∙ those-yes (λ v. not (below l v)) (take i l) (getD l i noValue) (ap not t)
+  stays : isBelow l (getD l i noValue) ≡ false → left l (i + 1) ≡ left l i ++ (getD l i noValue ∷ [])
+  stays t = ap (those (λ v. not (isBelow l v))) taken ∙ those-yes (λ v. not (isBelow l v)) (take i l) (getD l i noValue) (ap not t)
 
-  goes : below l (getD l i noValue) ≡ true → left l (i + 1) ≡ left l i
-  goes t = ap (those (λ v. not (below l v))) taken ∙ those-no (λ v. not (below l v)) (take i l) (getD l i noValue) (ap not t)
+  goes : isBelow l (getD l i noValue) ≡ true → left l (i + 1) ≡ left l i
+  goes t = ap (those (λ v. not (isBelow l v))) taken ∙ those-no (λ v. not (isBelow l v)) (take i l) (getD l i noValue) (ap not t)
 
 loop-again : tie.Need-loop-again Inv-loop μ-loop
 loop-again c =
@@ -83,8 +83,10 @@ loop-again c =
       (omega arith, (omega (arith, c .with-value .ensures .0), omega arith)),
       λ key l h r.
           let k : s .loop .i < length l = omega (arith, r .count) in
-          c .with-value .ensures .1 (left l (s .loop .i)) (getD l (s .loop .i) noValue) (s .loop .inv .1 key l h r) (c .before .number-at .ensures key l h k)
-          ∙ ap reportOn (sym (stays l (s .loop .i) k (sym (c .before .before .before .is-below .ensures l r) ∙ not-true _ (c .before .before .if1 .taken)))),
+          c .with-value .ensures .1 (left l (s .loop .i)) (getD l (s .loop .i) noValue) (s .loop .inv .1 key l h r)
+          (c .before .number-at .ensures key l h k)
+          ∙ ap reportOn (sym (stays l (s .loop .i) k (sym (c .before .before .before .is-below .ensures l r)
+          ∙ not-true _ (c .before .before .if1 .taken)))),
     )
 
 loop-again-2 : tie.Need-loop-again-2 Inv-loop μ-loop
@@ -97,11 +99,12 @@ loop-again-2 c =
     )
 
 returns : tie.Need-returns Inv-loop μ-loop
-unfolding reportOf remaining
+unfolding reportOf undropped
 returns c = λ l h.
     let s = c .before in
     let n = many-there (h .key) l (h .third) in
-    s .loop .inv .1 (h .key) l (h .third) (compared s l h) ∙ ap (λ k. reportOn (those (λ v. not (below l v)) k)) (take-all (s .loop .i) l (omega arith))
+    s .loop .inv .1 (h .key) l (h .third) (compared s l h) ∙ ap (λ k. reportOn (those (λ v. not (isBelow l v)) k))
+    (take-all (s .loop .i) l (omega arith))
 
 pub choose-spec : {M : Type 1} → statement M
 choose-spec =

@@ -6,16 +6,16 @@ use Prim.Native.Nat.{ℕ, _+_, _*_, _-_, _≤_, _<_}
 use native.Mathlib.Omega.{arith}
 use lib.ListN.{length, take, drop, getD}
 use lib.Seq.{take-length}
-use borrow.Author.Tests.{not-true}
-use Rattle.lists.proofs.Passing.{Passing, passing-start, passing-here, passing-on, passing-end}
+use Rattle.listlaws.proofs.Passing.{Passing, passing-start, passing-here, passing-on, passing-end}
 use Rattle.clock.specs.declared.Order.{Order}
-use Rattle.clock.specs.Dots.{dotsOf, orderOf}
+use Rattle.clock.specs.Dots.{orderOf}
 use Rattle.register.specs.declared.Value.{Value}
-use Rattle.register.specs.Values.{valueLimit, noValue, yielding, yields}
+use Rattle.limits.specs.Limits.{valueLimit}
+use Rattle.register.specs.Values.{noValue, yielding, yields}
 use Rattle.runs.specs.Run.{runDots}
 use Rattle.comparing.specs.Registers.{RunOf, RunsOf}
 use Rattle.comparing.proofs.Cut.{run-dots}
-use Rattle.loader.specs.Choice.{below}
+use Rattle.loader.specs.Choice.{isBelow}
 use borrow.Author.Needs.{needs}
 use Rattle.loader.proofs.is_below.Statement.{statement}
 use Rattle.loader.proofs.is_below.Tie as tie
@@ -37,12 +37,14 @@ loop-holds c = (search needs, λ l r. passing-start)
 
 -- the two runs that are compared
 ours : (c : tie.In-loop Inv-loop μ-loop) → let a = c .before .before .before in
-    (a .args .k < valueLimit) × RunOf (a .args .map .now) (getD (a .args .t2) (a .args .k) 0) (getD (a .args .t2) (a .args .k + 1) 0) (getD (a .pre .1 .0) (a .args .k) noValue)
+    (a .args .k < valueLimit) × RunOf (a .args .map .now) (getD (a .args .t2) (a .args .k) 0) (getD (a .args .t2) (a .args .k + 1) 0)
+    (getD (a .pre .1 .0) (a .args .k) noValue)
 ours c = let a = c .before .before .before in placed (a .pre .1 .1) (a .args .k) (a .pre .0)
 
 theirs : (c : tie.In-loop Inv-loop μ-loop) → let s = c .before in
     let a = s .before .before in
-    (s .loop .j < valueLimit) × RunOf (a .args .map .now) (getD (a .args .t2) (s .loop .j) 0) (getD (a .args .t2) (s .loop .j + 1) 0) (getD (a .pre .1 .0) (s .loop .j) noValue)
+    (s .loop .j < valueLimit) × RunOf (a .args .map .now) (getD (a .args .t2) (s .loop .j) 0) (getD (a .args .t2) (s .loop .j + 1) 0)
+    (getD (a .pre .1 .0) (s .loop .j) noValue)
 theirs c = let s = c .before in placed (s .before .before .pre .1 .1) (s .loop .j) (omega arith)
 
 compare-runs-requires : tie.Need-compare-runs-requires Inv-loop μ-loop
@@ -70,7 +72,7 @@ module _ (c : tie.After-is-less Inv-loop μ-loop) where
   met l r = told (r .each _ (at .before .before .pre .0)) (r .each _ (omega arith)) (c .before .compare-runs .ensures) (c .is-less .ensures)
 
 returns : tie.Need-returns Inv-loop μ-loop
-unfolding below
+unfolding isBelow
 returns c = λ l r.
     let k = c .before in
     let s = at k in
@@ -86,7 +88,7 @@ loop-again c = (
 )
 
 returns-2 : tie.Need-returns-2 Inv-loop μ-loop
-unfolding below
+unfolding isBelow
 returns-2 c = λ l r. rw (take-length l) at (passing-end (c .before .loop .inv .1 l r) (rw (take-length l) (omega (arith, r .count))))
 
 pub is-below-spec : {M : Type 1} → statement M

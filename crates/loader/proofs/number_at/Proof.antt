@@ -1,9 +1,8 @@
 -- `number_at` meets its contract: a value's record says its number.
 use mathlib.Core.Path.{ap, _∙_}
 use native.Mathlib.Omega.{arith}
-use borrow.Author.Needs.{needs}
 use Rattle.records.specs.Records.{recordFrom}
-use Rattle.sketch.proofs.Lying.{content-there, inside-there}
+use Rattle.entrywalk.proofs.Lying.{content-there, inside-there}
 use Rattle.loader.proofs.number_at.Statement.{statement}
 use Rattle.loader.proofs.number_at.Tie as tie
 

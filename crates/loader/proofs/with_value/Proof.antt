@@ -14,7 +14,11 @@ returns-2 : tie.Need-returns-2
 returns-2 c = (refl, λ l v e f. lower-more l v e f (not-false _ (c .before .before .if1 .left)) (c .if2 .taken))
 
 returns-3 : tie.Need-returns-3
-returns-3 c = (refl, λ l v e f. upper-more l v e f (not-false _ (c .before .before .before .before .if1 .left)) (omega (arith, c .before .before .if2 .left)))
+returns-3 c = (
+  refl,
+  λ l v e f. upper-more l v e f (not-false _ (c .before .before .before .before .if1 .left))
+      (omega (arith, c .before .before .if2 .left)),
+)
 
 pub with-value-spec : {M : Type 1} → statement M
 with-value-spec =

@@ -25,8 +25,11 @@ write-report-requires c κs =
 
 loop-again : tie.Need-loop-again Inv-loop μ-loop
 loop-again c =
-    let s = c .before .before .before .before .before .before in
-    (omega arith, report-on (s .loop .inv .1) (omega (arith, s .before .before .before .pre .1)) (c .before .before .before .report-at .ensures) (c .before .before .write-report .ensures))
+    let s = c .before .before .before .before .before .before in (
+      omega arith,
+      report-on (s .loop .inv .1) (omega (arith, s .before .before .before .pre .1)) (c .before .before .before .report-at .ensures)
+          (c .before .before .write-report .ensures),
+    )
 
 same-length : tie.Need-same-length Inv-loop μ-loop
 same-length c =

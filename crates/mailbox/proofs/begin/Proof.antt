@@ -24,7 +24,8 @@ put8-requires c κs = search needs
 loop-holds : tie.Need-loop-holds Inv-loop μ-loop
 unfolding zeros
 loop-holds c = let m = c .before .before .args .mem .now in
-    let kept : length (c .put8 .last .0) ≡ readerRoom = ap length (c .put8 .ensures) ∙ length-placed 0 (1 ∷ []) m (omega arith) ∙ c .before .put8-arg .given .0 .1 in
+    let kept : length (c .put8 .last .0) ≡ readerRoom = ap length (c .put8 .ensures) ∙ length-placed 0 (1 ∷ []) m (omega arith)
+    ∙ c .before .put8-arg .given .0 .1 in
     (omega arith, (kept, sym (placed-none lengthPlace (c .put8 .last .0) (omega arith))))
 
 add-clear : tie.Need-add-clear Inv-loop μ-loop

@@ -5,8 +5,8 @@ use borrow.Author.Tests.{eq-eqb, ne-eqb}
 use native.Mathlib.Omega.{arith}
 use lib.ListN.{length, getD}
 use lib.Seq.{take-length}
-use Rattle.lists.specs.Fold.{fold}
-use Rattle.lists.proofs.Folding.{Folding, folding-start, folding-on, folding-end}
+use Rattle.listlaws.specs.Fold.{fold}
+use Rattle.listlaws.proofs.Folding.{Folding, folding-start, folding-on, folding-end}
 use Rattle.mailbox.specs.Machine.{byteIn, pieceIn}
 use borrow.Author.Needs.{needs}
 use Rattle.mailbox.proofs.take.Statement.{statement}
@@ -44,15 +44,21 @@ loop-less c = omega arith
 
 loop-again : tie.Need-loop-again Inv-loop μ-loop
 loop-again c = let s = c .before .before .before .before in
-    let piece = c .before .before .before .before .before .before .before .before .args .piece .now in
-    (omega arith, folding-on 0 (s .loop .inv .1) (omega (arith, ap length (take-length piece))) (λ w e. c .take-byte .ensures ∙ ap (λ m. byteIn m (getD piece (s .loop .i) 0)) e))
+    let piece = c .before .before .before .before .before .before .before .before .args .piece .now in (
+      omega arith,
+      folding-on 0 (s .loop .inv .1) (omega (arith, ap length (take-length piece)))
+          (λ w e. c .take-byte .ensures ∙ ap (λ m. byteIn m (getD piece (s .loop .i) 0)) e),
+    )
 
 returns-2 : tie.Need-returns-2 Inv-loop μ-loop
 unfolding pieceIn
 returns-2 c = let s = c .before in
     let piece = c .before .before .before .before .before .args .piece .now in
-    rw (eq-eqb _ 1 (s .before .if1 .left))
-    (refl, folding-end (s .loop .inv .1) (omega (arith, ap length (take-length piece))) ∙ ap (fold byteIn (c .before .before .before .before .before .args .mem .now)) (take-length piece))
+    rw (eq-eqb _ 1 (s .before .if1 .left)) (
+      refl,
+      folding-end (s .loop .inv .1) (omega (arith, ap length (take-length piece)))
+          ∙ ap (fold byteIn (c .before .before .before .before .before .args .mem .now)) (take-length piece),
+    )
 
 pub take-spec : {M : Type 1} → statement M
 take-spec =

@@ -7,11 +7,25 @@ use Rattle.mailbox.proofs.take_byte.Tie as tie
 
 returns : tie.Need-returns
 unfolding byteIn
-returns c = rw (← c .before .before .before .before .before .before .before .before .before .before .before .read32 .ensures, lt-leb _ _ (c .before .before .before .before .before .before .before .before .before .before .if1 .taken), eq-eqb _ _ (c .before .before .before .before .before .if2 .taken), c .take-record .ensures, c .before .before .read-record .ensures, c .before .before .before .before .before .before .put32 .ensures, c .before .before .before .before .before .before .before .before .put8 .ensures)
+returns c = rw (
+  ← c .before .before .before .before .before .before .before .before .before .before .before .read32 .ensures,
+  lt-leb _ _ (c .before .before .before .before .before .before .before .before .before .before .if1 .taken),
+  eq-eqb _ _ (c .before .before .before .before .before .if2 .taken),
+  c .take-record .ensures,
+  c .before .before .read-record .ensures,
+  c .before .before .before .before .before .before .put32 .ensures,
+  c .before .before .before .before .before .before .before .before .put8 .ensures,
+)
 
 returns-2 : tie.Need-returns-2
 unfolding byteIn
-returns-2 c = rw (← c .before .before .before .before .before .before .read32 .ensures, lt-leb _ _ (c .before .before .before .before .before .if1 .taken), ne-eqb _ _ (c .if2 .left), c .before .put32 .ensures, c .before .before .before .put8 .ensures)
+returns-2 c = rw (
+  ← c .before .before .before .before .before .before .read32 .ensures,
+  lt-leb _ _ (c .before .before .before .before .before .if1 .taken),
+  ne-eqb _ _ (c .if2 .left),
+  c .before .put32 .ensures,
+  c .before .before .before .put8 .ensures,
+)
 
 returns-3 : tie.Need-returns-3
 unfolding byteIn

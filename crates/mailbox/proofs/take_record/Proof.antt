@@ -8,20 +8,56 @@ use Rattle.mailbox.proofs.take_record.Tie as tie
 returns : tie.Need-returns
 unfolding recordIn
 returns c = let at = c .before .before .before .before .before in
-    let s = rw (at .before .before .before .before .before .before .scan-of .ensures, c .before .before .before .before .before .before .before .before .before .before .before .before .before .before .before .wide .ensures) at (at .before .before .before .before .before .next .ensures) in
-    rw (← s, eq-eqb _ _ (c .before .before .before .if1 .taken), eq-eqb _ _ (c .before .before .if2 .taken), c .put-record .ensures, at .put-scan .ensures, at .before .before .put8 .ensures, at .before .before .before .under .ensures, c .before .before .before .before .before .before .before .before .before .before .before .before .before .before .before .wide .ensures)
+    let s = rw (
+      at .before .before .before .before .before .before .scan-of .ensures,
+      c .before .before .before .before .before .before .before .before .before .before .before .before .before .before .before .wide .ensures,
+    ) at
+    (at .before .before .before .before .before .next .ensures) in
+    rw (
+      ← s,
+      eq-eqb _ _ (c .before .before .before .if1 .taken),
+      eq-eqb _ _ (c .before .before .if2 .taken),
+      c .put-record .ensures,
+      at .put-scan .ensures,
+      at .before .before .put8 .ensures,
+      at .before .before .before .under .ensures,
+      c .before .before .before .before .before .before .before .before .before .before .before .before .before .before .before .wide .ensures,
+    )
 
 returns-2 : tie.Need-returns-2
 unfolding recordIn
 returns-2 c = let at = c .before .before .before in
-    let s = rw (at .before .before .before .before .before .before .scan-of .ensures, c .before .before .before .before .before .before .before .before .before .before .before .before .before .wide .ensures) at (at .before .before .before .before .before .next .ensures) in
-    rw (← s, eq-eqb _ _ (c .before .if1 .taken), ne-eqb _ _ (c .if2 .left), at .put-scan .ensures, at .before .before .put8 .ensures, at .before .before .before .under .ensures, c .before .before .before .before .before .before .before .before .before .before .before .before .before .wide .ensures)
+    let s = rw (
+      at .before .before .before .before .before .before .scan-of .ensures,
+      c .before .before .before .before .before .before .before .before .before .before .before .before .before .wide .ensures,
+    ) at
+    (at .before .before .before .before .before .next .ensures) in
+    rw (
+      ← s,
+      eq-eqb _ _ (c .before .if1 .taken),
+      ne-eqb _ _ (c .if2 .left),
+      at .put-scan .ensures,
+      at .before .before .put8 .ensures,
+      at .before .before .before .under .ensures,
+      c .before .before .before .before .before .before .before .before .before .before .before .before .before .wide .ensures,
+    )
 
 returns-3 : tie.Need-returns-3
 unfolding recordIn
 returns-3 c = let at = c .before .before in
-    let s = rw (at .before .before .before .before .before .before .scan-of .ensures, c .before .before .before .before .before .before .before .before .before .before .before .before .wide .ensures) at (at .before .before .before .before .before .next .ensures) in
-    rw (← s, ne-eqb _ _ (c .if1 .left), at .put-scan .ensures, at .before .before .put8 .ensures, at .before .before .before .under .ensures, c .before .before .before .before .before .before .before .before .before .before .before .before .wide .ensures)
+    let s = rw (
+      at .before .before .before .before .before .before .scan-of .ensures,
+      c .before .before .before .before .before .before .before .before .before .before .before .before .wide .ensures,
+    ) at
+    (at .before .before .before .before .before .next .ensures) in
+    rw (
+      ← s,
+      ne-eqb _ _ (c .if1 .left),
+      at .put-scan .ensures,
+      at .before .before .put8 .ensures,
+      at .before .before .before .under .ensures,
+      c .before .before .before .before .before .before .before .before .before .before .before .before .wide .ensures,
+    )
 
 pub take-record-spec : {M : Type 1} → statement M
 take-record-spec =

@@ -18,8 +18,10 @@ returns-2 : tie.Need-returns-2
 returns-2 c =
     let l = c .before .before .before .before .before .before .before .before .lay-out .ensures in
     let key = c .before .before .before .before .before .before .before .before .before .before .before .args .key in
-    let g = c .before .before .before .before .rm .ensures ∙ ap (λ (x : Clock). removalUnder x key) (c .before .before .before .before .before .clock-at .ensures) in
-    op-out _ (sym (l .0) ∙ c .before .before .before .before .before .before .if1 .left) (ap (λ (x : Op). record { number = 0; op = x }) g) (c .before .before .give-op .ensures)
+    let g = c .before .before .before .before .rm .ensures ∙ ap (λ (x : Clock). removalUnder x key)
+    (c .before .before .before .before .before .clock-at .ensures) in
+    op-out _ (sym (l .0) ∙ c .before .before .before .before .before .before .if1 .left) (ap (λ (x : Op). record { number = 0; op = x }) g)
+    (c .before .before .give-op .ensures)
 
 pub rm-get-spec : {M : Type 1} → statement M
 rm-get-spec =

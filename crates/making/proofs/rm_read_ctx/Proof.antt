@@ -14,8 +14,10 @@ returns-2 : tie.Need-returns-2
 returns-2 c =
     let l = c .before .before .before .before .before .before .before .lay-out .ensures in
     let q = l .1 (c .before .before .before .before .before .if1 .left) in
-    let g = removal-is (c .before .before .before .before .before .before .before .before .before .before .args .key) (q .lies .within) (q .clock) (c .before .before .before .before .rm .ensures) in
-    op-out _ (sym (l .0) ∙ c .before .before .before .before .before .if1 .left) (ap (λ (x : Op). record { number = 0; op = x }) g) (c .before .before .give-op .ensures)
+    let g = removal-is (c .before .before .before .before .before .before .before .before .before .before .args .key) (q .lies .within) (q .clock)
+    (c .before .before .before .before .rm .ensures) in
+    op-out _ (sym (l .0) ∙ c .before .before .before .before .before .if1 .left) (ap (λ (x : Op). record { number = 0; op = x }) g)
+    (c .before .before .give-op .ensures)
 
 pub rm-read-ctx-spec : {M : Type 1} → statement M
 rm-read-ctx-spec =

@@ -4,9 +4,9 @@ use mathlib.Core.List.{map}
 use Prim.Native.Nat.{_≤_, _-_, _^_}
 use lib.ListN.{drop}
 use borrow.Author.Tests.{lt-ltb}
-use Rattle.lists.proofs.Rests.{map-on, drop-end}
-use Rattle.parts.specs.Model.{keysOf}
-use Rattle.mapimage.specs.Sorted.{lesser}
+use Rattle.listlaws.proofs.Rests.{map-on, drop-end}
+use Rattle.removals.specs.Model.{keysOf}
+use Rattle.mapimage.specs.Least.{lesser}
 use Rattle.mapimage.specs.MapImage.{keyNumber}
 use Rattle.mapimage.proofs.Flats.{Least, least-start, least-on, least-end}
 use borrow.Author.Needs.{needs}
@@ -15,7 +15,8 @@ use Rattle.mapimage.proofs.least_in.Statement.{statement}
 use Rattle.mapimage.proofs.least_in.Tie as tie
 
 abbrev Inv-loop : tie.InvT-loop
-Inv-loop index low m keys n best₀ i₀ best i = (i ≤ n) × Least (2 ^ 40) low m (map (keyNumber index) (keysOf keys)) (map (keyNumber index) (drop i (keysOf keys))) best
+Inv-loop index low m keys n best₀ i₀ best i = (i ≤ n) × Least (2 ^ 40) low m (map (keyNumber index) (keysOf keys))
+    (map (keyNumber index) (drop i (keysOf keys))) best
 
 abbrev μ-loop : tie.MeasureT-loop
 μ-loop index low m keys n best₀ i₀ best i = n - i
@@ -28,8 +29,11 @@ loop-again c =
     let s = c .before .before .before .before in
     let a = s .before .before .before .args in
     let e = map-on (a .removal .keys .items) (a .removal .keys .len) (s .loop .i) 0 (omega arith) (keyNumber (a .index)) in
-    let n = c .before .key-number .ensures in
-    (omega arith, least-on (s .loop .inv .1) e (lt-ltb _ (2 ^ 40) (rw (n .0) at (n .1))) (c .lesser .ensures ∙ ap (lesser (a .low) (s .loop .best)) (n .0)))
+    let n = c .before .key-number .ensures in (
+      omega arith,
+      least-on (s .loop .inv .1) e (lt-ltb _ (2 ^ 40) (rw (n .0) at (n .1)))
+          (c .lesser .ensures ∙ ap (lesser (a .low) (s .loop .best)) (n .0)),
+    )
 
 returns : tie.Need-returns Inv-loop μ-loop
 returns c =

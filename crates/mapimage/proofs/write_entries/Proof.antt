@@ -1,20 +1,19 @@
 -- `write_entries` meets its contract: one entry after the other.
-use mathlib.Core.Path.{refl}
-use mathlib.Core.List.{[]}
 use Prim.Native.Nat.{_≤_, _-_}
 use lib.ListN.{drop, getD}
-use Rattle.records.proofs.Writing.{Writing, write-start, write-room, write-on, write-end}
-use Rattle.mapimage.specs.MapImage.{flatFrom}
-use Rattle.parts.specs.Model.{entriesOf}
-use Rattle.mapimage.specs.MapImage.{entryRecords}
-use Rattle.mapimage.proofs.Flats.{flat-on, flat-end, noEntryRead}
+use Rattle.records.proofs.Writing.{Writing, write-start, write-room, write-on, write-end, write-kept}
+use Rattle.mapimage.specs.MapImage.{flatFrom, entryRecords}
+use Rattle.entries.specs.Model.{entriesOf}
+use Rattle.entries.proofs.Packs.{noneRead}
+use Rattle.mapimage.proofs.Flats.{flat-on, flat-end}
 use borrow.Author.Needs.{needs}
 use native.Mathlib.Omega.{arith}
 use Rattle.mapimage.proofs.write_entries.Statement.{statement}
 use Rattle.mapimage.proofs.write_entries.Tie as tie
 
 abbrev Inv-loop : tie.InvT-loop
-Inv-loop out₀ at kind entries n next₀ i₀ out next i = (i ≤ n) × Writing (flatFrom (entryRecords kind) 0 (entriesOf entries)) (flatFrom (entryRecords kind) i (drop i (entriesOf entries))) at out₀ out next
+Inv-loop out₀ at kind entries n next₀ i₀ out next i = (i ≤ n) × Writing (flatFrom (entryRecords kind) 0 (entriesOf entries))
+    (flatFrom (entryRecords kind) i (drop i (entriesOf entries))) at out₀ out next
 
 abbrev μ-loop : tie.MeasureT-loop
 μ-loop out₀ at kind entries n next₀ i₀ out next i = n - i
@@ -27,19 +26,22 @@ write-entry-requires c κs =
     let s = c .before .before .before in
     let a = s .before .before .before .args in
     let f = entryRecords (a .kind) in
-    let e = flat-on f (a .t4 .items) (a .t4 .len) (s .loop .i) noEntryRead (omega arith) in
-    omega (arith, write-room _ _ _ (f (s .loop .i) (getD (a .t4 .items) (s .loop .i) noEntryRead)) _ (s .loop .inv .1) e .0)
+    let e = flat-on f (a .t4 .items) (a .t4 .len) (s .loop .i) noneRead (omega arith) in
+    omega (arith, write-room _ _ _ (f (s .loop .i) (getD (a .t4 .items) (s .loop .i) noneRead)) _ (s .loop .inv .1) e .0)
 
 loop-again : tie.Need-loop-again Inv-loop μ-loop
 loop-again c =
     let s = c .before .before .before .before .before .before in
     let a = s .before .before .before .args in
     let f = entryRecords (a .kind) in
-    let e = flat-on f (a .t4 .items) (a .t4 .len) (s .loop .i) noEntryRead (omega arith) in
-    (omega arith, write-on _ _ _ (f (s .loop .i) (getD (a .t4 .items) (s .loop .i) noEntryRead)) (s .loop .inv .1) e (c .before .before .write-entry .ensures))
+    let e = flat-on f (a .t4 .items) (a .t4 .len) (s .loop .i) noneRead (omega arith) in (
+      omega arith,
+      write-on _ _ _ (f (s .loop .i) (getD (a .t4 .items) (s .loop .i) noneRead)) (s .loop .inv .1) e
+          (c .before .before .write-entry .ensures),
+    )
 
 same-length : tie.Need-same-length Inv-loop μ-loop
-same-length c = write-room _ _ _ [] _ (c .before .loop .inv .1) refl .1
+same-length c = write-kept _ _ _ (c .before .loop .inv .1)
 
 returns : tie.Need-returns Inv-loop μ-loop
 returns c =

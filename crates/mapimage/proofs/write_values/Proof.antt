@@ -1,20 +1,19 @@
 -- `write_values` meets its contract: one value after the other.
-use mathlib.Core.Path.{refl}
-use mathlib.Core.List.{[]}
 use Prim.Native.Nat.{_≤_, _-_}
 use lib.ListN.{drop, getD}
-use Rattle.records.proofs.Writing.{Writing, write-start, write-room, write-on, write-end}
-use Rattle.mapimage.specs.MapImage.{flatFrom}
+use Rattle.records.proofs.Writing.{Writing, write-start, write-room, write-on, write-end, write-kept}
+use Rattle.mapimage.specs.MapImage.{flatFrom, valueRecords}
 use Rattle.register.specs.Values.{valuesOf}
-use Rattle.mapimage.specs.MapImage.{valueRecords}
-use Rattle.mapimage.proofs.Flats.{flat-on, flat-end, noValueRead}
+use Rattle.register.proofs.Packs.{noneRead}
+use Rattle.mapimage.proofs.Flats.{flat-on, flat-end}
 use borrow.Author.Needs.{needs}
 use native.Mathlib.Omega.{arith}
 use Rattle.mapimage.proofs.write_values.Statement.{statement}
 use Rattle.mapimage.proofs.write_values.Tie as tie
 
 abbrev Inv-loop : tie.InvT-loop
-Inv-loop out₀ at kind key register n next₀ i₀ out next i = (i ≤ n) × Writing (flatFrom (valueRecords kind key) 0 (valuesOf register)) (flatFrom (valueRecords kind key) i (drop i (valuesOf register))) at out₀ out next
+Inv-loop out₀ at kind key register n next₀ i₀ out next i = (i ≤ n) × Writing (flatFrom (valueRecords kind key) 0 (valuesOf register))
+    (flatFrom (valueRecords kind key) i (drop i (valuesOf register))) at out₀ out next
 
 abbrev μ-loop : tie.MeasureT-loop
 μ-loop out₀ at kind key register n next₀ i₀ out next i = n - i
@@ -27,19 +26,22 @@ write-value-requires c κs =
     let s = c .before .before .before in
     let a = s .before .before .before .args in
     let f = valueRecords (a .kind) (a .key) in
-    let e = flat-on f (a .t5 .values) (a .t5 .len) (s .loop .i) noValueRead (omega arith) in
-    omega (arith, write-room _ _ _ (f (s .loop .i) (getD (a .t5 .values) (s .loop .i) noValueRead)) _ (s .loop .inv .1) e .0)
+    let e = flat-on f (a .t5 .values) (a .t5 .len) (s .loop .i) noneRead (omega arith) in
+    omega (arith, write-room _ _ _ (f (s .loop .i) (getD (a .t5 .values) (s .loop .i) noneRead)) _ (s .loop .inv .1) e .0)
 
 loop-again : tie.Need-loop-again Inv-loop μ-loop
 loop-again c =
     let s = c .before .before .before .before .before .before in
     let a = s .before .before .before .args in
     let f = valueRecords (a .kind) (a .key) in
-    let e = flat-on f (a .t5 .values) (a .t5 .len) (s .loop .i) noValueRead (omega arith) in
-    (omega arith, write-on _ _ _ (f (s .loop .i) (getD (a .t5 .values) (s .loop .i) noValueRead)) (s .loop .inv .1) e (c .before .before .write-value .ensures))
+    let e = flat-on f (a .t5 .values) (a .t5 .len) (s .loop .i) noneRead (omega arith) in (
+      omega arith,
+      write-on _ _ _ (f (s .loop .i) (getD (a .t5 .values) (s .loop .i) noneRead)) (s .loop .inv .1) e
+          (c .before .before .write-value .ensures),
+    )
 
 same-length : tie.Need-same-length Inv-loop μ-loop
-same-length c = write-room _ _ _ [] _ (c .before .loop .inv .1) refl .1
+same-length c = write-kept _ _ _ (c .before .loop .inv .1)
 
 returns : tie.Need-returns Inv-loop μ-loop
 returns c =

@@ -3,7 +3,7 @@ use mathlib.Core.Path.{_≡_}
 use mathlib.Core.Bool.{true}
 use Prim.Native.Nat.{_-_, _^_}
 use lib.Dec.{ltb}
-use Rattle.parts.specs.Model.{waitingOf}
+use Rattle.removals.specs.Model.{waitingOf}
 use Rattle.scan.specs.Each.{every}
 use Rattle.mapimage.specs.MapImage.{flatFrom, keyNumbers}
 use Rattle.mapimage.proofs.Selecting.{Selecting, select-start, select-room, select-on, select-end, select-kept}
@@ -13,7 +13,8 @@ use Rattle.mapimage.proofs.write_waiting_keys.Statement.{statement}
 use Rattle.mapimage.proofs.write_waiting_keys.Tie as tie
 
 abbrev Inv-loop : tie.InvT-loop
-Inv-loop out₀ at waiting next₀ best₀ out next best = (every (λ x. ltb x (2 ^ 40)) (flatFrom keyNumbers 0 (waitingOf waiting)) ≡ true) × Selecting (2 ^ 40) (flatFrom keyNumbers 0 (waitingOf waiting)) at out₀ out next best
+Inv-loop out₀ at waiting next₀ best₀ out next best = (every (λ x. ltb x (2 ^ 40)) (flatFrom keyNumbers 0 (waitingOf waiting)) ≡ true)
+    × Selecting (2 ^ 40) (flatFrom keyNumbers 0 (waitingOf waiting)) at out₀ out next best
 
 abbrev μ-loop : tie.MeasureT-loop
 μ-loop out₀ at waiting next₀ best₀ out next best = 2 ^ 40 - best
@@ -34,10 +35,16 @@ add-least : tie.Need-add-least Inv-loop μ-loop
 add-least c = omega arith
 
 loop-less : tie.Need-loop-less Inv-loop μ-loop
-loop-less c = let s = c .before .before .before .before .before .before in let r = select-on (2 ^ 40) _ _ _ (s .loop .inv .0) (s .loop .inv .1) (c .before .before .before .before .before .loop-test .taken) _ (c .before .before .before .write-record .ensures) (c .least2 .ensures .0) .1 in omega arith
+loop-less c = let s = c .before .before .before .before .before .before in
+    let r = select-on (2 ^ 40) _ _ _ (s .loop .inv .0) (s .loop .inv .1) (c .before .before .before .before .before .loop-test .taken) _
+    (c .before .before .before .write-record .ensures) (c .least2 .ensures .0) .1 in omega arith
 
 loop-again : tie.Need-loop-again Inv-loop μ-loop
-loop-again c = let s = c .before .before .before .before .before .before in (s .loop .inv .0, select-on (2 ^ 40) _ _ _ (s .loop .inv .0) (s .loop .inv .1) (c .before .before .before .before .before .loop-test .taken) _ (c .before .before .before .write-record .ensures) (c .least2 .ensures .0) .0)
+loop-again c = let s = c .before .before .before .before .before .before in (
+  s .loop .inv .0,
+  select-on (2 ^ 40) _ _ _ (s .loop .inv .0) (s .loop .inv .1) (c .before .before .before .before .before .loop-test .taken) _
+      (c .before .before .before .write-record .ensures) (c .least2 .ensures .0) .0,
+)
 
 same-length : tie.Need-same-length Inv-loop μ-loop
 same-length c = let s = c .before in select-kept (2 ^ 40) _ _ _ (s .loop .inv .0) (s .loop .inv .1)

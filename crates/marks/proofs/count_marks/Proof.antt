@@ -4,8 +4,8 @@ use mathlib.Core.List.{[]}
 use mathlib.Core.Bool.{false}
 use Prim.Native.Nat.{_≤_, _-_, _+_}
 use lib.ListN.{length, length-take}
-use Rattle.lists.proofs.Pads.{length-snoc}
-use Rattle.lists.proofs.Sifting.{Sifting, sifting-start, sifting-keep, sifting-drop, sifting-end}
+use Rattle.listlaws.proofs.Pads.{length-snoc}
+use Rattle.listlaws.proofs.Sifting.{Sifting, sifting-start, sifting-keep, sifting-drop, sifting-end}
 use borrow.Author.Needs.{needs}
 use native.Mathlib.Omega.{arith}
 use Rattle.marks.proofs.count_marks.Statement.{statement}

@@ -4,9 +4,10 @@ use mathlib.Core.Logic.{inl, inr}
 use Prim.Native.Nat.{_≤_, _<_, _-_, _+_}
 use lib.ListN.{length, getD}
 use borrow.Author.Tests.{ltb-true, ltb-false}
-use Rattle.clock.specs.Dots.{noDot, dotsOf, dotLimit}
+use Rattle.clock.specs.Dots.{noDot, dotsOf}
+use Rattle.limits.specs.Limits.{dotLimit}
 use Rattle.runs.specs.Run.{runDots}
-use Rattle.marks.proofs.Dots.{run-at, length-run}
+use Rattle.marks.proofs.Dots.{run-at, length-run, few-dots}
 use Rattle.marks.proofs.Cutting.{Cutting, cutting-start, cutting-past, cutting-alone, cutting-off, cutting-on, cutting-end}
 use borrow.Author.Needs.{needs}
 use native.Mathlib.Omega.{arith}
@@ -102,21 +103,17 @@ loop-again-4 c =
           (omega (arith, c .if4 .left, ap (λ x. x .counter) (q .dot))),
     )
 
--- the run has no more dots than marks
-few : (s : tie.At-loop Inv-loop μ-loop)
-    → length (runDots (s .before .before .before .args .run .now)) ≤ length (s .before .before .before .args .marks)
-few s = omega (arith, length-run (s .before .before .before .args .run .now), s .before .before .before .pre .0, s .loop .inv .2)
-
 returns : tie.Need-returns Inv-loop μ-loop
 returns c =
     let s = c .before .before in
     cutting-end (s .loop .inv .3) (inr (omega (arith, ltb-false (s .loop .j) (s .before .size .result) (c .if1 .left), s .before .size .ensures)))
-    (few s)
+    (few-dots (s .before .before .before .args .run .now) _ (s .before .before .before .pre .0) (s .loop .inv .2))
 
 returns-2 : tie.Need-returns-2 Inv-loop μ-loop
 returns-2 c =
     let s = c .before in
-    cutting-end (s .loop .inv .3) (inl (omega (arith, length-run (s .before .before .before .args .run .now)))) (few s)
+    cutting-end (s .loop .inv .3) (inl (omega (arith, length-run (s .before .before .before .args .run .now))))
+    (few-dots (s .before .before .before .args .run .now) _ (s .before .before .before .pre .0) (s .loop .inv .2))
 
 pub cut-marks-spec : {M : Type 1} → statement M
 cut-marks-spec =

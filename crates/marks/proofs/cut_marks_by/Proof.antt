@@ -1,24 +1,19 @@
 -- `cut_marks_by` meets its contract: the loop walks the clock's run beside the run.
 use mathlib.Core.Path.{_≡_, ap, sym, _∙_}
 use mathlib.Core.Logic.{inl, inr}
-use mathlib.Core.List.{List}
 use Prim.Native.Nat.{_≤_, _<_, _-_, _+_, _/_}
-use lib.ListN.{length, take, getD}
+use lib.ListN.{length, getD}
 use lib.Seq.{take-length}
 use borrow.Author.Tests.{ltb-true, ltb-false}
-use Rattle.clock.specs.declared.Dot.{Dot}
-use Rattle.clock.specs.Dots.{noDot, dotLimit}
+use Rattle.clock.specs.Dots.{noDot}
+use Rattle.limits.specs.Limits.{dotLimit}
 use Rattle.runs.specs.Run.{runDots}
-use Rattle.marks.proofs.Dots.{run-at, length-run}
+use Rattle.marks.proofs.Dots.{run-at, length-run, all, few-dots}
 use Rattle.marks.proofs.Cutting.{Cutting, cutting-start, cutting-past, cutting-alone, cutting-off, cutting-on, cutting-end}
 use borrow.Author.Needs.{needs}
 use native.Mathlib.Omega.{arith}
 use Rattle.marks.proofs.cut_marks_by.Statement.{statement}
 use Rattle.marks.proofs.cut_marks_by.Tie as tie
-
--- all of a list, as the walk speaks of it
-abbrev all : List Dot → List Dot
-all l = take (length l) l
 
 abbrev Inv-loop : tie.InvT-loop
 Inv-loop run by n m left₀ i₀ j₀ left i j = (i ≤ n) × (j ≤ m) × (length left₀ ≡ dotLimit) × Cutting (runDots by) (length (runDots by))
@@ -114,24 +109,21 @@ loop-again-4 c =
           (omega (arith, c .if4 .left, ap (λ x. x .counter) (q .dot), ap (λ x. x .counter) (q .other))),
     )
 
--- the run has no more dots than marks
-few : (s : tie.At-loop Inv-loop μ-loop)
-    → length (runDots (s .before .before .before .args .run .now)) ≤ length (s .before .before .before .args .marks)
-few s = omega (arith, length-run (s .before .before .before .args .run .now), s .before .before .before .pre .0, s .loop .inv .2)
-
 returns : tie.Need-returns Inv-loop μ-loop
 returns c =
     let s = c .before .before in
     let by = s .before .before .before .args .by .now in
     let h : length (all (runDots by)) ≤ s .loop .j = rw (take-length (runDots by))
     (omega (arith, ltb-false (s .loop .j) (length by / 16) (c .if1 .left), length-run by)) in
-    cutting-end (s .loop .inv .3) (inr h) (few s) ∙ rw (take-length (runDots by))
+    cutting-end (s .loop .inv .3) (inr h) (few-dots (s .before .before .before .args .run .now) _ (s .before .before .before .pre .0)
+    (s .loop .inv .2)) ∙ rw (take-length (runDots by))
 
 returns-2 : tie.Need-returns-2 Inv-loop μ-loop
 returns-2 c =
     let s = c .before in
     let by = s .before .before .before .args .by .now in
-    cutting-end (s .loop .inv .3) (inl (omega (arith, length-run (s .before .before .before .args .run .now)))) (few s) ∙ rw
+    cutting-end (s .loop .inv .3) (inl (omega (arith, length-run (s .before .before .before .args .run .now))))
+    (few-dots (s .before .before .before .args .run .now) _ (s .before .before .before .pre .0) (s .loop .inv .2)) ∙ rw
     (take-length (runDots by))
 
 pub cut-marks-by-spec : {M : Type 1} → statement M

@@ -3,8 +3,9 @@ use mathlib.Core.Path.{_≡_, ap, sym, _∙_}
 use mathlib.Core.List.{_∷_}
 use Prim.Native.Nat.{_≤_, _<_, _-_, _+_}
 use lib.ListN.{length, drop}
-use Rattle.lists.proofs.Growing.{Growing, grow-start, grow-add, grow-skip, grow-end, grow-room}
-use Rattle.clock.specs.Dots.{noDot, clockOf, dotLimit}
+use Rattle.listlaws.proofs.Growing.{Growing, grow-start, grow-add, grow-skip, grow-end, grow-room}
+use Rattle.clock.specs.Dots.{noDot, clockOf}
+use Rattle.limits.specs.Limits.{dotLimit}
 use Rattle.clock.proofs.Packs.{pushed}
 use Rattle.runs.specs.Run.{runDots}
 use Rattle.marks.specs.Marks.{picked}

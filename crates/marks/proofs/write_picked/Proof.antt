@@ -1,10 +1,11 @@
 -- `write_picked` meets its contract: a record for each dot whose mark is set, one behind the other.
-use mathlib.Core.Path.{_≡_, refl, ap, sym, _∙_}
+use mathlib.Core.Path.{_≡_, ap, sym, _∙_}
 use mathlib.Core.List.{[], _∷_}
 use Prim.Native.Nat.{_≤_, _-_, _+_}
 use lib.ListN.{length, drop, length-map}
-use Rattle.clock.specs.Dots.{noDot, dotLimit}
-use Rattle.records.proofs.Writing.{Writing, write-start, write-room, write-on, write-end, wrote-one}
+use Rattle.clock.specs.Dots.{noDot}
+use Rattle.limits.specs.Limits.{dotLimit}
+use Rattle.records.proofs.Writing.{Writing, write-start, write-room, write-on, write-end, wrote-one, write-kept}
 use Rattle.clockimage.specs.Image.{dotRecord, dotRecords}
 use Rattle.runs.specs.Run.{runDots}
 use Rattle.marks.specs.Marks.{picked}
@@ -72,7 +73,7 @@ loop-again-2 c =
     (omega arith, s .loop .inv .1, rw (← e) (s .loop .inv .2))
 
 same-length : tie.Need-same-length Inv-loop μ-loop
-same-length c = write-room _ _ _ [] _ (c .before .loop .inv .2) refl .1
+same-length c = write-kept _ _ _ (c .before .loop .inv .2)
 
 returns : tie.Need-returns Inv-loop μ-loop
 returns c =

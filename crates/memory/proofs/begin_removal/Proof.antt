@@ -6,7 +6,12 @@ use Rattle.memory.proofs.begin_removal.Tie as tie
 
 returns : tie.Need-returns
 unfolding removalBegun
-returns c = rw (c .put83 .ensures, c .before .before .put82 .ensures, c .before .before .before .before .put-dot .ensures, c .before .before .before .before .before .before .put8 .ensures)
+returns c = rw (
+  c .put83 .ensures,
+  c .before .before .put82 .ensures,
+  c .before .before .before .before .put-dot .ensures,
+  c .before .before .before .before .before .before .put8 .ensures,
+)
 
 pub begin-removal-spec : {M : Type 1} → statement M
 begin-removal-spec =

@@ -3,7 +3,7 @@ use mathlib.Core.Path.{sym, _∙_}
 use Prim.Native.Nat.{_-_}
 use borrow.Author.Tests.{eq-eqb, ne-eqb}
 use native.Mathlib.Omega.{arith}
-use Rattle.lists.proofs.Passing.{passing-start}
+use Rattle.listlaws.proofs.Passing.{passing-start}
 use Rattle.memory.proofs.Looking.{Looking, look-here, look-on, look-end}
 use Rattle.memory.proofs.find.Statement.{statement}
 use Rattle.memory.proofs.find.Tie as tie
@@ -28,7 +28,8 @@ read32-requires c κs = omega arith
 
 returns : tie.Need-returns Inv-loop μ-loop
 returns c = let s = c .before .before .before .before in
-    look-here _ _ _ _ (s .loop .inv .1) (c .before .before .before .loop-test .taken) (s .before .pre) (eq-eqb _ _ (sym (c .before .read32 .ensures) ∙ c .if1 .taken))
+    look-here _ _ _ _ (s .loop .inv .1) (c .before .before .before .loop-test .taken) (s .before .pre)
+    (eq-eqb _ _ (sym (c .before .read32 .ensures) ∙ c .if1 .taken))
 
 add-j : tie.Need-add-j Inv-loop μ-loop
 add-j c = omega arith
@@ -38,8 +39,11 @@ loop-less c = omega arith
 
 loop-again : tie.Need-loop-again Inv-loop μ-loop
 loop-again c = let s = c .before .before .before .before in
-    let a = s .before .args in
-    (omega arith, look-on (a .mem .now) (a .n) (a .key) (s .loop .j) (s .loop .inv .1) (c .before .before .before .loop-test .taken) (ne-eqb _ _ (λ e. c .if1 .left (c .before .read32 .ensures ∙ e))))
+    let a = s .before .args in (
+      omega arith,
+      look-on (a .mem .now) (a .n) (a .key) (s .loop .j) (s .loop .inv .1) (c .before .before .before .loop-test .taken)
+          (ne-eqb _ _ (λ e. c .if1 .left (c .before .read32 .ensures ∙ e))),
+    )
 
 returns-2 : tie.Need-returns-2 Inv-loop μ-loop
 returns-2 c = look-end _ _ _ _ (c .before .loop .inv .1) (c .before .before .pre) (omega arith)

@@ -7,7 +7,12 @@ use Rattle.memory.proofs.put_dot.Tie as tie
 
 returns : tie.Need-returns
 unfolding dotPut
-returns c = rw (lt-ltb _ _ (c .before .before .before .before .before .before .if1 .taken), c .put8 .ensures, c .before .before .put64 .ensures, c .before .before .before .before .put16 .ensures)
+returns c = rw (
+  lt-ltb _ _ (c .before .before .before .before .before .before .if1 .taken),
+  c .put8 .ensures,
+  c .before .before .put64 .ensures,
+  c .before .before .before .before .put16 .ensures,
+)
 
 returns-2 : tie.Need-returns-2
 unfolding dotPut

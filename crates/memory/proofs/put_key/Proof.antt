@@ -7,7 +7,12 @@ use Rattle.memory.proofs.put_key.Tie as tie
 
 returns : tie.Need-returns
 unfolding keyPut
-returns c = rw (lt-ltb _ _ (c .before .before .before .before .before .if1 .taken), c .put8 .ensures, c .before .before .put32 .ensures, c .before .before .before .wide .ensures)
+returns c = rw (
+  lt-ltb _ _ (c .before .before .before .before .before .if1 .taken),
+  c .put8 .ensures,
+  c .before .before .put32 .ensures,
+  c .before .before .before .wide .ensures,
+)
 
 returns-2 : tie.Need-returns-2
 unfolding keyPut

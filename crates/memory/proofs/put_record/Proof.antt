@@ -15,7 +15,12 @@ returns-2 c = rw (ne-eqb _ _ (c .before .before .before .before .if1 .left), lt-
 
 returns-3 : tie.Need-returns-3
 unfolding recordPut
-returns-3 c = rw (ne-eqb _ _ (c .before .before .before .before .before .if1 .left), le-ltb _ _ (c .before .before .before .if2 .left), c .put-waiting .ensures, c .before .wide .ensures)
+returns-3 c = rw (
+  ne-eqb _ _ (c .before .before .before .before .before .if1 .left),
+  le-ltb _ _ (c .before .before .before .if2 .left),
+  c .put-waiting .ensures,
+  c .before .wide .ensures,
+)
 
 pub put-record-spec : {M : Type 1} → statement M
 put-record-spec =

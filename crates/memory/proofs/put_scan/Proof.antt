@@ -6,7 +6,15 @@ use Rattle.memory.proofs.put_scan.Tie as tie
 
 returns : tie.Need-returns
 unfolding scanPut
-returns c = rw (c .put163 .ensures, c .before .before .before .put162 .ensures, c .before .before .before .before .before .before .put16 .ensures, c .before .before .before .before .before .before .before .before .before .write-record .ensures .left, c .before .before .before .before .before .before .before .before .before .before .before .before .put82 .ensures, c .before .before .before .before .before .before .before .before .before .before .before .before .before .flag .ensures, c .before .before .before .before .before .before .before .before .before .before .before .before .before .before .before .put8 .ensures)
+returns c = rw (
+  c .put163 .ensures,
+  c .before .before .before .put162 .ensures,
+  c .before .before .before .before .before .before .put16 .ensures,
+  c .before .before .before .before .before .before .before .before .before .write-record .ensures .left,
+  c .before .before .before .before .before .before .before .before .before .before .before .before .put82 .ensures,
+  c .before .before .before .before .before .before .before .before .before .before .before .before .before .flag .ensures,
+  c .before .before .before .before .before .before .before .before .before .before .before .before .before .before .before .put8 .ensures,
+)
 
 pub put-scan-spec : {M : Type 1} → statement M
 put-scan-spec =

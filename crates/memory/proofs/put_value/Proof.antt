@@ -7,7 +7,15 @@ use Rattle.memory.proofs.put_value.Tie as tie
 
 returns : tie.Need-returns
 unfolding valuePut
-returns c = rw (eq-eqb _ _ (c .before .before .before .before .before .before .before .before .before .before .if1 .taken), lt-ltb _ _ (c .before .before .before .before .before .before .before .before .before .if2 .taken), c .put82 .ensures, c .before .before .put16 .ensures, c .before .before .before .before .put8 .ensures, c .before .before .before .before .before .before .put64 .ensures, c .before .before .before .before .before .before .before .before .wide .ensures)
+returns c = rw (
+  eq-eqb _ _ (c .before .before .before .before .before .before .before .before .before .before .if1 .taken),
+  lt-ltb _ _ (c .before .before .before .before .before .before .before .before .before .if2 .taken),
+  c .put82 .ensures,
+  c .before .before .put16 .ensures,
+  c .before .before .before .before .put8 .ensures,
+  c .before .before .before .before .before .before .put64 .ensures,
+  c .before .before .before .before .before .before .before .before .wide .ensures,
+)
 
 returns-2 : tie.Need-returns-2
 unfolding valuePut

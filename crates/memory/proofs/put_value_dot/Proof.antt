@@ -7,7 +7,12 @@ use Rattle.memory.proofs.put_value_dot.Tie as tie
 
 returns : tie.Need-returns
 unfolding valueDotPut
-returns c = rw (lt-ltb _ _ (c .before .before .before .before .if1 .taken), lt-ltb _ _ (c .before .before .before .if2 .taken), c .put-dot .ensures, c .before .wide .ensures)
+returns c = rw (
+  lt-ltb _ _ (c .before .before .before .before .if1 .taken),
+  lt-ltb _ _ (c .before .before .before .if2 .taken),
+  c .put-dot .ensures,
+  c .before .wide .ensures,
+)
 
 returns-2 : tie.Need-returns-2
 unfolding valueDotPut

@@ -4,7 +4,12 @@ use Rattle.memory.proofs.scan_of.Statement.{statement}
 use Rattle.memory.proofs.scan_of.Tie as tie
 
 returns : tie.Need-returns
-returns c = rw (c .before .before .read163 .ensures, c .before .before .before .before .read162 .ensures, c .before .before .before .before .before .before .read16 .ensures, c .before .before .before .before .before .before .before .before .read-record .ensures)
+returns c = rw (
+  c .before .before .read163 .ensures,
+  c .before .before .before .before .read162 .ensures,
+  c .before .before .before .before .before .before .read16 .ensures,
+  c .before .before .before .before .before .before .before .before .read-record .ensures,
+)
 
 pub scan-of-spec : {M : Type 1} → statement M
 scan-of-spec =

@@ -4,7 +4,8 @@ use Prim.Native.Nat.{_≤_, _-_, _/_}
 use lib.ListN.{length}
 use borrow.Author.Tests.{lt-ltb, le-ltb, eq-eqb, ne-eqb}
 use Rattle.records.proofs.Feeding.{Feeding, feed-start, feed-on, feed-end}
-use Rattle.opimage.specs.OpImage.{readOp, OpSoFar}
+use Rattle.opimage.specs.OpImage.{readOp}
+use Rattle.opimage.specs.SoFar.{OpSoFar}
 use borrow.Author.Needs.{needs}
 use native.Mathlib.Omega.{arith}
 use Rattle.opimage.proofs.read_op.Statement.{statement}
@@ -31,8 +32,14 @@ take-requires : tie.Need-take-requires Inv-loop μ-loop
 take-requires c κs = let f = c .before .before .loop .inv .1 .1 in (f .done, f .fed)
 
 loop-again : tie.Need-loop-again Inv-loop μ-loop
-loop-again c =
-    (refl, (omega arith, feed-on _ (c .before .before .before .loop .inv .1 .1) (omega arith) (λ l f. rw (← c .before .read-record .ensures) (c .take .ensures l f))))
+loop-again c = (
+  refl,
+  (
+    omega arith,
+    feed-on _ (c .before .before .before .loop .inv .1 .1) (omega arith)
+        (λ l f. rw (← c .before .read-record .ensures) (c .take .ensures l f)),
+  ),
+)
 
 returns-3 : tie.Need-returns-3 Inv-loop μ-loop
 unfolding readOp

@@ -1,11 +1,11 @@
 -- `write_keys` meets its contract: a record for each key, one behind the other.
-use mathlib.Core.Path.{refl, ap}
+use mathlib.Core.Path.{ap}
 use mathlib.Core.List.{[], _∷_, map}
 use Prim.Native.Nat.{_≤_, _-_}
 use lib.ListN.{drop, getD, length-map}
-use Rattle.lists.proofs.Rests.{map-on, drop-end}
-use Rattle.parts.specs.Model.{keysOf}
-use Rattle.records.proofs.Writing.{Writing, write-start, write-room, write-on, write-end, wrote-one}
+use Rattle.listlaws.proofs.Rests.{map-on, drop-end}
+use Rattle.removals.specs.Model.{keysOf}
+use Rattle.records.proofs.Writing.{Writing, write-start, write-room, write-on, write-end, wrote-one, write-kept}
 use Rattle.opimage.specs.OpImage.{keyRecord}
 use borrow.Author.Needs.{needs}
 use native.Mathlib.Omega.{arith}
@@ -13,7 +13,8 @@ use Rattle.opimage.proofs.write_keys.Statement.{statement}
 use Rattle.opimage.proofs.write_keys.Tie as tie
 
 abbrev Inv-loop : tie.InvT-loop
-Inv-loop out₀ at kind index keys n next₀ i₀ out next i = (i ≤ n) × Writing (map (keyRecord kind index) (keysOf keys)) (map (keyRecord kind index) (drop i (keysOf keys))) at out₀ out next
+Inv-loop out₀ at kind index keys n next₀ i₀ out next i = (i ≤ n) × Writing (map (keyRecord kind index) (keysOf keys))
+    (map (keyRecord kind index) (drop i (keysOf keys))) at out₀ out next
 
 abbrev μ-loop : tie.MeasureT-loop
 μ-loop out₀ at kind index keys n next₀ i₀ out next i = n - i
@@ -42,12 +43,13 @@ loop-again c =
     (omega arith, write-on _ _ _ (r ∷ []) (s .loop .inv .1) e (wrote-one r _ _ _ _ (w .ensures)))
 
 same-length : tie.Need-same-length Inv-loop μ-loop
-same-length c = write-room _ _ _ [] _ (c .before .loop .inv .1) refl .1
+same-length c = write-kept _ _ _ (c .before .loop .inv .1)
 
 returns : tie.Need-returns Inv-loop μ-loop
 returns c =
     let a = c .before .before .before .before .args in
-    write-end _ _ _ (c .before .loop .inv .1) (ap (map (keyRecord (a .kind) (a .index))) (drop-end (keysOf (a .t5)) (c .before .loop .i) (omega arith)))
+    write-end _ _ _ (c .before .loop .inv .1) (ap (map (keyRecord (a .kind) (a .index)))
+    (drop-end (keysOf (a .t5)) (c .before .loop .i) (omega arith)))
 
 pub write-keys-spec : {M : Type 1} → statement M
 write-keys-spec =

@@ -14,17 +14,29 @@ use Rattle.opimage.proofs.write_update.Tie as tie
 write-dots-requires : tie.Need-write-dots-requires
 write-dots-requires c κs =
     let u = c .before .before .before .before .before .before .before .before .before .before .before .before .before .before .args .update in
-    let w0 = write-start (updateRecords u) 0 (c .before .before .before .before .before .before .before .before .before .before .before .before .before .before .args .out .now) (omega (arith, c .before .before .before .before .before .before .before .before .before .before .before .before .before .before .pre)) in
-    let w1 = write-on _ _ _ (updateHead u ∷ []) w0 refl (wrote-one _ _ _ _ _ (c .before .before .before .before .before .before .before .write-record .ensures)) in
+    let w0 = write-start (updateRecords u) 0
+    (c .before .before .before .before .before .before .before .before .before .before .before .before .before .before .args .out .now)
+    (omega (arith, c .before .before .before .before .before .before .before .before .before .before .before .before .before .before .pre)) in
+    let w1 = write-on _ _ _ (updateHead u ∷ []) w0 refl (wrote-one _ _ _ _ _
+    (c .before .before .before .before .before .before .before .write-record .ensures)) in
     let w2 = write-on _ _ _ (putValue u ∷ []) w1 refl (wrote-one _ _ _ _ _ (c .before .before .before .write-record2 .ensures)) in
     omega (arith, last-room _ _ _ _ w2, length-map (dotsOf (u .put .clock)) (dotRecord 12 0 0))
 
 returns : tie.Need-returns
 returns c =
-    let u = c .before .before .before .before .before .before .before .before .before .before .before .before .before .before .before .before .before .args .update in
-    let w0 = write-start (updateRecords u) 0 (c .before .before .before .before .before .before .before .before .before .before .before .before .before .before .before .before .before .args .out .now) (omega (arith, c .before .before .before .before .before .before .before .before .before .before .before .before .before .before .before .before .before .pre)) in
-    let w1 = write-on _ _ _ (updateHead u ∷ []) w0 refl (wrote-one _ _ _ _ _ (c .before .before .before .before .before .before .before .before .before .before .write-record .ensures)) in
-    let w2 = write-on _ _ _ (putValue u ∷ []) w1 refl (wrote-one _ _ _ _ _ (c .before .before .before .before .before .before .write-record2 .ensures)) in
+    let u = c .before .before .before .before .before .before .before .before .before .before .before .before .before .before .before .before .before
+    .args .update in
+    let w0 = write-start (updateRecords u) 0
+    (c .before .before .before .before .before .before .before .before .before .before .before .before .before .before .before .before .before
+    .args .out .now) (omega (
+      arith,
+      c .before .before .before .before .before .before .before .before .before .before .before .before .before .before .before .before .before
+          .pre,
+    )) in
+    let w1 = write-on _ _ _ (updateHead u ∷ []) w0 refl (wrote-one _ _ _ _ _
+    (c .before .before .before .before .before .before .before .before .before .before .write-record .ensures)) in
+    let w2 = write-on _ _ _ (putValue u ∷ []) w1 refl (wrote-one _ _ _ _ _
+    (c .before .before .before .before .before .before .write-record2 .ensures)) in
     write-last _ _ _ _ w2 (c .before .before .write-dots .ensures)
 
 pub write-update-spec : {M : Type 1} → statement M

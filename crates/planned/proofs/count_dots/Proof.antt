@@ -3,9 +3,9 @@ use mathlib.Core.Path.{_≡_, ap}
 use mathlib.Core.List.{List}
 use Prim.Native.Nat.{ℕ, _+_, _*_, _≤_, _<_, _-_}
 use lib.ListN.{length, drop}
-use Rattle.lists.proofs.Pads.{unmapped}
-use Rattle.clock.specs.Dots.{dotLimit}
-use Rattle.parts.specs.declared.Removal.{Removal}
+use Rattle.listlaws.proofs.Pads.{unmapped}
+use Rattle.limits.specs.Limits.{dotLimit}
+use Rattle.removals.specs.declared.Removal.{Removal}
 use Rattle.mapimage.specs.MapImage.{flatFrom, waitingDots}
 use Rattle.planned.specs.Planned.{Plans}
 use Rattle.planned.proofs.Planning.{plan-places, plan-within, plan-count, dots-end}

@@ -1,17 +1,16 @@
 -- `join_plan` meets its contract: the loop walks both queues side by side.
-use mathlib.Core.Path.{_≡_, refl, ap}
-use mathlib.Core.Bool.{Bool, true, false, cond, _||_}
+use mathlib.Core.Path.{_≡_, ap}
+use mathlib.Core.Bool.{true, false, cond}
 use mathlib.Core.List.{List}
-use Prim.Native.Nat.{ℕ, _+_, _≤_, _<_, _-_}
-use borrow.Author.Tests.{ltb-true, ltb-false}
-use lib.Dec.{ltb}
+use Prim.Native.Nat.{_+_, _≤_, _<_, _-_}
+use borrow.Author.Tests.{ltb-true}
 use lib.ListN.{length, length-set}
-use Rattle.lists.proofs.Orders.{apart}
-use Rattle.lists.proofs.Pads.{unmapped}
+use Rattle.listlaws.proofs.Pads.{unmapped}
+use Rattle.listlaws.proofs.Weaving.{both-past}
 use Rattle.clock.specs.Dots.{dotsOf}
-use Rattle.parts.specs.declared.Removal.{Removal}
-use Rattle.parts.specs.Model.{waitingLimit}
-use Rattle.parts.specs.Valid.{ValidWaiting}
+use Rattle.removals.specs.declared.Removal.{Removal}
+use Rattle.limits.specs.Limits.{waitingLimit}
+use Rattle.removals.specs.Valid.{ValidWaiting}
 use Rattle.queued.specs.Queue.{Queued}
 use Rattle.planned.specs.declared.Held.{Held}
 use Rattle.planned.specs.Planned.{HeldLies}
@@ -23,14 +22,6 @@ use borrow.Author.Needs.{needs}
 use native.Mathlib.Omega.{arith}
 use Rattle.planned.proofs.join_plan.Statement.{statement}
 use Rattle.planned.proofs.join_plan.Tie as tie
-
--- both are at their ends
-none-left : (i n j m : ℕ) → (ltb i n || ltb j m) ≡ false → (n ≤ i) × (m ≤ j)
-none-left i n j m t = go (ltb i n) refl t
-  where
-    go : (b : Bool) → ltb i n ≡ b → (b || ltb j m) ≡ false → (n ≤ i) × (m ≤ j)
-    go true e u = apart u
-    go false e u = (ltb-false i n e, ltb-false j m u)
 
 abbrev Inv-loop : tie.InvT-loop
 Inv-loop s t seen q p n m items₀ ours₀ theirs₀ count₀ i₀ j₀ items ours theirs count i j =
@@ -181,7 +172,7 @@ returns : tie.Need-returns Inv-loop μ-loop
 returns c =
     let t = c .before in
     let a = t .before .before .before .before .before .before .args in
-    let o = none-left (t .loop .i) (t .before .before .before .places .result) (t .loop .j) (t .before .before .places2 .result) (c .loop-test .left)
+    let o = both-past (t .loop .i) (t .before .before .before .places .result) (t .loop .j) (t .before .before .places2 .result) (c .loop-test .left)
     in
     λ w v q p b d.
     let n = queue-places q (t .before .before .before .places .ensures) in

@@ -1,9 +1,9 @@
 -- `next_turn` meets its contract: the one in turn is looked at.
 use mathlib.Core.Path.{_≡_, refl, sym, _∙_}
 use mathlib.Core.Bool.{Bool, true, false, not, _&&_, _||_}
-use Rattle.parts.specs.Waits.{clockBefore}
+use Rattle.removals.specs.Waits.{clockBefore}
 use Rattle.planned.specs.Left.{leftIn}
-use Rattle.lists.proofs.Orders.{apart}
+use Rattle.listlaws.proofs.Orders.{apart}
 use Rattle.planned.proofs.next_turn.Statement.{statement}
 use Rattle.planned.proofs.next_turn.Tie as tie
 

@@ -3,9 +3,9 @@ use mathlib.Core.Path.{refl, ap}
 use mathlib.Core.List.{List, []}
 use Prim.Native.Nat.{_+_, _*_, _≤_, _<_, _-_}
 use lib.ListN.{length, drop, getD, length-map}
-use Rattle.lists.proofs.Pads.{unmapped}
-use Rattle.parts.specs.declared.Removal.{Removal}
-use Rattle.parts.specs.Model.{noRemoval, underOf}
+use Rattle.listlaws.proofs.Pads.{unmapped}
+use Rattle.removals.specs.declared.Removal.{Removal}
+use Rattle.removals.specs.Model.{noRemoval, underOf}
 use Rattle.records.proofs.Writing.{Writing, write-start, write-room, write-on, write-end}
 use Rattle.clockimage.specs.Image.{dotRecord}
 use Rattle.mapimage.specs.MapImage.{flatFrom, waitingDots}

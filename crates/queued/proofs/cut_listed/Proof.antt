@@ -3,11 +3,11 @@ use mathlib.Core.Path.{_≡_, sym, _∙_}
 use mathlib.Core.List.{List}
 use Prim.Native.Nat.{ℕ, _≤_, _-_}
 use native.Mathlib.Omega.{arith}
-use Rattle.lists.proofs.Folding.{folding-start}
+use Rattle.listlaws.proofs.Folding.{folding-start}
 use Rattle.clock.specs.declared.Dot.{Dot}
 use Rattle.clock.specs.Dots.{clockOf}
 use Rattle.clock.proofs.Packs.{cut-left}
-use Rattle.parts.specs.declared.Removal.{Removal}
+use Rattle.removals.specs.declared.Removal.{Removal}
 use Rattle.queued.specs.Queue.{Queued, Marked}
 use Rattle.queued.proofs.Cutting.{Cutting, cut-on, cut-not, cut-end}
 use borrow.Author.Needs.{needs}
@@ -15,7 +15,8 @@ use Rattle.queued.proofs.cut_listed.Statement.{statement}
 use Rattle.queued.proofs.cut_listed.Tie as tie
 
 abbrev Inv-loop : tie.InvT-loop
-Inv-loop s q under n out₀ i₀ out i = (i ≤ n) × ((w : List Removal) (key : ℕ) (d : List Dot) → Queued s q w → Marked w key under → out₀ ≡ clockOf d → Cutting w key d i out)
+Inv-loop s q under n out₀ i₀ out i = (i ≤ n) × ((w : List Removal) (key : ℕ) (d : List Dot) → Queued s q w → Marked w key under → out₀ ≡ clockOf d
+    → Cutting w key d i out)
 
 abbrev μ-loop : tie.MeasureT-loop
 μ-loop s q under n out₀ i₀ out i = n - i
@@ -38,7 +39,8 @@ loop-again c =
       λ w key d h m f.
           let k = h .count in
           let l = h .few in
-          cut-on w key (t .loop .inv .1 w key d h m f) (omega arith) (c .before .before .clock-at .ensures w h (omega arith)) (sym (m .each _ (omega arith)) ∙ c .before .before .before .if1 .taken) (cut-left _ _ (c .before .cut .ensures)),
+          cut-on w key (t .loop .inv .1 w key d h m f) (omega arith) (c .before .before .clock-at .ensures w h (omega arith))
+          (sym (m .each _ (omega arith)) ∙ c .before .before .before .if1 .taken) (cut-left _ _ (c .before .cut .ensures)),
     )
 
 loop-again-2 : tie.Need-loop-again-2 Inv-loop μ-loop

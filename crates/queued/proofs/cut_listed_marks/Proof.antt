@@ -3,8 +3,8 @@ use mathlib.Core.Path.{refl, sym, _∙_}
 use mathlib.Core.List.{List}
 use Prim.Native.Nat.{ℕ, _≤_, _-_}
 use native.Mathlib.Omega.{arith}
-use Rattle.lists.proofs.Folding.{folding-start}
-use Rattle.parts.specs.declared.Removal.{Removal}
+use Rattle.listlaws.proofs.Folding.{folding-start}
+use Rattle.removals.specs.declared.Removal.{Removal}
 use Rattle.runs.specs.Run.{runDots}
 use Rattle.marks.specs.Marks.{picked}
 use Rattle.queued.specs.Queue.{Queued, Marked}
@@ -14,7 +14,8 @@ use Rattle.queued.proofs.cut_listed_marks.Statement.{statement}
 use Rattle.queued.proofs.cut_listed_marks.Tie as tie
 
 abbrev Inv-loop : tie.InvT-loop
-Inv-loop s q run under n out₀ i₀ out i = (i ≤ n) × ((w : List Removal) (key : ℕ) → Queued s q w → Marked w key under → MarksCutting w key (picked out₀ (runDots run)) i (picked out (runDots run)))
+Inv-loop s q run under n out₀ i₀ out i = (i ≤ n) × ((w : List Removal) (key : ℕ) → Queued s q w → Marked w key under
+    → MarksCutting w key (picked out₀ (runDots run)) i (picked out (runDots run)))
 
 abbrev μ-loop : tie.MeasureT-loop
 μ-loop s q run under n out₀ i₀ out i = n - i
@@ -37,7 +38,8 @@ loop-again c =
       λ w key h m.
           let k = h .count in
           let l = h .few in
-          marks-on w key (t .loop .inv .1 w key h m) (omega arith) (sym (m .each _ (omega arith)) ∙ c .before .if1 .taken) (c .cut-marks-at .ensures w h (omega arith)),
+          marks-on w key (t .loop .inv .1 w key h m) (omega arith) (sym (m .each _ (omega arith)) ∙ c .before .if1 .taken)
+          (c .cut-marks-at .ensures w h (omega arith)),
     )
 
 loop-again-2 : tie.Need-loop-again-2 Inv-loop μ-loop

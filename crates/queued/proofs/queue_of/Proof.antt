@@ -3,7 +3,7 @@ use mathlib.Core.Path.{_≡_, sym}
 use Prim.Native.Nat.{_*_, _+_, _≤_, _-_}
 use lib.ListN.{length, length-set}
 use native.Mathlib.Omega.{arith}
-use Rattle.parts.specs.Model.{waitingLimit}
+use Rattle.limits.specs.Limits.{waitingLimit}
 use Rattle.map.specs.Model.{waitingIn}
 use Rattle.maprecords.specs.Related.{readMap}
 use Rattle.queued.proofs.Taking.{Taking, waiting-fits, take-start, take-on, take-end}
@@ -13,7 +13,8 @@ use Rattle.queued.proofs.queue_of.Tie as tie
 
 abbrev Inv-loop : tie.InvT-loop
 Inv-loop s n end at₀ starts₀ i₀ at starts i =
-    ((at ≤ end) × ((end * 16 ≤ length s) × ((i ≤ n) × ((n ≤ waitingLimit) × (length starts ≡ waitingLimit + 1))))) × Taking s end (waitingIn (readMap s .map)) at i starts
+    ((at ≤ end) × ((end * 16 ≤ length s) × ((i ≤ n) × ((n ≤ waitingLimit) × (length starts ≡ waitingLimit + 1)))))
+    × Taking s end (waitingIn (readMap s .map)) at i starts
 
 abbrev μ-loop : tie.MeasureT-loop
 μ-loop s n end at₀ starts₀ i₀ at starts i = n - i
@@ -21,8 +22,10 @@ abbrev μ-loop : tie.MeasureT-loop
 loop-holds : tie.Need-loop-holds Inv-loop μ-loop
 loop-holds c =
     let p = c .before .pre .0 in
-    let f = waiting-fits p in
-    ((p .places .fifth, (f .within, (omega arith, (omega (arith, c .before .pre .1, f .few), search needs)))), take-start f (p .places .fifth) (sym (p .sections .fifth)))
+    let f = waiting-fits p in (
+      (p .places .fifth, (f .within, (omega arith, (omega (arith, c .before .pre .1, f .few), search needs)))),
+      take-start f (p .places .fifth) (sym (p .sections .fifth)),
+    )
 
 loop-again : tie.Need-loop-again Inv-loop μ-loop
 loop-again c =

@@ -5,11 +5,9 @@ use Prim.Native.Nat.{ℕ, _/_, _≤_, _<_, _-_}
 use lib.ListN.{length, length-map}
 use native.Mathlib.Omega.{arith}
 use borrow.Author.Needs.{needs}
-use Rattle.lists.proofs.Pads.{length-pad}
-use Rattle.clock.specs.declared.Clock.{Clock}
-use Rattle.clock.specs.declared.Dot.{Dot}
-use Rattle.clock.specs.Dots.{dotLimit, noDot, clockOf}
-use Rattle.clock.proofs.Packs.{pushed}
+use Rattle.limits.specs.Limits.{dotLimit}
+use Rattle.clock.specs.Dots.{clockOf}
+use Rattle.clock.proofs.Packs.{pushed, dot-room}
 use Rattle.records.specs.Records.{recordsFrom}
 use Rattle.records.proofs.Joined.{length-records}
 use Rattle.clockimage.specs.Image.{dotOf}
@@ -20,10 +18,6 @@ use Rattle.runs.proofs.clock_of.Tie as tie
 -- the dots of the first i records, of at most n, are i
 dots-count : (s : List ℕ) (i n : ℕ) → i < n → n ≤ dotLimit → length (map dotOf (recordsFrom s 0 i)) < dotLimit
 dots-count s i n h k = omega (arith, length-map (recordsFrom s 0 i) dotOf, length-records s 0 i)
-
--- there is room for one more
-room : {c : Clock} (l : List Dot) → c ≡ clockOf l → length l < dotLimit → (c .len < dotLimit) × (length (c .dots) ≡ dotLimit)
-room l e h = (omega (arith, ap (λ (x : Clock). x .len) e), ap (λ (x : Clock). length (x .dots)) e ∙ length-pad noDot dotLimit l (omega arith))
 
 abbrev Inv-loop : tie.InvT-loop
 Inv-loop run n clock₀ i₀ clock i = ((i ≤ n) × (n ≤ dotLimit)) × (clock ≡ clockOf (map dotOf (recordsFrom run 0 i)))
@@ -38,21 +32,21 @@ mul-d : tie.Need-mul-d Inv-loop μ-loop
 mul-d c =
     let t = c .before .before in
     let s = t .before .before .before .args .run .now in
-    let r = room _ (t .loop .inv .1) (dots-count s (t .loop .i) (length s / 16) (omega arith) (omega arith)) in
+    let r = dot-room _ (t .loop .inv .1) (dots-count s (t .loop .i) (length s / 16) (omega arith) (omega arith)) in
     omega arith
 
 element-set-from-d : tie.Need-element-set-from-d Inv-loop μ-loop
 element-set-from-d c =
     let t = c .before .before in
     let s = t .before .before .before .args .run .now in
-    let r = room _ (t .loop .inv .1) (dots-count s (t .loop .i) (length s / 16) (omega arith) (omega arith)) in
+    let r = dot-room _ (t .loop .inv .1) (dots-count s (t .loop .i) (length s / 16) (omega arith) (omega arith)) in
     omega arith
 
 add-clock : tie.Need-add-clock Inv-loop μ-loop
 add-clock c =
     let t = c .before .before in
     let s = t .before .before .before .args .run .now in
-    let r = room _ (t .loop .inv .1) (dots-count s (t .loop .i) (length s / 16) (omega arith) (omega arith)) in
+    let r = dot-room _ (t .loop .inv .1) (dots-count s (t .loop .i) (length s / 16) (omega arith) (omega arith)) in
     omega arith
 
 loop-again : tie.Need-loop-again Inv-loop μ-loop

@@ -26,7 +26,8 @@ loop-again c =
       omega arith,
       (
         length-set (t .out) (a .at + t .i) _ ∙ t .inv .1 .0,
-        ap (λ o. set o (a .at + t .i) (getD (a .run .now) (t .i) 0)) (t .inv .1 .1) ∙ paste-suc (a .out .now) (a .at) (a .run .now) (t .i) 0 (omega arith) (omega arith)
+        ap (λ o. set o (a .at + t .i) (getD (a .run .now) (t .i) 0)) (t .inv .1 .1)
+            ∙ paste-suc (a .out .now) (a .at) (a .run .now) (t .i) 0 (omega arith) (omega arith)
             ∙ ap (paste (a .out .now) (a .at) (a .run .now)) (let e : suc (t .i) ≡ t .i + 1 = omega arith in e),
       ),
     )
@@ -38,7 +39,8 @@ returns c =
     let e : c .before .loop .i ≡ length (a .run .now) = omega arith in
     record {
       left = c .before .loop .inv .1 .1 ∙ ap (paste (a .out .now) (a .at) (a .run .now)) e
-          ∙ rw (take-length (a .run .now)) (append-assoc (take (a .at) (a .out .now)) (a .run .now) (drop (a .at + length (a .run .now)) (a .out .now)));
+          ∙ rw (take-length (a .run .now)) (append-assoc (take (a .at) (a .out .now)) (a .run .now)
+          (drop (a .at + length (a .run .now)) (a .out .now)));
       ends = refl;
     }
 

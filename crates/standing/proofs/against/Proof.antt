@@ -7,7 +7,8 @@ use Rattle.clock.specs.declared.Order.{Order}
 use Rattle.clock.specs.declared.Order.the-variants.{Equal, Greater, Less, Concurrent}
 use Rattle.clock.specs.Dots.{dotsOf, orderOf}
 use Rattle.register.specs.declared.Value.{Value}
-use Rattle.register.specs.Values.{valueLimit, noValue}
+use Rattle.limits.specs.Limits.{valueLimit}
+use Rattle.register.specs.Values.{noValue}
 use Rattle.runs.specs.Run.{runDots}
 use Rattle.comparing.specs.Registers.{RunOf, RunsOf}
 use Rattle.comparing.proofs.Cut.{run-dots}

@@ -3,7 +3,8 @@ use mathlib.Core.List.{List}
 use Prim.Native.Nat.{_≤_, _<_, _-_, _+_}
 use lib.ListN.{getD}
 use Rattle.register.specs.declared.Value.{Value}
-use Rattle.register.specs.Values.{valueLimit, noValue}
+use Rattle.limits.specs.Limits.{valueLimit}
+use Rattle.register.specs.Values.{noValue}
 use Rattle.comparing.specs.Registers.{RunOf, RunsOf}
 use Rattle.comparing.proofs.Cut.{run-dots}
 use Rattle.standing.proofs.Registers.{Merging, merging-start, merging-on, merging-off, merging-end}

@@ -25,7 +25,9 @@ returns-2 c =
 
 spent-between-requires : tie.Need-spent-between-requires
 spent-between-requires c κs =
-    (c .before .before .before .before .before .lay-out .ensures .1 (c .before .before .before .if1 .left) .lies, c .before .before .lay-out2 .ensures .1 (c .if2 .left) .lies)
+    let first = c .before .before .before .before .before .lay-out .ensures .1 (c .before .before .before .if1 .left) .lies in
+    let second = c .before .before .lay-out2 .ensures .1 (c .if2 .left) .lies in
+    (first, second)
 
 returns-3 : tie.Need-returns-3
 returns-3 c =

@@ -34,7 +34,8 @@ returns-3 c =
     let oo = c .before .before .before .before .read-op .ensures in
     let m = sym (mm .0) ∙ c .before .before .before .before .before .if1 .left in
     let o = sym (ap (λ (r : ReadOp). r .number) oo) ∙ c .before .before .if2 .left in
-    let v = c .before .order-of .ensures ∙ ap (λ (o : ReadOp). validateOp (readMap (c .before .before .before .before .before .before .before .before .before .before .args .map .now) .map) (o .op)) oo in
+    let v = c .before .order-of .ensures ∙ ap (λ (o : ReadOp). validateOp
+    (readMap (c .before .before .before .before .before .before .before .before .before .before .args .map .now) .map) (o .op)) oo in
     let p = c .order-number .ensures ∙ ap orderNumber v ∙ number-passed _ _ _ m o in
     let q = v ∙ found _ _ _ Fits (both-pass _ _ m o) in
     λ i. record { number = p i; order = q i }

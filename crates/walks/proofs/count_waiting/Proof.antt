@@ -6,7 +6,7 @@ use borrow.Author.Tests.{not-true, not-false}
 use native.Mathlib.Omega.{arith}
 use lib.ListN.{length, drop, length-take}
 use borrow.Author.Tests.{eq-eqb, ne-eqb}
-use Rattle.parts.specs.Model.{waitingLimit}
+use Rattle.limits.specs.Limits.{waitingLimit}
 use Rattle.walks.proofs.Loops.{clock-between, Queueing, queue-start, queue-fails, queue-on, queue-stops, going, gone}
 use Rattle.walks.proofs.count_waiting.Statement.{statement}
 use Rattle.walks.proofs.count_waiting.Tie as tie
@@ -30,22 +30,33 @@ clock-of-requires c κs =
 returns : tie.Need-returns Inv-loop μ-loop
 returns c =
     let s = c .before .before .before .before .before .before in
-    let g = going (s .loop .at) (s .before .before .before .args .l .sixth) (s .loop .n) waitingLimit (c .before .before .before .before .before .loop-test .taken) in
+    let g = going (s .loop .at) (s .before .before .before .args .l .sixth) (s .loop .n) waitingLimit
+    (c .before .before .before .before .before .loop-test .taken) in
     let r = c .before .before .before .before .run-end .ensures in
-    queue-fails _ _ _ (s .loop .inv .1 .1) _ _ _ (r .0) (r .1 .0) (c .before .before .clock-of .ensures ∙ clock-between _ _ _ (omega arith) (omega arith)) (c .before .clock-before .ensures) (g .1) (g .0) (not-true _ (c .if1 .taken))
+    queue-fails _ _ _ (s .loop .inv .1 .1) _ _ _ (r .0) (r .1 .0) (c .before .before .clock-of .ensures
+    ∙ clock-between _ _ _ (omega arith) (omega arith)) (c .before .clock-before .ensures) (g .1) (g .0) (not-true _ (c .if1 .taken))
 
 loop-less : tie.Need-loop-less Inv-loop μ-loop
 loop-less c =
     let s = c .before .before .before .before .before .before in
-    let g = going (s .loop .at) (s .before .before .before .args .l .sixth) (s .loop .n) waitingLimit (c .before .before .before .before .before .loop-test .taken) in
+    let g = going (s .loop .at) (s .before .before .before .args .l .sixth) (s .loop .n) waitingLimit
+    (c .before .before .before .before .before .loop-test .taken) in
     omega (arith, g .1)
 
 loop-again : tie.Need-loop-again Inv-loop μ-loop
 loop-again c =
     let s = c .before .before .before .before .before .before in
-    let g = going (s .loop .at) (s .before .before .before .args .l .sixth) (s .loop .n) waitingLimit (c .before .before .before .before .before .loop-test .taken) in
-    let r = c .before .before .before .before .run-end .ensures in
-    ((r .1 .0, omega (arith, g .1)), (s .loop .inv .1 .0, queue-on _ _ _ (s .loop .inv .1 .1) _ _ _ (r .0) (r .1 .0) (c .before .before .clock-of .ensures ∙ clock-between _ _ _ (omega arith) (omega arith)) (c .before .clock-before .ensures) (g .1) (g .0) (not-false _ (c .if1 .left))))
+    let g = going (s .loop .at) (s .before .before .before .args .l .sixth) (s .loop .n) waitingLimit
+    (c .before .before .before .before .before .loop-test .taken) in
+    let r = c .before .before .before .before .run-end .ensures in (
+      (r .1 .0, omega (arith, g .1)),
+      (
+        s .loop .inv .1 .0,
+        queue-on _ _ _ (s .loop .inv .1 .1) _ _ _ (r .0) (r .1 .0)
+            (c .before .before .clock-of .ensures ∙ clock-between _ _ _ (omega arith) (omega arith)) (c .before .clock-before .ensures) (g .1) (g .0)
+            (not-false _ (c .if1 .left)),
+      ),
+    )
 
 returns-2 : tie.Need-returns-2 Inv-loop μ-loop
 returns-2 c =

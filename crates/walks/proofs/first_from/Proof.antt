@@ -13,7 +13,8 @@ field-is : (field : ℕ) {n : ℕ} {r q : Record} → n ≡ fieldOf field r → 
 field-is field e f = e ∙ ap (fieldOf field) f
 
 abbrev Inv-loop : tie.InvT-loop
-Inv-loop s field bound from end low₀ high₀ low high = ((from ≤ low) × ((low ≤ high) × (high ≤ end))) × ((at : ℕ) → Splits s field bound from end at → (low ≤ at) × (at ≤ high))
+Inv-loop s field bound from end low₀ high₀ low high = ((from ≤ low) × ((low ≤ high) × (high ≤ end)))
+    × ((at : ℕ) → Splits s field bound from end at → (low ≤ at) × (at ≤ high))
 
 abbrev μ-loop : tie.MeasureT-loop
 μ-loop s field bound from end low₀ high₀ low high = high - low

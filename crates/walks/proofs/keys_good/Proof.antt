@@ -5,7 +5,7 @@ use borrow.Author.Needs.{needs}
 use borrow.Author.Tests.{not-true, not-false}
 use native.Mathlib.Omega.{arith}
 use lib.ListN.{length, getD}
-use Rattle.parts.specs.Model.{waitingLimit}
+use Rattle.limits.specs.Limits.{waitingLimit}
 use Rattle.walks.proofs.Loops.{Listing, keys-start, keys-fail, keys-lack, keys-on, keys-stop}
 use Rattle.walks.proofs.Keys.{key-index, count-room}
 use lib.ListN.{length-set}
@@ -22,13 +22,18 @@ loop-holds : tie.Need-loop-holds Inv-loop μ-loop
 loop-holds c = (search needs, keys-start _ _ _ _)
 
 returns : tie.Need-returns Inv-loop μ-loop
-returns c = keys-fail _ _ _ _ (c .before .before .before .before .before .loop .inv .1) _ _ (c .before .before .before .read-record .ensures) (c .before .key-test .ensures) (omega arith) (not-true _ (c .if1 .taken))
+returns c = keys-fail _ _ _ _ (c .before .before .before .before .before .loop .inv .1) _ _ (c .before .before .before .read-record .ensures)
+    (c .before .key-test .ensures) (omega arith) (not-true _ (c .if1 .taken))
 
 array-read-c : tie.Need-array-read-c Inv-loop μ-loop
-array-read-c c = let k = key-index (c .before .before .before .before .before .before .before .before .before .args .n) (c .before .before .before .before .before .read-record .result) (c .before .before .before .key-test .ensures) (not-false _ (c .before .before .if1 .left)) in omega arith
+array-read-c c = let k = key-index (c .before .before .before .before .before .before .before .before .before .args .n)
+    (c .before .before .before .before .before .read-record .result) (c .before .before .before .key-test .ensures)
+    (not-false _ (c .before .before .if1 .left)) in omega arith
 
 returns-2 : tie.Need-returns-2 Inv-loop μ-loop
-returns-2 c = keys-lack _ _ _ _ (c .before .before .before .before .before .before .before .before .loop .inv .1) _ _ (c .before .before .before .before .before .before .read-record .ensures) (c .before .before .before .before .key-test .ensures) (omega arith) (not-false _ (c .before .before .before .if1 .left)) (not-true _ (c .if2 .taken))
+returns-2 c = keys-lack _ _ _ _ (c .before .before .before .before .before .before .before .before .loop .inv .1) _ _
+    (c .before .before .before .before .before .before .read-record .ensures) (c .before .before .before .before .key-test .ensures) (omega arith)
+    (not-false _ (c .before .before .before .if1 .left)) (not-true _ (c .if2 .taken))
 
 add-counts : tie.Need-add-counts Inv-loop μ-loop
 add-counts c =
@@ -37,10 +42,17 @@ add-counts c =
     let k = count-room (s .loop .low) (r .key * 256 + r .index) (getD (s .loop .counts) (r .index) 0) (not-false _ (c .if2 .left)) in omega arith
 
 array-write-counts : tie.Need-array-write-counts Inv-loop μ-loop
-array-write-counts c = let k = key-index (c .before .before .before .before .before .before .before .before .before .before .args .n) (c .before .before .before .before .before .before .read-record .result) (c .before .before .before .before .key-test .ensures) (not-false _ (c .before .before .before .if1 .left)) in omega arith
+array-write-counts c = let k = key-index (c .before .before .before .before .before .before .before .before .before .before .args .n)
+    (c .before .before .before .before .before .before .read-record .result) (c .before .before .before .before .key-test .ensures)
+    (not-false _ (c .before .before .before .if1 .left)) in omega arith
 
 loop-again : tie.Need-loop-again Inv-loop μ-loop
-loop-again c = ((omega arith, (omega arith, simp length-set (omega arith))), keys-on _ _ _ _ (c .before .before .before .before .before .before .before .before .loop .inv .1) _ _ (c .before .before .before .before .before .before .read-record .ensures) (c .before .before .before .before .key-test .ensures) (omega arith) (not-false _ (c .before .before .before .if1 .left)) (not-false _ (c .if2 .left)))
+loop-again c = (
+  (omega arith, (omega arith, simp length-set (omega arith))),
+  keys-on _ _ _ _ (c .before .before .before .before .before .before .before .before .loop .inv .1) _ _
+      (c .before .before .before .before .before .before .read-record .ensures) (c .before .before .before .before .key-test .ensures) (omega arith)
+      (not-false _ (c .before .before .before .if1 .left)) (not-false _ (c .if2 .left)),
+)
 
 returns-3 : tie.Need-returns-3 Inv-loop μ-loop
 returns-3 c = keys-stop _ _ _ _ (c .before .loop .inv .1) (omega arith)

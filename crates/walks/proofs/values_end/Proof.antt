@@ -18,21 +18,42 @@ loop-holds c = (search needs, (omega arith, (omega arith, values-start _ _ _ _ _
 
 returns : tie.Need-returns Inv-loop μ-loop
 returns c =
-    let s = c .before .before .before .before in
-    (values-fail _ _ _ _ _ _ (s .loop .inv .1 .1 .1) _ _ (c .before .before .read-record .ensures) (c .before .value-test .ensures) (omega arith) (omega arith) (not-true _ (c .if1 .taken)), (omega arith, omega arith))
+    let s = c .before .before .before .before in (
+      values-fail _ _ _ _ _ _ (s .loop .inv .1 .1 .1) _ _ (c .before .before .read-record .ensures) (c .before .value-test .ensures) (omega arith)
+          (omega arith) (not-true _ (c .if1 .taken)),
+      (omega arith, omega arith),
+    )
 
 returns-2 : tie.Need-returns-2 Inv-loop μ-loop
 returns-2 c =
-    let s = c .before .before .before .before .before .before in
-    (values-lack _ _ _ _ _ _ (s .loop .inv .1 .1 .1) _ _ (c .before .before .before .before .read-record .ensures) (c .before .before .before .value-test .ensures) (omega arith) (omega arith) _ (c .before .run-end .ensures .0) (omega arith) (not-false _ (c .before .before .if1 .left)) (c .if2 .taken), (omega arith, omega arith))
+    let s = c .before .before .before .before .before .before in (
+      values-lack _ _ _ _ _ _ (s .loop .inv .1 .1 .1) _ _ (c .before .before .before .before .read-record .ensures)
+          (c .before .before .before .value-test .ensures) (omega arith) (omega arith) _ (c .before .run-end .ensures .0) (omega arith)
+          (not-false _ (c .before .before .if1 .left)) (c .if2 .taken),
+      (omega arith, omega arith),
+    )
 
 loop-again : tie.Need-loop-again Inv-loop μ-loop
 loop-again c =
-    let s = c .before .before .before .before .before .before in
-    (omega arith, (omega arith, (omega arith, values-on _ _ _ _ _ _ (s .loop .inv .1 .1 .1) _ _ (c .before .before .before .before .read-record .ensures) (c .before .before .before .value-test .ensures) (omega arith) (omega arith) _ (c .before .run-end .ensures .0) (omega arith) (not-false _ (c .before .before .if1 .left)) (c .if2 .left))))
+    let s = c .before .before .before .before .before .before in (
+      omega arith,
+      (
+        omega arith,
+        (
+          omega arith,
+          values-on _ _ _ _ _ _ (s .loop .inv .1 .1 .1) _ _
+              (c .before .before .before .before .read-record .ensures) (c .before .before .before .value-test .ensures) (omega arith) (omega arith) _
+              (c .before .run-end .ensures .0) (omega arith) (not-false _ (c .before .before .if1 .left)) (c .if2 .left),
+        ),
+      ),
+    )
 
 returns-3 : tie.Need-returns-3 Inv-loop μ-loop
-returns-3 c = (values-stop _ _ _ _ _ _ (c .before .loop .inv .1 .1 .1) (λ k. let e = c .before .before .lower .ensures .1 (omega arith) in omega arith), (omega arith, omega arith))
+returns-3 c = (
+  values-stop _ _ _ _ _ _ (c .before .loop .inv .1 .1 .1) (λ k. let e = c .before .before .lower .ensures .1 (omega arith) in
+      omega arith),
+  (omega arith, omega arith),
+)
 
 pub values-end-spec : {M : Type 1} → statement M
 values-end-spec =

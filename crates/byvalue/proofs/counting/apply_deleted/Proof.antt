@@ -36,7 +36,7 @@ unfolding entryDots
 fewer-requires c κs =
     let o = c .before .before .before .before .before .before in
     let w = read-within _ (o .before .before .before .read-map .ensures) in (
-      judged-out (valid-apply (w .valid) (op-valid (read-op-within _ (o .read-op .ensures)))) (c .apply .ensures) .0,
+      judged-out (valid-apply (w .valid) (op-valid (read-op-within _ (o .read-op .ensures)))) (c .apply .ensures),
       removal-fewer _ _ (c .before .before .if3 .left) (c .apply .ensures),
     )
 

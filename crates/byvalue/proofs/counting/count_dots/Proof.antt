@@ -2,8 +2,8 @@
 use mathlib.Core.Path.{_≡_}
 use Prim.Native.Nat.{_+_, _*_, _≤_, _-_}
 use lib.ListN.{length, drop}
-use Rattle.parts.specs.Model.{dotsIn, entriesOf}
-use Rattle.parts.proofs.Packs.{noneRead}
+use Rattle.entries.specs.Model.{dotsIn, entriesOf}
+use Rattle.entries.proofs.Packs.{noneRead}
 use Rattle.promises.specs.Deleted.{dotsAmong}
 use Rattle.answers.proofs.Totals.{total-on, total-end}
 use borrow.Author.Needs.{needs}

@@ -29,7 +29,7 @@ fewer-requires : tie.Need-fewer-requires
 unfolding entryDots
 fewer-requires c κs =
     let w = read-within _ (c .before .before .before .before .before .before .before .read-map .ensures) in
-    (judged-out (valid-reset (w .valid) _) (c .reset-remove .ensures) .0, reset-fewer _ _ (c .reset-remove .ensures))
+    (judged-out (valid-reset (w .valid) _) (c .reset-remove .ensures), reset-fewer _ _ (c .reset-remove .ensures))
 
 returns-3 : tie.Need-returns-3
 unfolding entryDots

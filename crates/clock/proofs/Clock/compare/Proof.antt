@@ -10,8 +10,10 @@ compare-level-requires : tie.Need-compare-level-requires
 compare-level-requires c κs = sym (c .before .same-actors .ensures) ∙ c .if1 .taken
 
 compare-beside-requires : tie.Need-compare-beside-requires
-compare-beside-requires c κs =
-    (lawful-told (sym (c .before .before .before .is-lawful .ensures) ∙ c .before .before .if2 .taken), lawful-told (sym (c .before .is-lawful2 .ensures) ∙ c .if3 .taken))
+compare-beside-requires c κs = (
+  lawful-told (sym (c .before .before .before .is-lawful .ensures) ∙ c .before .before .if2 .taken),
+  lawful-told (sym (c .before .is-lawful2 .ensures) ∙ c .if3 .taken),
+)
 
 returns-3 : tie.Need-returns-3
 unfolding orderOf

@@ -1,7 +1,7 @@
 -- `Clock::compare_beside` meets its contract: the loop walks both clocks side by side, and keeps what each covers of the other.
-use mathlib.Core.Path.{_≡_, ap, ap₂, _∙_}
+use mathlib.Core.Path.{ap, ap₂, _∙_}
 use mathlib.Core.Bool.{_&&_}
-use mathlib.Core.Logic.{_⊎_, ⊎-elim, inl, inr}
+use mathlib.Core.Logic.{_⊎_, ⊎-elim, inl, inr, ⊎-swap}
 use Prim.Native.Nat.{_≤_, _<_, _-_, _+_}
 use lib.Dec.{leb}
 use lib.ListN.{length}
@@ -15,7 +15,8 @@ use Rattle.clock.proofs.Clock.compare_beside.Tie as tie
 
 abbrev Inv-loop : tie.InvT-loop
 Inv-loop self other n m over₀ under₀ i₀ j₀ over under i j =
-    (i ≤ n) × (j ≤ m) × Covering (self .dots) (self .len) i (other .dots) (other .len) j over × Covering (other .dots) (other .len) j (self .dots) (self .len) i under
+    (i ≤ n) × (j ≤ m) × Covering (self .dots) (self .len) i (other .dots) (other .len) j over
+    × Covering (other .dots) (other .len) j (self .dots) (self .len) i under
 
 abbrev μ-loop : tie.MeasureT-loop
 μ-loop self other n m over₀ under₀ i₀ j₀ over under i j = (n - i) + (m - j)
@@ -51,8 +52,12 @@ loop-again c =
     let y = c .before .before .before in
     let s = y .before .before .before .before .before in
     let q = level y in
-    let g = s .loop .inv in
-    (omega (arith, q, s .before .before .size .ensures), search needs, covering-past (g .2) (q .0) (q .1) (c .if3 .taken), covering-missed (g .3) (s .before .before .before .pre .0) (q .1) (q .0) (c .if3 .taken))
+    let g = s .loop .inv in (
+      omega (arith, q, s .before .before .size .ensures),
+      search needs,
+      covering-past (g .2) (q .0) (q .1) (c .if3 .taken),
+      covering-missed (g .3) (s .before .before .before .pre .0) (q .1) (q .0) (c .if3 .taken),
+    )
 
 loop-less-2 : tie.Need-loop-less-2 Inv-loop μ-loop
 loop-less-2 c = omega (arith, ltb-true)
@@ -62,8 +67,13 @@ loop-again-2 c =
     let y = c .before .before .before .before .before .before in
     let s = y .before .before .before .before .before in
     let q = level y in
-    let g = s .loop .inv in
-    (search needs, omega (arith, q, s .before .size2 .ensures), covering-missed (g .2) (s .before .before .before .pre .1) (q .0) (q .1) (c .if4 .taken), covering-past (g .3) (q .1) (q .0) (c .if4 .taken))
+    let g = s .loop .inv in (
+      search needs,
+      omega (arith, q, s .before .size2 .ensures),
+      covering-missed (g .2) (s .before .before .before .pre .1) (q .0) (q .1)
+          (c .if4 .taken),
+      covering-past (g .3) (q .1) (q .0) (c .if4 .taken),
+    )
 
 loop-less-3 : tie.Need-loop-less-3 Inv-loop μ-loop
 loop-less-3 c = omega (arith, ltb-true)
@@ -74,8 +84,12 @@ loop-again-3 c =
     let y = t .before .before .before .before .before .before in
     let s = y .before .before .before .before .before in
     let q = level y in
-    let g = s .loop .inv in
-    (omega (arith, q, s .before .before .size .ensures), omega (arith, q, s .before .size2 .ensures), covering-both (g .2) (q .0) (q .1) (omega arith), covering-both (g .3) (q .1) (q .0) (omega arith))
+    let g = s .loop .inv in (
+      omega (arith, q, s .before .before .size .ensures),
+      omega (arith, q, s .before .size2 .ensures),
+      covering-both (g .2) (q .0) (q .1) (omega arith),
+      covering-both (g .3) (q .1) (q .0) (omega arith),
+    )
 
 -- one of the two is used up
 left-over : (c : tie.Left-loop Inv-loop μ-loop) → let s = c .before in
@@ -86,10 +100,6 @@ left-over c =
     (λ w. inl (omega (arith, w .left, s .before .before .size .ensures)))
     (c .loop-test .came)
 
-turned : {A B : Type 0} → A ⊎ B → B ⊎ A
-turned (inl a) = inr a
-turned (inr b) = inl b
-
 returns-2 : tie.Need-returns-2 Inv-loop μ-loop
 unfolding orderOf
 returns-2 c =
@@ -99,7 +109,7 @@ returns-2 c =
     c .outcome .ensures
     ∙ ap₂ outcome
     (ap (λ k. s .loop .over && leb k (s .loop .j)) (s .before .size2 .ensures .0) ∙ covering-end (s .loop .inv .2) (p .1) e)
-    (ap (λ k. s .loop .under && leb k (s .loop .i)) (s .before .before .size .ensures .0) ∙ covering-end (s .loop .inv .3) (p .0) (turned e))
+    (ap (λ k. s .loop .under && leb k (s .loop .i)) (s .before .before .size .ensures .0) ∙ covering-end (s .loop .inv .3) (p .0) (⊎-swap e))
 
 pub compare-beside-spec : {M : Type 1} → statement M
 compare-beside-spec =

@@ -3,10 +3,10 @@ use mathlib.Core.Path.{_≡_, refl, ap₂, _∙_}
 use mathlib.Core.Bool.{true}
 use Prim.Native.Nat.{ℕ, _≤_, _<_, _-_}
 use lib.ListN.{length, drop}
-use Rattle.lists.specs.Rise.{alike}
-use Rattle.lists.proofs.Alike.{alike-here, alike-length, alike-ascends, alike-turned}
+use Rattle.listlaws.specs.Rise.{alike}
+use Rattle.listlaws.proofs.Alike.{alike-here, alike-length, alike-ascends, alike-turned}
 use Rattle.clock.specs.Dots.{noDot, dotsOf, outcome, orderOf}
-use Rattle.clock.specs.Lawful.{sameActors}
+use Rattle.clock.specs.Walking.{sameActors}
 use Rattle.clock.proofs.Walks.{Covering, covering-start, covering-both, covering-all, covering-gone, both-gone}
 use borrow.Author.Needs.{needs}
 use native.Mathlib.Omega.{arith}
@@ -15,7 +15,8 @@ use Rattle.clock.proofs.Clock.compare_level.Tie as tie
 
 abbrev Inv-loop : tie.InvT-loop
 Inv-loop self other n over₀ under₀ i₀ over under i =
-    (i ≤ n) × Covering (self .dots) (self .len) i (other .dots) (other .len) i over × Covering (other .dots) (other .len) i (self .dots) (self .len) i under
+    (i ≤ n) × Covering (self .dots) (self .len) i (other .dots) (other .len) i over
+    × Covering (other .dots) (other .len) i (self .dots) (self .len) i under
     × ((low : ℕ) × (alike (λ d. d .actor) low (drop i (dotsOf self)) (drop i (dotsOf other)) ≡ true))
 
 abbrev μ-loop : tie.MeasureT-loop
@@ -50,7 +51,8 @@ loop-again c =
     let a = s .before .before .args in
     let h : s .loop .i < length (dotsOf (a .t1)) = omega (arith, s .before .size .ensures) in
     let k : s .loop .i < length (dotsOf (a .t2)) = omega (arith, long (s .before)) in
-    let r = alike-here (λ d. d .actor) (a .t1 .dots) (a .t1 .len) (a .t2 .dots) (a .t2 .len) (s .loop .i) (s .loop .inv .3 .0) noDot h k refl (s .loop .inv .3 .1) in
+    let r = alike-here (λ d. d .actor) (a .t1 .dots) (a .t1 .len) (a .t2 .dots) (a .t2 .len) (s .loop .i) (s .loop .inv .3 .0) noDot h k refl
+    (s .loop .inv .3 .1) in
     (omega arith, covering-both (s .loop .inv .1) h k (r .0), covering-both (s .loop .inv .2) k h (omega (arith, r .0)), (_, r .1))
 
 returns-2 : tie.Need-returns-2 Inv-loop μ-loop
@@ -58,7 +60,8 @@ unfolding orderOf
 returns-2 c =
     let s = c .before .before in
     c .outcome .ensures
-    ∙ ap₂ outcome (covering-all (s .loop .inv .1) (omega (arith, long (s .before)))) (covering-all (s .loop .inv .2) (omega (arith, s .before .size .ensures)))
+    ∙ ap₂ outcome (covering-all (s .loop .inv .1) (omega (arith, long (s .before))))
+    (covering-all (s .loop .inv .2) (omega (arith, s .before .size .ensures)))
 
 pub compare-level-spec : {M : Type 1} → statement M
 compare-level-spec =

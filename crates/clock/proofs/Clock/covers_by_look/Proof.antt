@@ -2,7 +2,7 @@
 use mathlib.Core.Bool.{true, false}
 use Prim.Native.Nat.{_≤_, _-_}
 use borrow.Author.Tests.{lt-ltb, le-ltb}
-use Rattle.lists.proofs.Passing.{Passing, passing-start, passing-here, passing-on, passing-end}
+use Rattle.listlaws.proofs.Passing.{Passing, passing-start, passing-here, passing-on, passing-end}
 use Rattle.clock.specs.Dots.{noDot, dotsOf, beyond, covers}
 use borrow.Author.Needs.{needs}
 use native.Mathlib.Omega.{arith}
@@ -20,10 +20,15 @@ loop-holds c = (search needs, passing-start)
 
 returns : tie.Need-returns Inv-loop μ-loop
 unfolding covers
-returns c = passing-here noDot (c .before .before .before .before .before .loop .inv .1) (omega arith) (lt-ltb _ _ (rw (c .before .before .get .ensures) at (c .if1 .taken)))
+returns c = passing-here noDot (c .before .before .before .before .before .loop .inv .1) (omega arith)
+    (lt-ltb _ _ (rw (c .before .before .get .ensures) at (c .if1 .taken)))
 
 loop-again : tie.Need-loop-again Inv-loop μ-loop
-loop-again c = (search needs, passing-on noDot (c .before .before .before .before .before .loop .inv .1) (omega arith) (le-ltb _ _ (rw (c .before .before .get .ensures) at (c .if1 .left))))
+loop-again c = (
+  search needs,
+  passing-on noDot (c .before .before .before .before .before .loop .inv .1) (omega arith)
+      (le-ltb _ _ (rw (c .before .before .get .ensures) at (c .if1 .left))),
+)
 
 returns-2 : tie.Need-returns-2 Inv-loop μ-loop
 unfolding covers

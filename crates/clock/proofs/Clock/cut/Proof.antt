@@ -10,7 +10,8 @@ use Rattle.clock.proofs.Clock.cut.Statement.{statement}
 use Rattle.clock.proofs.Clock.cut.Tie as tie
 
 -- what the sift leaves
-left : (c : tie.After-size) → c .before .sift .result ≡ clockOf (cutDots (dotsOf (c .before .before .args .by)) (dotsOf (c .before .before .args .self)))
+left : (c : tie.After-size) → c .before .sift .result ≡ clockOf (cutDots
+    (dotsOf (c .before .before .args .by)) (dotsOf (c .before .before .args .self)))
 unfolding cutDots
 left c = c .before .sift .ensures
 

@@ -5,11 +5,11 @@ use mathlib.Core.List.{List}
 use Prim.Native.Nat.{ℕ, _≤_, _-_}
 use lib.ListN.{drop}
 use lib.Dec.{ltb}
-use Rattle.lists.specs.Rise.{rising}
-use Rattle.lists.proofs.Rising.{rising-stops, rising-goes, rising-end}
+use Rattle.listlaws.specs.Rise.{rising}
+use Rattle.listlaws.proofs.Rising.{rising-stops, rising-goes, rising-end}
 use Rattle.clock.specs.declared.Dot.{Dot}
 use Rattle.clock.specs.Dots.{noDot, dotsOf}
-use Rattle.clock.specs.Lawful.{isLawful}
+use Rattle.clock.specs.Walking.{isLawful}
 use borrow.Author.Needs.{needs}
 use native.Mathlib.Omega.{arith}
 use Rattle.clock.proofs.Clock.is_lawful.Statement.{statement}
@@ -32,13 +32,17 @@ unfolding isLawful
 returns c =
     let s = c .before .before .before .before .before in
     let a = s .before .before .args in
-    rising-stops (λ d. d .actor) (λ d. ltb 0 (d .counter)) (a .t1 .dots) (a .t1 .len) (s .loop .i) (s .loop .low) noDot (omega arith) (s .loop .inv .1) (c .if1 .taken)
+    rising-stops (λ d. d .actor) (λ d. ltb 0 (d .counter)) (a .t1 .dots) (a .t1 .len) (s .loop .i) (s .loop .low) noDot (omega arith)
+    (s .loop .inv .1) (c .if1 .taken)
 
 loop-again : tie.Need-loop-again Inv-loop μ-loop
 loop-again c =
     let s = c .before .before .before .before .before in
-    let a = s .before .before .args in
-    (omega arith, rising-goes (λ d. d .actor) (λ d. ltb 0 (d .counter)) (a .t1 .dots) (a .t1 .len) (s .loop .i) (s .loop .low) noDot (omega arith) (s .loop .inv .1) (c .if1 .left))
+    let a = s .before .before .args in (
+      omega arith,
+      rising-goes (λ d. d .actor) (λ d. ltb 0 (d .counter)) (a .t1 .dots) (a .t1 .len) (s .loop .i) (s .loop .low) noDot (omega arith)
+          (s .loop .inv .1) (c .if1 .left),
+    )
 
 returns-2 : tie.Need-returns-2 Inv-loop μ-loop
 unfolding isLawful

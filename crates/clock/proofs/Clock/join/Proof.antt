@@ -4,8 +4,8 @@ use mathlib.Core.Logic.{_⊎_, ⊎-elim, inl, inr}
 use Prim.Native.Nat.{_≤_, _<_, _-_, _+_}
 use lib.ListN.{length}
 use borrow.Author.Tests.{lt-ltb, le-ltb, ltb-true, ltb-false}
-use Rattle.lists.specs.Order.{by}
-use Rattle.lists.proofs.Weaving.{Weaving, weaving-start, weaving-first, weaving-second, weaving-both, weaving-end}
+use Rattle.listlaws.specs.Order.{by}
+use Rattle.listlaws.proofs.Weaving.{Weaving, weaving-start, weaving-first, weaving-second, weaving-both, weaving-end}
 use Rattle.clock.specs.Dots.{noDot, dotsOf, fitted, largerDot, joinDots}
 use borrow.Author.Needs.{needs}
 use native.Mathlib.Omega.{arith}
@@ -27,7 +27,8 @@ element-copy-out-y c = omega (arith, ltb-true)
 
 -- both places are in use
 level : (c : tie.After-y Inv-loop μ-loop) → let s = c .before .before .before .before in
-    (s .loop .i < length (dotsOf (s .before .before .before .before .args .t1))) × (s .loop .j < length (dotsOf (s .before .before .before .before .args .t2)))
+    (s .loop .i < length (dotsOf (s .before .before .before .before .args .t1)))
+    × (s .loop .j < length (dotsOf (s .before .before .before .before .args .t2)))
 level c =
     let s = c .before .before .before .before in
     let k : s .loop .j < s .before .before .size2 .result = ltb-true _ _ (c .before .before .if1 .taken) in
@@ -36,8 +37,11 @@ level c =
 loop-again : tie.Need-loop-again Inv-loop μ-loop
 loop-again c =
     let y = c .before .before .before .before in
-    let s = y .before .before .before .before in
-    (omega (arith, level y, s .before .before .before .size .ensures), search needs, weaving-first noDot (s .loop .inv .2) (level y .0) (level y .1) (lt-ltb _ _ (c .before .if2 .taken)) (c .push .ensures))
+    let s = y .before .before .before .before in (
+      omega (arith, level y, s .before .before .before .size .ensures),
+      search needs,
+      weaving-first noDot (s .loop .inv .2) (level y .0) (level y .1) (lt-ltb _ _ (c .before .if2 .taken)) (c .push .ensures),
+    )
 
 loop-less : tie.Need-loop-less Inv-loop μ-loop
 loop-less c = omega (arith, ltb-true)
@@ -52,19 +56,28 @@ loop-again-2 : tie.Need-loop-again-2 Inv-loop μ-loop
 loop-again-2 c =
     let t = c .before .before .before .before in
     let y = t .before .before .before in
-    let s = y .before .before .before .before in
-    (search needs, omega (arith, level y, s .before .before .size2 .ensures), weaving-second noDot (s .loop .inv .2) (level y .0) (level y .1) (le-ltb _ _ (t .if2 .left)) (lt-ltb _ _ (c .before .if3 .taken)) (c .push2 .ensures))
+    let s = y .before .before .before .before in (
+      search needs,
+      omega (arith, level y, s .before .before .size2 .ensures),
+      weaving-second noDot (s .loop .inv .2) (level y .0) (level y .1) (le-ltb _ _ (t .if2 .left)) (lt-ltb _ _ (c .before .if3 .taken))
+          (c .push2 .ensures),
+    )
 
 loop-again-3 : tie.Need-loop-again-3 Inv-loop μ-loop
 loop-again-3 c =
     let t = c .before .before .before .before .before in
     let y = t .before .before .before in
-    let s = y .before .before .before .before in
-    (omega (arith, level y, s .before .before .before .size .ensures), omega (arith, level y, s .before .before .size2 .ensures), weaving-both noDot (s .loop .inv .2) (level y .0) (level y .1) (le-ltb _ _ (t .if2 .left)) (le-ltb _ _ (c .before .before .if3 .left)) (rw (← c .before .larger .ensures) (c .push3 .ensures)))
+    let s = y .before .before .before .before in (
+      omega (arith, level y, s .before .before .before .size .ensures),
+      omega (arith, level y, s .before .before .size2 .ensures),
+      weaving-both noDot (s .loop .inv .2) (level y .0) (level y .1) (le-ltb _ _ (t .if2 .left)) (le-ltb _ _ (c .before .before .if3 .left))
+          (rw (← c .before .larger .ensures) (c .push3 .ensures)),
+    )
 
 -- one of the two is used up
 left-over : (c : tie.Left-loop Inv-loop μ-loop) → let s = c .before in
-    (length (dotsOf (s .before .before .before .before .args .t1)) ≤ s .loop .i) ⊎ (length (dotsOf (s .before .before .before .before .args .t2)) ≤ s .loop .j)
+    (length (dotsOf (s .before .before .before .before .args .t1)) ≤ s .loop .i)
+    ⊎ (length (dotsOf (s .before .before .before .before .args .t2)) ≤ s .loop .j)
 left-over c =
     let s = c .before in
     ⊎-elim (λ w. inr (omega (arith, ltb-false (s .loop .j) (s .before .before .size2 .result) (w .1 .left), s .before .before .size2 .ensures)))

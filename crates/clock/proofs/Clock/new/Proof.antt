@@ -1,5 +1,5 @@
 -- `Clock::new` meets its contract.
-use Rattle.lists.specs.Pad.{pad}
+use Rattle.listlaws.specs.Pad.{pad}
 use borrow.Author.Needs.{needs}
 use Rattle.clock.proofs.Clock.new.Statement.{statement}
 use Rattle.clock.proofs.Clock.new.Tie as tie

@@ -6,8 +6,10 @@ use Rattle.clock.proofs.Clock.sift.Statement.{statement}
 use Rattle.clock.proofs.Clock.sift.Tie as tie
 
 sift-beside-requires : tie.Need-sift-beside-requires
-sift-beside-requires c κs =
-    (lawful-told (sym (c .before .before .before .is-lawful .ensures) ∙ c .before .before .if1 .taken), lawful-told (sym (c .before .is-lawful2 .ensures) ∙ c .if2 .taken))
+sift-beside-requires c κs = (
+  lawful-told (sym (c .before .before .before .is-lawful .ensures) ∙ c .before .before .if1 .taken),
+  lawful-told (sym (c .before .is-lawful2 .ensures) ∙ c .if2 .taken),
+)
 
 pub sift-spec : {M : Type 1} → statement M
 sift-spec =

@@ -4,10 +4,12 @@ use mathlib.Core.Logic.{⊎-elim}
 use mathlib.Core.List.{[]}
 use Prim.Native.Nat.{_≤_, _-_, _+_, _<_}
 use lib.ListN.{length, getD}
-use Rattle.lists.proofs.Sifting.{Sifting, sifting-start, sifting-keep, sifting-drop, sifting-room, sifting-end}
-use Rattle.lists.proofs.Sifts.{length-sift}
-use Rattle.lists.proofs.Beside.{beside-start, beside-past, beside-both, beside-next}
-use Rattle.clock.specs.Dots.{noDot, dotsOf, clockOf, counterIn, kept, dotLimit}
+use Rattle.listlaws.proofs.Sifting.{Sifting, sifting-start, sifting-keep, sifting-drop, sifting-room, sifting-end}
+use Rattle.listlaws.proofs.Sifts.{length-sift}
+use Rattle.listlaws.proofs.Beside.{beside-start, beside-past, beside-both, beside-next}
+use Rattle.clock.specs.Dots.{noDot, dotsOf, clockOf, counterIn}
+use Rattle.limits.specs.Limits.{dotLimit}
+use Rattle.clock.specs.Walking.{kept}
 use Rattle.clock.proofs.Packs.{pushed}
 use Rattle.clock.proofs.Walks.{Walk, walk-found, walk-missed}
 use borrow.Author.Needs.{needs}
@@ -17,7 +19,8 @@ use Rattle.clock.proofs.Clock.sift_beside.Tie as tie
 
 abbrev Inv-loop : tie.InvT-loop
 Inv-loop same self by n m out₀ i₀ j₀ out i j =
-    (i ≤ n) × (j ≤ m) × Sifting clockOf (kept same (dotsOf by)) (λ d. d) [] (self .dots) (self .len) i out × Walk (by .dots) (by .len) j (self .dots) (self .len) i
+    (i ≤ n) × (j ≤ m) × Sifting clockOf (kept same (dotsOf by)) (λ d. d) [] (self .dots) (self .len) i out
+    × Walk (by .dots) (by .len) j (self .dots) (self .len) i
 
 abbrev μ-loop : tie.MeasureT-loop
 μ-loop same self by n m out₀ i₀ j₀ out i j = (n - i) + (m - j)
@@ -30,8 +33,13 @@ loop-holds c =
 -- the other clock's dot is of an earlier actor
 loop-again : tie.Need-loop-again Inv-loop μ-loop
 loop-again c =
-    let s = c .before .before .before .before .before .before .before in
-    (search needs, search needs, s .loop .inv .2, beside-past noDot (s .loop .inv .3) (omega arith) (omega (arith, s .before .before .size2 .ensures)) (c .if2 .taken))
+    let s = c .before .before .before .before .before .before .before in (
+      search needs,
+      search needs,
+      s .loop .inv .2,
+      beside-past noDot (s .loop .inv .3) (omega arith) (omega (arith, s .before .before .size2 .ensures))
+          (c .if2 .taken),
+    )
 
 -- places in use
 used : (c : tie.Joined1 Inv-loop μ-loop) → let s = c .before .before .before in
@@ -58,7 +66,12 @@ met c =
     (walk-found g k h (w .7 .taken) ∙ sym (w .9), rw (w .8) (beside-both noDot g k h (w .7 .taken)), omega arith, omega arith))
     (λ v. ⊎-elim
     (λ w. (walk-missed g k (λ h. omega (arith, w .4 .left, w .7 .left)) ∙ sym (w .9), rw (w .8) (beside-next noDot g k), omega arith, omega arith))
-    (λ w. (walk-missed g k (λ h. absurd (omega (arith, w .0 .left, s .before .before .size2 .ensures))) ∙ sym (w .2), rw (w .1) (beside-next noDot g k), omega arith, omega arith))
+    (λ w. (
+      walk-missed g k (λ h. absurd (omega (arith, w .0 .left, s .before .before .size2 .ensures))) ∙ sym (w .2),
+      rw (w .1) (beside-next noDot g k),
+      omega arith,
+      omega arith,
+    ))
     v)
     (c .if1 .came)
 
@@ -70,7 +83,13 @@ room c =
     let a = s .before .before .before .before .args in
     let t = rw (← met j .0) at (sym (c .before .stays .ensures) ∙ c .if4 .taken) in
     let r = sifting-room noDot (s .loop .inv .2) (used j) refl t in
-    omega (arith, ap (λ k. k .len) (r .1), r .2, length-sift (kept (a .same) (dotsOf (a .t2))) (λ d. d) (dotsOf (a .t1)), s .before .before .before .size .ensures)
+    omega (
+      arith,
+      ap (λ k. k .len) (r .1),
+      r .2,
+      length-sift (kept (a .same) (dotsOf (a .t2))) (λ d. d) (dotsOf (a .t1)),
+      s .before .before .before .size .ensures,
+    )
 
 loop-again-2 : tie.Need-loop-again-2 Inv-loop μ-loop
 loop-again-2 c =

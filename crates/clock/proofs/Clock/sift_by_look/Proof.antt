@@ -2,9 +2,11 @@
 use mathlib.Core.Path.{refl, ap, sym, _∙_}
 use mathlib.Core.List.{[]}
 use Prim.Native.Nat.{_≤_, _-_, _<_}
-use Rattle.lists.proofs.Sifting.{Sifting, sifting-start, sifting-keep, sifting-drop, sifting-room, sifting-end}
-use Rattle.lists.proofs.Sifts.{length-sift}
-use Rattle.clock.specs.Dots.{noDot, dotsOf, clockOf, kept, dotLimit}
+use Rattle.listlaws.proofs.Sifting.{Sifting, sifting-start, sifting-keep, sifting-drop, sifting-room, sifting-end}
+use Rattle.listlaws.proofs.Sifts.{length-sift}
+use Rattle.clock.specs.Dots.{noDot, dotsOf, clockOf}
+use Rattle.limits.specs.Limits.{dotLimit}
+use Rattle.clock.specs.Walking.{kept}
 use Rattle.clock.proofs.Packs.{pushed}
 use borrow.Author.Needs.{needs}
 use native.Mathlib.Omega.{arith}

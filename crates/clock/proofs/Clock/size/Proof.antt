@@ -1,10 +1,10 @@
 -- `Clock::size` meets its contract: the count, and the room where the count is larger.
 use mathlib.Core.Path.{_≡_}
 use lib.ListN.{length, length-take}
-use Rattle.lists.proofs.Pads.{unmapped}
+use Rattle.listlaws.proofs.Pads.{unmapped}
 use borrow.Author.Needs.{needs}
 use native.Mathlib.Omega.{arith}
-use Rattle.clock.specs.Dots.{dotLimit}
+use Rattle.limits.specs.Limits.{dotLimit}
 use Rattle.clock.proofs.Clock.size.Statement.{statement}
 use Rattle.clock.proofs.Clock.size.Tie as tie
 

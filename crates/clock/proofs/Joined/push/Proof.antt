@@ -1,6 +1,6 @@
 -- `Joined::push` meets its contract: over the limit stays over, and the ninth dot goes over.
 use mathlib.Core.Path.{ap, sym, _∙_}
-use Rattle.lists.proofs.Pads.{length-snoc}
+use Rattle.listlaws.proofs.Pads.{length-snoc}
 use Rattle.clock.proofs.Packs.{fits, exceeds, over-means, within-clock}
 use borrow.Author.Needs.{needs}
 use native.Mathlib.Omega.{arith}
@@ -8,7 +8,8 @@ use Rattle.clock.proofs.Joined.push.Statement.{statement}
 use Rattle.clock.proofs.Joined.push.Tie as tie
 
 returns : tie.Need-returns
-returns c = λ l e. e ∙ exceeds l (over-means l e (c .if1 .taken)) ∙ sym (exceeds _ (omega (arith, over-means l e (c .if1 .taken), length-snoc l (c .before .args .d))))
+returns c = λ l e. e ∙ exceeds l (over-means l e (c .if1 .taken)) ∙ sym
+    (exceeds _ (omega (arith, over-means l e (c .if1 .taken), length-snoc l (c .before .args .d))))
 
 returns-2 : tie.Need-returns-2
 returns-2 c = λ l e.

@@ -3,7 +3,7 @@ use mathlib.Core.Path.{_≡_, refl}
 use mathlib.Core.List.{List, _++_, map}
 use Prim.Native.Nat.{_-_}
 use lib.ListN.{drop}
-use Rattle.lists.proofs.Trailing.{Trailing, trailing-start, trailing-add, trailing-end}
+use Rattle.listlaws.proofs.Trailing.{Trailing, trailing-start, trailing-add, trailing-end}
 use Rattle.clock.specs.declared.Dot.{Dot}
 use Rattle.clock.specs.Dots.{noDot, dotsOf, fitted}
 use borrow.Author.Needs.{needs}

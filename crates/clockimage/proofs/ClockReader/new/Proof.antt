@@ -1,5 +1,5 @@
 -- `ClockReader::new` meets its contract.
-use Rattle.lists.specs.Sift.{sift}
+use Rattle.listlaws.specs.Sift.{sift}
 use borrow.Author.Needs.{needs}
 use Rattle.clockimage.proofs.ClockReader.new.Statement.{statement}
 use Rattle.clockimage.proofs.ClockReader.new.Tie as tie

@@ -18,7 +18,8 @@ returns c l s =
       scanned = now;
       clock = λ n. let z = sym (now .number) ∙ n in
           let first = is-first l _ z in
-          c .clock-with .ensures _ (s .clock (s .scanned .number ∙ scan-before 1 1 l _ z)) (λ _. dots-room 1 1 l _ z 1 first (λ b. omega arith) refl refl)
+          c .clock-with .ensures _ (s .clock (s .scanned .number ∙ scan-before 1 1 l _ z))
+          (λ _. dots-room 1 1 l _ z 1 first (λ b. omega arith) refl refl)
           ∙ rw (eq-eqb _ 0 n) (sym (ap clockOf (dots-more (isKind 1) l _ (eq-eqb _ 1 first))));
     }
 

@@ -40,19 +40,23 @@ copy-span-requires-4 c κs =
     let s = z .args .s .now in
     let at = z .args .at in
     let w0 = write-start (keyRecords s (z .args .clock) at) 0 (z .args .out .now) (omega (arith, z .pre .1)) in
-    let w1 = write-on _ _ _ (recordsAt s (z .args .clock)) w0 refl (c .before .before .before .before .before .before .before .before .before .before .before .copy-span .ensures) in
+    let w1 = write-on _ _ _ (recordsAt s (z .args .clock)) w0 refl
+    (c .before .before .before .before .before .before .before .before .before .before .before .copy-span .ensures) in
     let w2 = write-on _ _ _ (recordsAt s (at .dots)) w1 refl (c .before .before .before .before .before .before .before .copy-span2 .ensures) in
     let w3 = write-on _ _ _ (recordsAt s (at .values)) w2 refl (c .before .before .before .copy-span3 .ensures) in
     (z .pre .0 .1 .1 .1, last-room _ _ _ _ w3)
 
 returns : tie.Need-returns
 returns c =
-    let z = c .before .before .before .before .before .before .before .before .before .before .before .before .before .before .before .before .before .before in
+    let z = c .before .before .before .before .before .before .before .before .before .before .before .before .before .before .before .before .before
+    .before in
     let s = z .args .s .now in
     let at = z .args .at in
     let w0 = write-start (keyRecords s (z .args .clock) at) 0 (z .args .out .now) (omega (arith, z .pre .1)) in
-    let w1 = write-on _ _ _ (recordsAt s (z .args .clock)) w0 refl (c .before .before .before .before .before .before .before .before .before .before .before .before .before .before .copy-span .ensures) in
-    let w2 = write-on _ _ _ (recordsAt s (at .dots)) w1 refl (c .before .before .before .before .before .before .before .before .before .before .copy-span2 .ensures) in
+    let w1 = write-on _ _ _ (recordsAt s (z .args .clock)) w0 refl
+    (c .before .before .before .before .before .before .before .before .before .before .before .before .before .before .copy-span .ensures) in
+    let w2 = write-on _ _ _ (recordsAt s (at .dots)) w1 refl
+    (c .before .before .before .before .before .before .before .before .before .before .copy-span2 .ensures) in
     let w3 = write-on _ _ _ (recordsAt s (at .values)) w2 refl (c .before .before .before .before .before .before .copy-span3 .ensures) in
     write-last _ _ _ _ w3 (c .before .before .copy-span4 .ensures)
 

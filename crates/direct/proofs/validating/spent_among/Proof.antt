@@ -5,7 +5,7 @@ use native.Mathlib.Omega.{arith}
 use borrow.Author.Needs.{needs}
 use Rattle.clock.specs.Dots.{dotsOf}
 use Rattle.clock.proofs.Packs.{dots-of}
-use Rattle.parts.specs.Model.{dotsIn}
+use Rattle.entries.specs.Model.{dotsIn}
 use Rattle.map.specs.Model.{entriesIn}
 use Rattle.asking.specs.Asking.{spentUnder}
 use Rattle.maprecords.specs.Related.{readMap}

@@ -5,18 +5,21 @@ use mathlib.Core.List.{[], _∷_, _++_, append-assoc}
 use Prim.Native.Nat.{_≤_, _<_}
 use borrow.Author.Tests.{lt-ltb, le-ltb, le-leb}
 use lib.ListN.{length}
-use Rattle.lists.specs.Order.{_∈_}
-use Rattle.lists.specs.Sift.{sift, those}
-use Rattle.lists.proofs.Sifts.{sift-append, sift-one}
-use Rattle.clock.specs.Dots.{dotLimit, counterIn, addDot}
+use Rattle.listlaws.specs.Order.{_∈_}
+use Rattle.listlaws.specs.Sift.{sift, those}
+use Rattle.listlaws.proofs.Sifts.{sift-append, sift-one}
+use Rattle.limits.specs.Limits.{dotLimit}
+use Rattle.clock.specs.Dots.{counterIn, addDot}
 use Rattle.clock.proofs.Packs.{over-means, within-means, within-clock, dots-of}
-use Rattle.parts.specs.declared.Entry.{Entry}
-use Rattle.parts.specs.Model.{Laid, Finishes, waitingAs}
-use Rattle.parts.specs.Waits.{waits}
-use Rattle.parts.specs.Entries.{stays, run, aside, putEntry, entryAt, putEntries}
-use Rattle.parts.proofs.Runs.{run-laid}
-use Rattle.parts.proofs.Packs.{laid-put}
-use Rattle.parts.proofs.Finish.{finish-open}
+use Rattle.entries.specs.declared.Entry.{Entry}
+use Rattle.entries.specs.Model.{LaidDown}
+use Rattle.entries.specs.Steps.{Finishes}
+use Rattle.removals.specs.Model.{waitingAs}
+use Rattle.removals.specs.Waits.{waits}
+use Rattle.entries.specs.Entries.{stays, run, aside, putEntry, entryAt, putEntries}
+use Rattle.entries.proofs.Runs.{run-laid}
+use Rattle.entries.proofs.Packs.{laid-put}
+use Rattle.entries.proofs.Finishing.{finish-open}
 use Rattle.map.specs.Model.{seenBy, entriesIn, waitingIn}
 use Rattle.map.specs.Updating.{update}
 use Rattle.map.proofs.Verdicts.{judged-within}
@@ -43,7 +46,8 @@ returns-2 c =
     let a = c .before .before in
     let n = a .before in
     let z = n .before .before .before .before in
-    c .refused .ensures ∙ sym (update-outcome (z .pre .0) (z .pre .1) (new n) true _ _ (lt-ltb _ _ (over-means _ (a .add .ensures) (c .before .if2 .taken))) refl refl)
+    c .refused .ensures ∙ sym (update-outcome (z .pre .0) (z .pre .1) (new n) true _ _
+    (lt-ltb _ _ (over-means _ (a .add .ensures) (c .before .if2 .taken))) refl refl)
 
 side-requires : tie.Need-side-requires
 side-requires c κs = omega (arith, c .new .ensures .0)
@@ -81,11 +85,12 @@ all c =
     let m = z .args .self in
     let u = z .args .u in
     let ws = waitingIn m in
-    let laid : (e : Entry) → e ∈ entriesIn m → Laid e = λ e i. z .pre .0 .valid .entries .each e i .laid in
+    let laid : (e : Entry) → e ∈ entriesIn m → LaidDown e = λ e i. z .pre .0 .valid .entries .each e i .laid in
     let put = putEntry u (entryAt (u .key) (entriesIn m)) in
     let before = those (aside true (u .key)) (entriesIn m) in
     let behind = those (aside false (u .key)) (entriesIn m) in
-    let parts : sift stays (run ws) (before ++ (put ∷ behind)) ≡ (sift stays (run ws) before ++ those stays (run ws put ∷ [])) ++ sift stays (run ws) behind =
+    let parts : sift stays (run ws) (before ++ (put ∷ behind)) ≡ (sift stays (run ws) before ++ those stays (run ws put ∷ [])) ++ sift stays
+    (run ws) behind =
     sift-append stays (run ws) before (put ∷ behind)
     ∙ ap (λ x. sift stays (run ws) before ++ x) (sift-one stays (run ws) put behind)
     ∙ sym (append-assoc (sift stays (run ws) before) (those stays (run ws put ∷ [])) (sift stays (run ws) behind)) in
@@ -103,14 +108,16 @@ returns-3 c =
     let s = c .before .before .before in
     let n = s .before .before .before .before .before .before .before .before .before in
     let z = n .before .before .before .before in
-    c .refused2 .ensures ∙ sym (update-outcome (z .pre .0) (z .pre .1) (new n) false true _ (le-ltb _ _ (room s)) (lt-ltb _ _ (rw (all s .count) at (c .before .if3 .taken))) refl)
+    c .refused2 .ensures ∙ sym (update-outcome (z .pre .0) (z .pre .1) (new n) false true _ (le-ltb _ _ (room s))
+    (lt-ltb _ _ (rw (all s .count) at (c .before .if3 .taken))) refl)
 
 returns-4 : tie.Need-returns-4
 returns-4 c =
     let s = c .before .before .before .before in
     let n = s .before .before .before .before .before .before .before .before .before in
     let z = n .before .before .before .before in
-    c .refused3 .ensures ∙ sym (update-outcome (z .pre .0) (z .pre .1) (new n) false false true (le-ltb _ _ (room s)) (le-ltb _ _ (rw (all s .count) at (c .before .before .if3 .left))) (sym (all s .wide) ∙ c .before .if4 .taken))
+    c .refused3 .ensures ∙ sym (update-outcome (z .pre .0) (z .pre .1) (new n) false false true (le-ltb _ _ (room s))
+    (le-ltb _ _ (rw (all s .count) at (c .before .before .if3 .left))) (sym (all s .wide) ∙ c .before .if4 .taken))
 
 returns-5 : tie.Need-returns-5
 returns-5 c =

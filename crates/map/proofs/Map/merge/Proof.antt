@@ -4,18 +4,20 @@ use mathlib.Core.Bool.{Bool, true, false}
 use Prim.Native.Nat.{_≤_}
 use borrow.Author.Tests.{lt-ltb, le-ltb}
 use lib.ListN.{length}
-use Rattle.lists.specs.Order.{_∈_}
-use Rattle.lists.specs.Sift.{those}
-use Rattle.lists.proofs.Those.{those-means}
-use Rattle.clock.specs.Dots.{dotLimit, dotsOf, joinDots}
+use Rattle.listlaws.specs.Order.{_∈_}
+use Rattle.listlaws.specs.Sift.{those}
+use Rattle.listlaws.proofs.Those.{those-means}
+use Rattle.limits.specs.Limits.{dotLimit}
+use Rattle.clock.specs.Dots.{dotsOf, joinDots}
 use Rattle.clock.proofs.Packs.{over-means, within-means, within-clock, dots-of}
-use Rattle.parts.specs.declared.Removal.{Removal}
-use Rattle.parts.specs.Model.{listedIn, keysAs, gathered}
-use Rattle.parts.specs.Waits.{waits, uniteAll}
-use Rattle.parts.proofs.Packs.{waiting-from}
-use Rattle.parts.proofs.Fits.{both-fit, keep-fits}
-use Rattle.parts.proofs.Finish.{finish-open}
-use Rattle.parts.proofs.Gather.{gather-count, gather-long, gather-open}
+use Rattle.removals.specs.declared.Removal.{Removal}
+use Rattle.removals.specs.Model.{listedIn, keysAs}
+use Rattle.removals.specs.Counted.{joinedAs}
+use Rattle.removals.specs.Waits.{waits, uniteAll}
+use Rattle.removals.proofs.Packs.{waiting-from}
+use Rattle.entries.proofs.ClocksFit.{both-fit, keep-fits}
+use Rattle.entries.proofs.Finishing.{finish-open}
+use Rattle.removals.proofs.Joining.{joined-count, joined-long, joined-open}
 use Rattle.map.specs.declared.Map.{Map}
 use Rattle.map.specs.Model.{seenBy, waitingIn}
 use Rattle.map.specs.Valid.{Within}
@@ -28,7 +30,8 @@ returns : tie.Need-returns
 returns c =
     let j = c .before .before in
     let z = j .before .before .before in
-    c .refused .ensures ∙ sym (merge-outcome (z .pre .0) (z .pre .1) true _ _ _ _ (lt-ltb _ _ (over-means _ (j .join .ensures) (c .before .if1 .taken))) refl refl refl refl)
+    c .refused .ensures ∙ sym (merge-outcome (z .pre .0) (z .pre .1) true _ _ _ _
+    (lt-ltb _ _ (over-means _ (j .join .ensures) (c .before .if1 .taken))) refl refl refl refl)
 
 -- the joined clock is within the limit
 room : (c : tie.Else1) → let z = c .before .before .before .before in
@@ -51,14 +54,17 @@ returns-2 c =
     let e = c .before .before .before in
     let i = e .before .before .before .before in
     let z = i .before .before .before .before in
-    c .refused2 .ensures ∙ sym (merge-outcome (z .pre .0) (z .pre .1) false true _ _ _ (le-ltb _ _ (room i)) (lt-ltb _ _ (rw (e .merge .ensures .count) at (c .before .if2 .taken))) refl refl refl)
+    c .refused2 .ensures ∙ sym (merge-outcome (z .pre .0) (z .pre .1) false true _ _ _ (le-ltb _ _ (room i))
+    (lt-ltb _ _ (rw (e .merge .ensures .count) at (c .before .if2 .taken))) refl refl refl)
 
 returns-3 : tie.Need-returns-3
 returns-3 c =
     let e = c .before .before .before .before in
     let i = e .before .before .before .before in
     let z = i .before .before .before .before in
-    c .refused3 .ensures ∙ sym (merge-outcome (z .pre .0) (z .pre .1) false false true _ _ (le-ltb _ _ (room i)) (le-ltb _ _ (rw (e .merge .ensures .count) at (c .before .before .if2 .left))) (sym (e .merge .ensures .wide) ∙ c .before .if3 .taken) refl refl)
+    c .refused3 .ensures ∙ sym (merge-outcome (z .pre .0) (z .pre .1) false false true _ _ (le-ltb _ _ (room i))
+    (le-ltb _ _ (rw (e .merge .ensures .count) at (c .before .before .if2 .left)))
+    (sym (e .merge .ensures .wide) ∙ c .before .if3 .taken) refl refl)
 
 -- the clock of the merged map
 clock : (c : tie.Else1) → let z = c .before .before .before .before in
@@ -73,12 +79,16 @@ join-requires-2 : tie.Need-join-requires-2
 join-requires-2 c κs =
     let u = c .before in
     let i = u .before .before .before .before .before .before .before .before in
-    let z = i .before .before .before .before in
-    (λ r k. laid (z .pre .0) _ r (rw (waiting-from _ (u .uncovered .ensures)) at k), λ r k. laid (z .pre .1) _ r (rw (waiting-from _ (c .uncovered2 .ensures)) at k))
+    let z = i .before .before .before .before in (
+      λ r k. laid (z .pre .0) _ r (rw (waiting-from _ (u .uncovered .ensures)) at k),
+      λ r k. laid (z .pre .1) _ r (rw (waiting-from _ (c .uncovered2 .ensures)) at k),
+    )
 
 -- what waits still
-held : (c : tie.After-join2) → let z = c .before .before .before .before .before .before .before .before .before .before .before .before .before .before in
-    c .join2 .result ≡ gathered (uniteAll (those (waits (joinDots (seenBy (z .args .self)) (seenBy (z .args .other)))) (waitingIn (z .args .self))) (those (waits (joinDots (seenBy (z .args .self)) (seenBy (z .args .other)))) (waitingIn (z .args .other))))
+held : (c : tie.After-join2) → let z = c .before .before .before .before .before .before .before .before .before .before .before .before .before
+    .before in
+    c .join2 .result ≡ joinedAs (uniteAll (those (waits (joinDots (seenBy (z .args .self)) (seenBy (z .args .other)))) (waitingIn (z .args .self)))
+    (those (waits (joinDots (seenBy (z .args .self)) (seenBy (z .args .other)))) (waitingIn (z .args .other))))
 held c =
     let v = c .before in
     let u = v .before in
@@ -93,8 +103,9 @@ returns-4 c =
     let i = e .before .before .before .before in
     let z = i .before .before .before .before in
     c .refused4 .ensures
-    ∙ sym (merge-outcome (z .pre .0) (z .pre .1) false false false true _ (le-ltb _ _ (room i)) (le-ltb _ _ (rw (e .merge .ensures .count) at (k .before .if2 .left))) (sym (e .merge .ensures .wide) ∙ k .if3 .left)
-    (lt-ltb _ _ (rw (gather-count _ (held j)) at (c .before .if4 .taken))) refl)
+    ∙ sym (merge-outcome (z .pre .0) (z .pre .1) false false false true _ (le-ltb _ _ (room i))
+    (le-ltb _ _ (rw (e .merge .ensures .count) at (k .before .if2 .left))) (sym (e .merge .ensures .wide) ∙ k .if3 .left)
+    (lt-ltb _ _ (rw (joined-count _ (held j)) at (c .before .if4 .taken))) refl)
 
 returns-5 : tie.Need-returns-5
 returns-5 c =
@@ -104,8 +115,9 @@ returns-5 c =
     let i = e .before .before .before .before in
     let z = i .before .before .before .before in
     c .refused5 .ensures
-    ∙ sym (merge-outcome (z .pre .0) (z .pre .1) false false false false true (le-ltb _ _ (room i)) (le-ltb _ _ (rw (e .merge .ensures .count) at (k .before .if2 .left))) (sym (e .merge .ensures .wide) ∙ k .if3 .left)
-    (le-ltb _ _ (rw (gather-count _ (held j)) at (c .before .before .if4 .left))) (sym (gather-long _ (held j)) ∙ c .before .if5 .taken))
+    ∙ sym (merge-outcome (z .pre .0) (z .pre .1) false false false false true (le-ltb _ _ (room i))
+    (le-ltb _ _ (rw (e .merge .ensures .count) at (k .before .if2 .left))) (sym (e .merge .ensures .wide) ∙ k .if3 .left)
+    (le-ltb _ _ (rw (joined-count _ (held j)) at (c .before .before .if4 .left))) (sym (joined-long _ (held j)) ∙ c .before .if5 .taken))
 
 returns-6 : tie.Need-returns-6
 returns-6 c =
@@ -117,11 +129,11 @@ returns-6 c =
     let z = i .before .before .before .before in
     let few = rw (e .merge .ensures .count) at (k .before .if2 .left) in
     let thin = sym (e .merge .ensures .wide) ∙ k .if3 .left in
-    let less = rw (gather-count _ (held j)) at (l .before .if4 .left) in
-    let short = sym (gather-long _ (held j)) ∙ l .if5 .left in
+    let less = rw (joined-count _ (held j)) at (l .before .if4 .left) in
+    let short = sym (joined-long _ (held j)) ∙ l .if5 .left in
     let time = within-clock _ (i .before .join .ensures) (i .if1 .left) in
     let done = finish-open (e .merge .ensures) few thin in
-    let wait = gather-open _ (held j) less short in
+    let wait = joined-open _ (held j) less short in
     c .accepted .ensures
     ∙ (λ x. record { number = 0; map = record { clock = time x; entries = done x; waiting = wait x } })
     ∙ sym (merge-outcome (z .pre .0) (z .pre .1) false false false false false (le-ltb _ _ (room i)) (le-ltb _ _ few) thin (le-ltb _ _ less) short)

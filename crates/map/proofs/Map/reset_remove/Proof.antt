@@ -5,9 +5,10 @@ use Prim.Native.Nat.{_≤_}
 use lib.ListN.{length}
 use Rattle.clock.specs.Dots.{dotsOf}
 use Rattle.clock.proofs.Packs.{cut-left}
-use Rattle.parts.specs.Model.{waitingLimit}
-use Rattle.parts.specs.Waits.{resetWaiting}
-use Rattle.parts.proofs.Hold.{held-short, held-over, reset-few}
+use Rattle.limits.specs.Limits.{waitingLimit}
+use Rattle.removals.specs.Waits.{resetWaiting}
+use Rattle.removals.proofs.Resetting.{reset-short, reset-over}
+use Rattle.removals.proofs.Lengths.{reset-few}
 use Rattle.map.specs.Model.{waitingIn}
 use Rattle.map.proofs.Accepts.{fits-means}
 use Rattle.map.proofs.Outcomes.{reset-outcome}
@@ -26,7 +27,8 @@ returns c =
     let m = z .args .self in
     let w = resetWaiting (dotsOf (z .args .by)) (waitingIn m) in
     let few : length w ≤ waitingLimit = omega (arith, reset-few (dotsOf (z .args .by)) (waitingIn m), fits-means m (z .pre .limits) .number) in
-    c .refused .ensures ∙ sym (reset-outcome (z .pre) (dotsOf (z .args .by)) few true (sym (ap (λ h. h .over) (l .reset2 .ensures) ∙ held-over w) ∙ c .before .if1 .taken))
+    c .refused .ensures ∙ sym (reset-outcome (z .pre) (dotsOf (z .args .by)) few true
+    (sym (ap (λ h. h .over) (l .reset2 .ensures) ∙ reset-over w) ∙ c .before .if1 .taken))
 
 returns-2 : tie.Need-returns-2
 returns-2 c =
@@ -36,10 +38,18 @@ returns-2 c =
     let m = z .args .self in
     let w = resetWaiting (dotsOf (z .args .by)) (waitingIn m) in
     let few : length w ≤ waitingLimit = omega (arith, reset-few (dotsOf (z .args .by)) (waitingIn m), fits-means m (z .pre .limits) .number) in
-    let short = sym (ap (λ h. h .over) (l .reset2 .ensures) ∙ held-over w) ∙ i .if1 .left in
-    let left = ap (λ h. h .waiting) (l .reset2 .ensures ∙ held-short w short) in
+    let short = sym (ap (λ h. h .over) (l .reset2 .ensures) ∙ reset-over w) ∙ i .if1 .left in
+    let left = ap (λ h. h .waiting) (l .reset2 .ensures ∙ reset-short w short) in
     c .accepted .ensures
-    ∙ (λ k. record { number = 0; map = record { clock = cut-left _ _ (l .before .before .before .cut .ensures) k; entries = l .before .reset .ensures k; waiting = left k } })
+    ∙ (λ k. record {
+      number = 0;
+      map = record {
+        clock = cut-left _ _ (l .before .before .before .cut .ensures) k;
+        entries = l .before .reset .ensures
+            k;
+        waiting = left k;
+      };
+    })
     ∙ sym (reset-outcome (z .pre) (dotsOf (z .args .by)) few false short)
 
 pub reset-remove-spec : {M : Type 1} → statement M

@@ -1,7 +1,7 @@
 -- `draw_key` meets its contract: the values are drawn where something is left of the clock.
 use mathlib.Core.Path.{ap, sym, _∙_}
 use borrow.Author.Needs.{needs}
-use Rattle.lists.proofs.Orders.{apart}
+use Rattle.listlaws.proofs.Orders.{apart}
 use Rattle.clock.specs.Dots.{isEmpty}
 use Rattle.clock.proofs.Packs.{dots-of}
 use Rattle.queued.specs.Queue.{cutsFor}

@@ -3,7 +3,7 @@ use mathlib.Core.Path.{sym, subst}
 use native.Mathlib.Omega.{arith}
 use borrow.Author.Needs.{needs}
 use Rattle.queued.specs.Queue.{Queued}
-use Rattle.merging.proofs.Weaving.{nothing}
+use Rattle.queued.proofs.Starts.{none-queued}
 use Rattle.merging.proofs.drawing.draw_merged.Statement.{statement}
 use Rattle.merging.proofs.drawing.draw_merged.Tie as tie
 
@@ -11,14 +11,12 @@ draw-keys-requires : tie.Need-draw-keys-requires
 draw-keys-requires c κs =
     let p = c .before .before .before .before .before .before .pre in
     let q = p .1 .0 in
-    let a = q .0 .count in
-    let b = q .1 .count in
     let k = c .before .if1 .taken in (
       p .0,
       (
         (
-          subst (Queued _ _) (sym (nothing _ (omega arith))) (c .none .ensures _),
-          subst (Queued _ _) (sym (nothing _ (omega arith))) (c .none .ensures _),
+          subst (Queued _ _) (sym (none-queued _ (q .0) (omega arith))) (c .none .ensures _),
+          subst (Queued _ _) (sym (none-queued _ (q .1) (omega arith))) (c .none .ensures _),
         ),
         p .1 .1,
       ),

@@ -1,7 +1,7 @@
 -- `is_equal` meets its contract.
 use mathlib.Core.Path.{sym}
 use borrow.Author.Needs.{needs}
-use Rattle.lists.proofs.Orders.{apart}
+use Rattle.listlaws.proofs.Orders.{apart}
 use Rattle.merging.proofs.stepping.is_equal.Statement.{statement}
 use Rattle.merging.proofs.stepping.is_equal.Tie as tie
 

@@ -1,14 +1,12 @@
 -- `meet` meets its contract: equal dots are all kept, and others are met.
 use mathlib.Core.Path.{_≡_, ap, ap₂, sym, _∙_}
-use native.Mathlib.Omega.{arith}
 use borrow.Author.Needs.{needs}
 use Rattle.clock.specs.Dots.{dotsOf, clockOf, cutDots, joinDots}
 use Rattle.clock.proofs.Packs.{dots-of}
 use Rattle.clock.proofs.Covers.{order-equal}
-use Rattle.parts.specs.declared.Entry.{Entry}
-use Rattle.parts.specs.Model.{dotsIn}
-use Rattle.parts.specs.Entries.{keepDots}
-use Rattle.leaving.proofs.Lying.{own-run}
+use Rattle.entries.specs.Model.{dotsIn}
+use Rattle.entries.specs.Entries.{keepDots}
+use Rattle.entrywalk.proofs.Lying.{own-says}
 use Rattle.keeping.proofs.Counters.{keep-same, gone-same}
 use Rattle.merging.proofs.stepping.meet.Statement.{statement}
 use Rattle.merging.proofs.stepping.meet.Tie as tie
@@ -16,16 +14,17 @@ use Rattle.merging.proofs.stepping.meet.Tie as tie
 compare-runs-requires : tie.Need-compare-runs-requires
 compare-runs-requires c κs =
     let p = c .before .before .before .before .before .before .before .before .before .before .before .pre .0 in
-    (rw (own-run (p .2)) (p .2 .fit .clock), rw (own-run (p .3)) (p .3 .fit .clock))
+    (own-says (p .2) .lawful, own-says (p .3) .lawful)
 
 returns : tie.Need-returns
 returns c = λ x y h k.
     let a = c .before .before .before .before .before .before .before .before .before .before .before .before .before .before .before .args in
     let o = sym (c .before .before .before .compare-runs .ensures) ∙ c .before .before .is-equal .ensures (c .before .if1 .taken) in
-    let same : dotsIn x ≡ dotsIn y = sym (own-run h) ∙ order-equal (rw (own-run h) (h .fit .clock)) (rw (own-run k) (k .fit .clock)) o ∙ own-run k in
+    let same : dotsIn x ≡ dotsIn y = sym (own-says h .dots) ∙ order-equal (own-says h .lawful) (own-says k .lawful) o ∙ own-says k .dots in
     let m = dotsOf (a .mine) in
     let n = dotsOf (a .yours) in (
-      c .before .before .before .before .before .before .own-clock .ensures x h ∙ ap clockOf (sym (keep-same m n (h .fit .clock)) ∙ ap (keepDots m n (dotsIn x)) same),
+      c .before .before .before .before .before .before .own-clock .ensures x h
+          ∙ ap clockOf (sym (keep-same m n (h .fit .clock)) ∙ ap (keepDots m n (dotsIn x)) same),
       c .new .ensures ∙ ap clockOf (sym (gone-same m n (h .fit .clock)) ∙ ap (λ d. cutDots (keepDots m n (dotsIn x) d) (joinDots (dotsIn x) d)) same),
     )
 

@@ -3,9 +3,9 @@ use mathlib.Core.Path.{_≡_}
 use Prim.Native.Nat.{_<_}
 use native.Mathlib.Omega.{arith}
 use borrow.Author.Needs.{needs}
-use Rattle.merging.specs.Coming.{beyondKeys}
-use Rattle.merging.proofs.Fronts.{front-first, front-above, some-key}
-use Rattle.merging.proofs.Comings.{comes-ours, comes-theirs, comes-both, first-in}
+use Rattle.entrywalk.specs.Walking.{beyondKeys}
+use Rattle.entrywalk.proofs.Fronts.{front-first, front-above, some-key, first-in}
+use Rattle.merging.proofs.Comings.{comes-ours, comes-theirs, comes-both}
 use Rattle.merging.proofs.stepping.next.Statement.{statement}
 use Rattle.merging.proofs.stepping.next.Tie as tie
 
@@ -39,7 +39,8 @@ returns c = λ es fs h k.
     let low : i .before .before .head .result < beyondKeys = omega (arith, q .0, i .if1 .taken) in
     let g = a .alone .ensures es h in
     let same = front-first h f low (g .steps .entry) (g .steps .more) (g .steps .parts) in
-    comes-ours _ _ _ _ _ _ _ _ es fs h k _ _ g (i .before .before .before .before .before .pre .1 .0 .1) (λ e j. omega (arith, g .steps .lies .key, same, front-above k q (i .if1 .taken) e j)) (n .1 _) (n .0 .1)
+    comes-ours _ _ _ _ _ _ _ _ es fs h k _ _ g (i .before .before .before .before .before .pre .1 .0 .1)
+    (λ e j. omega (arith, g .steps .lies .key, same, front-above k q (i .if1 .taken) e j)) (n .1 _) (n .0 .1)
 
 returns-2 : tie.Need-returns-2
 returns-2 c = λ es fs h k.
@@ -51,13 +52,17 @@ returns-2 c = λ es fs h k.
     let low : i .before .before .head2 .result < beyondKeys = omega (arith, f .0, i .if2 .taken) in
     let g = a .alone2 .ensures fs k in
     let same = front-first k q low (g .steps .entry) (g .steps .more) (g .steps .parts) in
-    comes-theirs _ _ _ _ _ _ _ _ es fs h k _ _ g (i .before .before .before .before .before .before .pre .1 .0 .0) (λ e j. omega (arith, g .steps .lies .key, same, front-above h f (i .if2 .taken) e j)) (n .1 _) (n .0 .0) (n .0 .1)
+    comes-theirs _ _ _ _ _ _ _ _ es fs h k _ _ g (i .before .before .before .before .before .before .pre .1 .0 .0)
+    (λ e j. omega (arith, g .steps .lies .key, same, front-above h f (i .if2 .taken) e j)) (n .1 _) (n .0 .0) (n .0 .1)
 
 entry-at-requires : tie.Need-entry-at-requires
 entry-at-requires c κs =
     let z = c .before .before .before in
-    let p = z .before .before .before .pre in
-    (z .head .ensures .1 .0 (some-key (p .0) (z .head .ensures .0) (z .head .ensures .1 .1) (c .before .before .head2 .ensures .1 .1) (omega arith)) .0, (p .1 .1 .0, p .1 .1 .2))
+    let p = z .before .before .before .pre in (
+      z .head .ensures .1 .0 (some-key (p .0) (z .head .ensures .0) (z .head .ensures .1 .1) (c .before .before .head2 .ensures .1 .1)
+          (omega arith)) .0,
+      (p .1 .1 .0, p .1 .1 .2),
+    )
 
 entry-at-requires-2 : tie.Need-entry-at-requires-2
 entry-at-requires-2 c κs =
@@ -86,7 +91,12 @@ returns-3 c = λ es fs h k.
     let e : z .before .head .result ≡ z .head2 .result = omega (arith, j .if2 .left, j .before .if1 .left) in
     let low = some-key (z .before .before .before .before .pre .0) (f .0) (f .1 .1) (q .1 .1) e in
     let r = c .before .before .meet .ensures (g .entry) (i .entry) (g .lies) (i .lies) in
-    comes-both _ _ _ _ _ _ _ _ es fs h k g i (omega (arith, e, front-first h f low (g .entry) (g .more) (g .parts), front-first k q (omega (arith, low, e)) (i .entry) (i .more) (i .parts)))
+    comes-both _ _ _ _ _ _ _ _ es fs h k g i (omega (
+      arith,
+      e,
+      front-first h f low (g .entry) (g .more) (g .parts),
+      front-first k q (omega (arith, low, e)) (i .entry) (i .more) (i .parts),
+    ))
     (r .0) (r .1)
 
 pub next-spec : {M : Type 1} → statement M

@@ -21,7 +21,11 @@ returns c l s =
 
 returns-2 : tie.Need-returns-2
 returns-2 c l s =
-    record { scanned = c .before .before .take .ensures l (s .scanned) (λ _. none-under 7 12 l _ 0 (λ a b. omega arith)); parts = λ z. absurd (c .if1 .left z) }
+    record {
+      scanned = c .before .before .take .ensures l (s .scanned) (λ _. none-under 7 12 l _ 0 (λ a b. omega arith));
+      parts = λ z. absurd
+          (c .if1 .left z);
+    }
 
 pub take-spec : {M : Type 1} → statement M
 take-spec =

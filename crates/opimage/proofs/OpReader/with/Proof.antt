@@ -4,7 +4,7 @@ use Prim.Native.Nat.{_<_}
 use lib.ListN.{length}
 use borrow.Author.Tests.{eqb-true}
 use Rattle.clock.specs.Dots.{clockOf}
-use Rattle.parts.specs.Model.{keysAs}
+use Rattle.removals.specs.Model.{keysAs}
 use Rattle.clockimage.specs.Image.{isKind}
 use Rattle.clockimage.proofs.Dots.{dots-room, dots-snoc}
 use Rattle.opimage.proofs.Parts.{keys-snoc, record-snoc, counts-snoc, keys-room, kind-known}
@@ -41,9 +41,11 @@ returns c l p s =
         counts = rw (at-counts .counted .ensures) (counts-snoc (start .args .self .counts) l _ (in-counts start (kind-known l _ z)) (p .counts));
         head = at-head .latest .ensures ∙ rw (p .head) (sym (record-snoc 10 l _));
         value = at-value .latest2 .ensures ∙ rw (p .value) (sym (record-snoc 11 l _));
-        under = at-under .clock-with .ensures _ (p .under) (λ t. dots-room 7 12 l _ z 8 (eqb-true _ 8 t) (λ b. omega arith) refl refl) ∙ ap clockOf (sym (dots-snoc (isKind 8) l _));
+        under = at-under .clock-with .ensures _ (p .under) (λ t. dots-room 7 12 l _ z 8 (eqb-true _ 8 t) (λ b. omega arith) refl refl)
+            ∙ ap clockOf (sym (dots-snoc (isKind 8) l _));
         keys = at-keys .keys-with .ensures _ (p .keys) ∙ ap keysAs (sym (keys-snoc (isKind 9) l _));
-        put = c .clock-with2 .ensures _ (p .put) (λ t. dots-room 7 12 l _ z 12 (eqb-true _ 12 t) (λ b. omega arith) refl refl) ∙ ap clockOf (sym (dots-snoc (isKind 12) l _));
+        put = c .clock-with2 .ensures _ (p .put) (λ t. dots-room 7 12 l _ z 12 (eqb-true _ 12 t) (λ b. omega arith) refl refl)
+            ∙ ap clockOf (sym (dots-snoc (isKind 12) l _));
       };
     }
 

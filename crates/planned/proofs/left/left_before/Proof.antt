@@ -6,9 +6,9 @@ use mathlib.Core.List.{_∷_}
 use Prim.Native.Nat.{_+_, _/_, _≤_, _<_, _-_}
 use lib.ListN.{length, getD}
 use borrow.Author.Tests.{ltb-true, ltb-false}
-use Rattle.clock.specs.Dots.{dotLimit}
-use Rattle.parts.specs.Waits.{clockBefore}
-use Rattle.parts.proofs.Before.{before-actor, before-counter, before-rest}
+use Rattle.limits.specs.Limits.{dotLimit}
+use Rattle.removals.specs.Waits.{clockBefore}
+use Rattle.removals.proofs.ClockOrder.{before-actor, before-counter, before-rest}
 use Rattle.runs.specs.Run.{runDots}
 use Rattle.marks.specs.Marks.{picked}
 use Rattle.marks.proofs.Dots.{length-run}

@@ -4,9 +4,9 @@ use mathlib.Core.List.{List, map}
 use Prim.Native.Nat.{_≤_, _-_}
 use lib.ListN.{length-map}
 use Rattle.clock.specs.Dots.{dotsOf}
-use Rattle.parts.specs.declared.Removal.{Removal}
-use Rattle.parts.specs.Model.{underOf}
-use Rattle.parts.specs.Waits.{cutRemoval}
+use Rattle.removals.specs.declared.Removal.{Removal}
+use Rattle.removals.specs.Model.{underOf}
+use Rattle.removals.specs.Waits.{cutRemoval}
 use Rattle.queued.specs.Queue.{Queued}
 use Rattle.planned.proofs.Lefts.{queue-places}
 use Rattle.planned.proofs.Gathering.{left-some, left-none, Gathers, gathers-start, gathers-on, gathers-not, gathers-end}

@@ -3,8 +3,8 @@ use mathlib.Core.Path.{_≡_}
 use Prim.Native.Nat.{_≤_, _-_}
 use lib.ListN.{length, getD}
 use lib.Seq.{getD-set-same}
-use Rattle.parts.specs.Model.{waitingLimit}
-use Rattle.lists.proofs.Pads.{unmapped}
+use Rattle.limits.specs.Limits.{waitingLimit}
+use Rattle.listlaws.proofs.Pads.{unmapped}
 use Rattle.planned.specs.Planned.{noHeld}
 use Rattle.planned.proofs.Inserting.{Moved, moved-start, moved-on, moved-end}
 use borrow.Author.Needs.{needs}

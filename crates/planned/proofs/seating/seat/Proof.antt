@@ -3,7 +3,7 @@ use mathlib.Core.Path.{sym, _∙_}
 use mathlib.Core.List.{List}
 use Prim.Native.Nat.{_≤_, _-_}
 use borrow.Author.Tests.{not-true, not-false}
-use Rattle.lists.proofs.Pads.{unmapped}
+use Rattle.listlaws.proofs.Pads.{unmapped}
 use Rattle.clock.specs.declared.Dot.{Dot}
 use Rattle.planned.specs.Left.{Left, Lined}
 use Rattle.planned.proofs.Lefts.{told-before, lined-places}

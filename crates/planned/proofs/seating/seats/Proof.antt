@@ -5,9 +5,10 @@ use Prim.Native.Nat.{_≤_, _-_}
 use lib.ListN.{length, length-map, length-set}
 use Rattle.clock.specs.declared.Dot.{Dot}
 use Rattle.clock.specs.Dots.{dotsOf}
-use Rattle.parts.specs.declared.Removal.{Removal}
-use Rattle.parts.specs.Model.{waitingLimit, underOf}
-use Rattle.parts.specs.Waits.{cutRemoval}
+use Rattle.removals.specs.declared.Removal.{Removal}
+use Rattle.limits.specs.Limits.{waitingLimit}
+use Rattle.removals.specs.Model.{underOf}
+use Rattle.removals.specs.Waits.{cutRemoval}
 use Rattle.queued.specs.Queue.{Queued}
 use Rattle.planned.specs.Left.{Lined}
 use Rattle.planned.proofs.Lefts.{queue-places}

@@ -3,7 +3,7 @@ use mathlib.Core.Path.{_≡_, refl}
 use Prim.Native.Nat.{_≤_, _-_}
 use lib.ListN.{length, length-set}
 use native.Mathlib.Omega.{arith}
-use Rattle.parts.specs.Model.{waitingLimit}
+use Rattle.limits.specs.Limits.{waitingLimit}
 use Rattle.queued.proofs.Counting.{Adding, add-start, add-not, add-one-more}
 use borrow.Author.Needs.{needs}
 use Rattle.queued.proofs.rows.add_row.Statement.{statement}

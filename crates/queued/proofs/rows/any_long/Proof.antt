@@ -4,9 +4,10 @@ use mathlib.Core.List.{List}
 use Prim.Native.Nat.{ℕ, _≤_, _<_, _-_}
 use lib.ListN.{length, drop, getD}
 use native.Mathlib.Omega.{arith}
-use Rattle.lists.specs.First.{some}
-use Rattle.parts.specs.declared.Removal.{Removal}
-use Rattle.parts.specs.Model.{waitingLimit, overlong}
+use Rattle.listlaws.specs.First.{some}
+use Rattle.removals.specs.declared.Removal.{Removal}
+use Rattle.limits.specs.Limits.{waitingLimit}
+use Rattle.removals.specs.Counted.{overlong}
 use Rattle.queued.specs.Rowed.{keysAt}
 use Rattle.queued.proofs.Counting.{long-yes, long-no, long-end}
 use borrow.Author.Needs.{needs}
@@ -14,7 +15,9 @@ use Rattle.queued.proofs.rows.any_long.Statement.{statement}
 use Rattle.queued.proofs.rows.any_long.Tie as tie
 
 abbrev Inv-loop : tie.InvT-loop
-Inv-loop counts i₀ i = ((i ≤ waitingLimit) × (length counts ≡ waitingLimit)) × ((result : List Removal) → ((p : ℕ) → p < waitingLimit → getD counts p 0 ≡ length (keysAt result p)) → some overlong result ≡ some overlong (drop i result))
+Inv-loop counts i₀ i = ((i ≤ waitingLimit) × (length counts ≡ waitingLimit))
+    × ((result : List Removal) → ((p : ℕ) → p < waitingLimit → getD counts p 0 ≡ length (keysAt result p))
+    → some overlong result ≡ some overlong (drop i result))
 
 abbrev μ-loop : tie.MeasureT-loop
 μ-loop counts i₀ i = waitingLimit - i

@@ -3,7 +3,7 @@ use mathlib.Core.Path.{_≡_}
 use Prim.Native.Nat.{_≤_, _-_}
 use lib.ListN.{length, length-set}
 use native.Mathlib.Omega.{arith}
-use Rattle.parts.specs.Model.{waitingLimit}
+use Rattle.limits.specs.Limits.{waitingLimit}
 use Rattle.queued.proofs.Rowing.{same-read, Carrying, carry-start, carry-not, carry-past, carry-set, carry-end}
 use borrow.Author.Needs.{needs}
 use Rattle.queued.proofs.rows.carry.Statement.{statement}
@@ -20,13 +20,19 @@ loop-holds c = ((omega arith, search needs), carry-start)
 
 loop-again : tie.Need-loop-again Inv-loop μ-loop
 loop-again c =
-    let t = c .before .before .before in
-    (simp length-set (omega arith), carry-set (t .loop .inv .1) (c .before .if1 .taken) (same-read (t .before .args .t3) (t .loop .i) 0 waitingLimit (search needs)) (omega arith))
+    let t = c .before .before .before in (
+      simp length-set (omega arith),
+      carry-set (t .loop .inv .1) (c .before .if1 .taken)
+          (same-read (t .before .args .t3) (t .loop .i) 0 waitingLimit (search needs)) (omega arith),
+    )
 
 loop-again-2 : tie.Need-loop-again-2 Inv-loop μ-loop
 loop-again-2 c =
-    let t = c .before .before .before in
-    (omega arith, carry-past (t .loop .inv .1) (c .before .if1 .taken) (same-read (t .before .args .t3) (t .loop .i) 0 waitingLimit (search needs)) (c .if2 .left))
+    let t = c .before .before .before in (
+      omega arith,
+      carry-past (t .loop .inv .1) (c .before .if1 .taken) (same-read (t .before .args .t3) (t .loop .i) 0 waitingLimit (search needs))
+          (c .if2 .left),
+    )
 
 loop-again-3 : tie.Need-loop-again-3 Inv-loop μ-loop
 loop-again-3 c =

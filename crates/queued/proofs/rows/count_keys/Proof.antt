@@ -3,10 +3,10 @@ use mathlib.Core.List.{List}
 use Prim.Native.Nat.{ℕ, _+_, _*_, _≤_, _<_, _-_}
 use lib.ListN.{length, getD, getD-replicate}
 use native.Mathlib.Omega.{arith}
-use Rattle.parts.specs.declared.Removal.{Removal}
-use Rattle.parts.specs.Model.{waitingLimit}
+use Rattle.removals.specs.declared.Removal.{Removal}
+use Rattle.limits.specs.Limits.{waitingLimit}
 use Rattle.queued.specs.Queue.{Keyed}
-use Rattle.queued.specs.Planned.{Sound, Moves}
+use Rattle.queued.specs.Planned.{SoundRemovals, Moves}
 use Rattle.queued.proofs.Counting.{KeysCounting, count-start, count-on, count-end, each-end, tally-most}
 use borrow.Author.Needs.{needs}
 use Rattle.queued.proofs.rows.count_keys.Statement.{statement}
@@ -14,8 +14,10 @@ use Rattle.queued.proofs.rows.count_keys.Tie as tie
 
 abbrev Inv-loop : tie.InvT-loop
 Inv-loop s from n ours t start m theirs total₀ counts₀ i₀ j₀ total counts i j =
-    ((i ≤ n) × (n * 16 ≤ length s)) × (((j ≤ m) × (m * 16 ≤ length t)) × ((total ≤ (i + j) * waitingLimit) × (((p : ℕ) → p < waitingLimit → getD counts p 0 ≤ i + j)
-    × ((w v result : List Removal) → Keyed s from n 0 w → Keyed t start m 0 v → Moves w v result ours theirs → length result ≤ waitingLimit → Sound result → KeysCounting s n t m w v result i j total counts))))
+    ((i ≤ n) × (n * 16 ≤ length s)) × (((j ≤ m) × (m * 16 ≤ length t))
+    × ((total ≤ (i + j) * waitingLimit) × (((p : ℕ) → p < waitingLimit → getD counts p 0 ≤ i + j)
+    × ((w v result : List Removal) → Keyed s from n 0 w → Keyed t start m 0 v → Moves w v result ours theirs → length result ≤ waitingLimit
+    → SoundRemovals result → KeysCounting s n t m w v result i j total counts))))
 
 abbrev μ-loop : tie.MeasureT-loop
 μ-loop s from n ours t start m theirs total₀ counts₀ i₀ j₀ total counts i j = (n + m) - (i + j)
@@ -24,7 +26,16 @@ loop-holds : tie.Need-loop-holds Inv-loop μ-loop
 loop-holds c =
     let p = c .before .before .pre in (
       (p .3 .order, p .3 .within),
-      ((p .4 .order, p .4 .within), (omega arith, (λ q h. omega (arith, getD-replicate {A = ℕ} waitingLimit q 0 0 h), λ w v result a b mv few sound. count-start a b))),
+      (
+        (p .4 .order, p .4 .within),
+        (
+          omega arith,
+          (
+            λ q h. omega (arith, getD-replicate {A = ℕ} waitingLimit q 0 0 h),
+            λ w v result a b mv few sound. count-start a b,
+          ),
+        ),
+      ),
     )
 
 row-requires : tie.Need-row-requires Inv-loop μ-loop

@@ -3,7 +3,7 @@ use mathlib.Core.Path.{_≡_, ap, _∙_}
 use Prim.Native.Nat.{ℕ, _+_, _≤_, _-_}
 use lib.ListN.{length, drop}
 use native.Mathlib.Omega.{arith}
-use Rattle.parts.specs.Model.{waitingLimit}
+use Rattle.limits.specs.Limits.{waitingLimit}
 use Rattle.queued.specs.Rowed.{rowRecords}
 use Rattle.queued.proofs.Rowing.{row-yes, row-no, row-end}
 use borrow.Author.Needs.{needs}
@@ -11,7 +11,8 @@ use Rattle.queued.proofs.rows.count_row.Statement.{statement}
 use Rattle.queued.proofs.rows.count_row.Tie as tie
 
 abbrev Inv-loop : tie.InvT-loop
-Inv-loop under total₀ i₀ total i = ((i ≤ waitingLimit) × ((length under ≡ waitingLimit) × (total ≤ i))) × ((key : ℕ) → length (rowRecords key 0 under) ≡ total + length (rowRecords key i (drop i under)))
+Inv-loop under total₀ i₀ total i = ((i ≤ waitingLimit) × ((length under ≡ waitingLimit) × (total ≤ i)))
+    × ((key : ℕ) → length (rowRecords key 0 under) ≡ total + length (rowRecords key i (drop i under)))
 
 abbrev μ-loop : tie.MeasureT-loop
 μ-loop under total₀ i₀ total i = waitingLimit - i

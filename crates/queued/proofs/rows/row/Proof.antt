@@ -13,7 +13,8 @@ cast-key c =
     let z = e .args in
     let a = c .before .before .head .ensures in
     let b = c .before .head2 .ensures in
-    let h = head-small (headed (z .s .now) (z .i) (z .n) _ (a .0) (a .1)) (headed (z .t .now) (z .j) (z .m) _ (b .0) (b .1)) (e .pre .1 .1) (c .lower .ensures) in
+    let h = head-small (headed (z .s .now) (z .i) (z .n) _ (a .0) (a .1)) (headed (z .t .now) (z .j) (z .m) _ (b .0) (b .1)) (e .pre .1 .1)
+    (c .lower .ensures) in
     search needs
 
 returns : tie.Need-returns
@@ -31,13 +32,15 @@ returns c =
     let one = x .before .listers .ensures in
     let two = x .listers2 .ensures in
     let onward : z .i + z .j < x .before .listers .result .next + x .listers2 .result .next =
-    ⊎-elim (λ h. let q = h .1 in let p = one .0 .1 .1 (h .0) (omega arith) in omega arith) (λ h. let q = h .1 in let p = two .0 .1 .1 (h .0) (omega arith) in omega arith) of in (
+    ⊎-elim (λ h. let q = h .1 in let p = one .0 .1 .1 (h .0) (omega arith) in omega arith) (λ h. let q = h .1 in
+    let p = two .0 .1 .1 (h .0) (omega arith) in omega arith) of in (
       (one .0 .0, (one .0 .1 .0, (two .0 .0, (two .0 .1 .0, onward)))),
       λ low w v result kw kv mv.
           let up = row-above kw kv mv (heads-first ha hb some (k .lower .ensures)) (heads-second ha hb some (k .lower .ensures)) of in
           let p = one .1 _ w kw (omega arith) in
           let q = two .1 _ v kv (omega arith) in
-          row-lies kw kv mv (heads-first ha hb some (k .lower .ensures)) (heads-second ha hb some (k .lower .ensures)) of (c .carry2 .ensures .whole) (row-marked mv (p .0) (q .0) (c .before .carry .ensures) (c .carry2 .ensures)) _ _ (p .1) (q .1),
+          row-lies kw kv mv (heads-first ha hb some (k .lower .ensures)) (heads-second ha hb some (k .lower .ensures)) of
+          (c .carry2 .ensures .whole) (row-marked mv (p .0) (q .0) (c .before .carry .ensures) (c .carry2 .ensures)) _ _ (p .1) (q .1),
     )
 
 pub row-spec : {M : Type 1} → statement M

@@ -3,8 +3,8 @@ use mathlib.Core.List.{List}
 use Prim.Native.Nat.{_+_, _*_, _≤_, _-_}
 use lib.ListN.{length}
 use native.Mathlib.Omega.{arith}
-use Rattle.parts.specs.declared.Removal.{Removal}
-use Rattle.parts.specs.Model.{waitingLimit}
+use Rattle.removals.specs.declared.Removal.{Removal}
+use Rattle.limits.specs.Limits.{waitingLimit}
 use Rattle.mapimage.specs.MapImage.{waitingKeys}
 use Rattle.queued.specs.Queue.{Keyed}
 use Rattle.queued.specs.Planned.{Moves}
@@ -15,7 +15,8 @@ use Rattle.queued.proofs.rows.write_keys.Tie as tie
 
 abbrev Inv-loop : tie.InvT-loop
 Inv-loop out₀ at s from n ours t start m theirs next₀ i₀ j₀ out next i j =
-    ((i ≤ n) × (n * 16 ≤ length s)) × (((j ≤ m) × (m * 16 ≤ length t)) × ((w v result : List Removal) → Keyed s from n 0 w → Keyed t start m 0 v → Moves w v result ours theirs → length result ≤ waitingLimit
+    ((i ≤ n) × (n * 16 ≤ length s)) × (((j ≤ m) × (m * 16 ≤ length t))
+    × ((w v result : List Removal) → Keyed s from n 0 w → Keyed t start m 0 v → Moves w v result ours theirs → length result ≤ waitingLimit
     → at + length (waitingKeys result) * 16 ≤ length out₀ → KeysWriting s n t m w v result at out₀ i j out next))
 
 abbrev μ-loop : tie.MeasureT-loop

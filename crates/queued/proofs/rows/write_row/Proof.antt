@@ -1,11 +1,11 @@
 -- `write_row` meets its contract: a mark a turn.
-use mathlib.Core.Path.{_≡_, refl}
+use mathlib.Core.Path.{_≡_}
 use mathlib.Core.List.{[], _∷_}
 use Prim.Native.Nat.{_≤_, _-_}
 use lib.ListN.{length, drop}
 use native.Mathlib.Omega.{arith}
-use Rattle.parts.specs.Model.{waitingLimit}
-use Rattle.records.proofs.Writing.{Writing, write-start, write-room, write-on, write-end, wrote-one}
+use Rattle.limits.specs.Limits.{waitingLimit}
+use Rattle.records.proofs.Writing.{Writing, write-start, write-room, write-on, write-end, wrote-one, write-kept}
 use Rattle.opimage.specs.OpImage.{keyRecord}
 use Rattle.queued.specs.Rowed.{rowRecords}
 use Rattle.queued.proofs.Rowing.{row-yes, row-no, row-end}
@@ -14,7 +14,8 @@ use Rattle.queued.proofs.rows.write_row.Statement.{statement}
 use Rattle.queued.proofs.rows.write_row.Tie as tie
 
 abbrev Inv-loop : tie.InvT-loop
-Inv-loop out₀ at key under next₀ i₀ out next i = ((i ≤ waitingLimit) × (length under ≡ waitingLimit)) × Writing (rowRecords key 0 under) (rowRecords key i (drop i under)) at out₀ out next
+Inv-loop out₀ at key under next₀ i₀ out next i = ((i ≤ waitingLimit) × (length under ≡ waitingLimit))
+    × Writing (rowRecords key 0 under) (rowRecords key i (drop i under)) at out₀ out next
 
 abbrev μ-loop : tie.MeasureT-loop
 μ-loop out₀ at key under next₀ i₀ out next i = waitingLimit - i
@@ -33,8 +34,11 @@ loop-again : tie.Need-loop-again Inv-loop μ-loop
 loop-again c =
     let t = c .before .before .before .before .before .before in
     let a = t .before .before .args in
-    let e = row-yes (a .key) (a .t4) (t .loop .i) (omega arith) (c .before .before .before .before .if1 .taken) in
-    (omega arith, write-on _ _ _ (keyRecord 6 (t .loop .i) (a .key) ∷ []) (t .loop .inv .1) e (wrote-one _ _ _ _ _ (c .before .before .write-record .ensures)))
+    let e = row-yes (a .key) (a .t4) (t .loop .i) (omega arith) (c .before .before .before .before .if1 .taken) in (
+      omega arith,
+      write-on _ _ _ (keyRecord 6 (t .loop .i) (a .key) ∷ []) (t .loop .inv .1) e
+          (wrote-one _ _ _ _ _ (c .before .before .write-record .ensures)),
+    )
 
 loop-again-2 : tie.Need-loop-again-2 Inv-loop μ-loop
 loop-again-2 c =
@@ -43,7 +47,7 @@ loop-again-2 c =
     (omega arith, rw (row-no (a .key) (a .t4) (t .loop .i) (omega arith) (c .if1 .left)) at (t .loop .inv .1))
 
 same-length : tie.Need-same-length Inv-loop μ-loop
-same-length c = write-room _ _ _ [] _ (c .before .loop .inv .1) refl .1
+same-length c = write-kept _ _ _ (c .before .loop .inv .1)
 
 returns : tie.Need-returns Inv-loop μ-loop
 returns c =

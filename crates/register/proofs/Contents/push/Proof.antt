@@ -1,7 +1,8 @@
 -- `Contents::push` meets its contract: a store behind the last.
 use mathlib.Core.Path.{ap}
-use Rattle.lists.proofs.Pads.{push-pad, length-snoc}
-use Rattle.register.specs.Values.{valueLimit, noContent}
+use Rattle.listlaws.proofs.Pads.{push-pad, length-snoc}
+use Rattle.limits.specs.Limits.{valueLimit}
+use Rattle.register.specs.Values.{noContent}
 use borrow.Author.Needs.{needs}
 use native.Mathlib.Omega.{arith}
 use Rattle.register.proofs.Contents.push.Statement.{statement}

@@ -1,7 +1,7 @@
 -- `Register::clock_over` meets its contract: the loop joins one clock after the other.
 use mathlib.Core.List.{[]}
 use Prim.Native.Nat.{_≤_, _-_}
-use Rattle.lists.proofs.Folding.{Folding, folding-start, folding-on, folding-end}
+use Rattle.listlaws.proofs.Folding.{Folding, folding-start, folding-on, folding-end}
 use Rattle.clock.specs.Dots.{dotsOf, fitted, joinDots}
 use Rattle.register.specs.Values.{clockOver}
 use Rattle.register.proofs.Packs.{noneRead}

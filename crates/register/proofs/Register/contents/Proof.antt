@@ -3,8 +3,8 @@ use mathlib.Core.Path.{refl, ap}
 use mathlib.Core.List.{[], map}
 use Prim.Native.Nat.{_-_, _≤_}
 use lib.ListN.{length-map}
-use Rattle.lists.specs.Pad.{pad}
-use Rattle.lists.proofs.Trailing.{Trailing, trailing-start, trailing-add, trailing-room, trailing-end}
+use Rattle.listlaws.specs.Pad.{pad}
+use Rattle.listlaws.proofs.Trailing.{Trailing, trailing-start, trailing-add, trailing-room, trailing-end}
 use Rattle.register.specs.Values.{valuesOf, contentsOf}
 use Rattle.register.proofs.Packs.{noneRead}
 use borrow.Author.Needs.{needs}

@@ -1,9 +1,11 @@
 -- `Register::cut` meets its contract: in hand, cut, and laid down again, since a cut adds nothing.
 use mathlib.Core.Path.{_≡_, ap, _∙_}
 use lib.ListN.{length}
-use Rattle.lists.proofs.Pads.{unmapped, used}
+use Rattle.listlaws.proofs.Pads.{unmapped, used}
 use Rattle.clock.specs.Dots.{dotsOf}
-use Rattle.register.specs.Values.{valueLimit, valuesOf, cutValues, settled}
+use Rattle.limits.specs.Limits.{valueLimit}
+use Rattle.register.specs.Values.{valuesOf, cutValues}
+use Rattle.register.specs.InHand.{settled}
 use Rattle.register.proofs.Packs.{wide-values, fits, cut-length}
 use borrow.Author.Needs.{needs}
 use native.Mathlib.Omega.{arith}

@@ -2,9 +2,10 @@
 use mathlib.Core.Path.{_≡_, ap, _∙_}
 use mathlib.Core.Bool.{true, false}
 use lib.ListN.{length}
-use Rattle.lists.proofs.Pads.{unmapped, used}
-use Rattle.lists.proofs.Sifts.{length-sift}
-use Rattle.register.specs.Values.{valueLimit, valuesOf, standing, oursLeft, mergeValues}
+use Rattle.listlaws.proofs.Pads.{unmapped, used}
+use Rattle.listlaws.proofs.Sifts.{length-sift}
+use Rattle.limits.specs.Limits.{valueLimit}
+use Rattle.register.specs.Values.{valuesOf, standing, oursLeft, mergeValues}
 use Rattle.register.proofs.Packs.{values-of}
 use borrow.Author.Needs.{needs}
 use native.Mathlib.Omega.{arith}

@@ -2,7 +2,7 @@
 use mathlib.Core.Path.{sym, _∙_}
 use mathlib.Core.Bool.{true, false}
 use Prim.Native.Nat.{_≤_, _-_}
-use Rattle.lists.proofs.Passing.{Passing, passing-start, passing-here, passing-on, passing-end}
+use Rattle.listlaws.proofs.Passing.{Passing, passing-start, passing-here, passing-on, passing-end}
 use Rattle.register.specs.Values.{yields, outdone}
 use Rattle.register.proofs.Packs.{noneRead}
 use borrow.Author.Needs.{needs}
@@ -24,7 +24,11 @@ unfolding outdone
 returns c = passing-here noneRead (c .before .before .before .before .loop .inv .1) (omega arith) (sym (c .before .yields .ensures) ∙ c .if1 .taken)
 
 loop-again : tie.Need-loop-again Inv-loop μ-loop
-loop-again c = (search needs, passing-on noneRead (c .before .before .before .before .loop .inv .1) (omega arith) (sym (c .before .yields .ensures) ∙ c .if1 .left))
+loop-again c = (
+  search needs,
+  passing-on noneRead (c .before .before .before .before .loop .inv .1) (omega arith)
+      (sym (c .before .yields .ensures) ∙ c .if1 .left),
+)
 
 returns-2 : tie.Need-returns-2 Inv-loop μ-loop
 unfolding outdone

@@ -2,8 +2,9 @@
 use mathlib.Core.Path.{_≡_, ap, sym, _∙_}
 use mathlib.Core.List.{[]}
 use lib.ListN.{length}
-use Rattle.lists.proofs.Pads.{unmapped, used}
-use Rattle.register.specs.Values.{valueLimit, valuesOf, registerOf, remaining, putValues}
+use Rattle.listlaws.proofs.Pads.{unmapped, used}
+use Rattle.limits.specs.Limits.{valueLimit}
+use Rattle.register.specs.Values.{valuesOf, registerOf, remaining, putValues}
 use Rattle.register.proofs.Packs.{values-of, remaining-length}
 use borrow.Author.Needs.{needs}
 use native.Mathlib.Omega.{arith}
@@ -18,7 +19,9 @@ push-requires : tie.Need-push-requires
 push-requires c κs = omega (arith, ap (λ k. k .len) (c .new .ensures))
 
 -- the values that remain, in their register
-left : (c : tie.After-standing) → c .standing .result ≡ registerOf (remaining (valuesOf (c .before .before .before .before .before .args .self)) (c .before .before .before .before .before .args .v))
+left : (c : tie.After-standing)
+    → c .standing .result ≡ registerOf (remaining (valuesOf (c .before .before .before .before .before .args .self))
+    (c .before .before .before .before .before .args .v))
 unfolding remaining
 left c = c .standing .ensures ∙ rw (values-of _ (c .before .push .ensures [] (c .before .before .new .ensures)))
 

@@ -3,9 +3,10 @@ use mathlib.Core.Path.{refl, ap, sym, _∙_}
 use mathlib.Core.Bool.{not}
 use mathlib.Core.List.{[]}
 use Prim.Native.Nat.{_≤_, _-_, _<_}
-use Rattle.lists.proofs.Sifts.{length-sift}
-use Rattle.lists.proofs.Sifting.{Sifting, sifting-start, sifting-keep, sifting-drop, sifting-room, sifting-end}
-use Rattle.register.specs.Values.{valuesOf, registerOf, standing, valueLimit}
+use Rattle.listlaws.proofs.Sifts.{length-sift}
+use Rattle.listlaws.proofs.Sifting.{Sifting, sifting-start, sifting-keep, sifting-drop, sifting-room, sifting-end}
+use Rattle.register.specs.Values.{valuesOf, registerOf, standing}
+use Rattle.limits.specs.Limits.{valueLimit}
 use Rattle.register.proofs.Packs.{noneRead, pushed}
 use borrow.Author.Needs.{needs}
 use native.Mathlib.Omega.{arith}
@@ -13,7 +14,8 @@ use Rattle.register.proofs.Register.standing.Statement.{statement}
 use Rattle.register.proofs.Register.standing.Tie as tie
 
 abbrev Inv-loop : tie.InvT-loop
-Inv-loop over equal-too self n out₀ i₀ out i = (i ≤ n) × Sifting registerOf (standing equal-too (valuesOf over)) (λ v. v) [] (self .values) (self .len) i out
+Inv-loop over equal-too self n out₀ i₀ out i = (i ≤ n) × Sifting registerOf (standing equal-too (valuesOf over)) (λ v. v) [] (self .values)
+    (self .len) i out
 
 abbrev μ-loop : tie.MeasureT-loop
 μ-loop over equal-too self n out₀ i₀ out i = n - i

@@ -2,10 +2,10 @@
 use mathlib.Core.Path.{_≡_, ap}
 use mathlib.Core.List.{[]}
 use lib.ListN.{length}
-use Rattle.lists.proofs.Pads.{unmapped, used}
+use Rattle.listlaws.proofs.Pads.{unmapped, used}
 use borrow.Author.Needs.{needs}
 use native.Mathlib.Omega.{arith}
-use Rattle.register.specs.Values.{valueLimit}
+use Rattle.limits.specs.Limits.{valueLimit}
 use Rattle.register.proofs.Register.wide.Statement.{statement}
 use Rattle.register.proofs.Register.wide.Tie as tie
 

@@ -3,9 +3,10 @@ use mathlib.Core.Path.{ap, sym, _∙_}
 use mathlib.Core.Bool.{not}
 use mathlib.Core.List.{[]}
 use Prim.Native.Nat.{_≤_, _-_, _<_}
-use Rattle.lists.proofs.Sifting.{Sifting, sifting-start, sifting-keep, sifting-drop, sifting-room, sifting-end}
+use Rattle.listlaws.proofs.Sifting.{Sifting, sifting-start, sifting-keep, sifting-drop, sifting-room, sifting-end}
 use Rattle.clock.specs.Dots.{dotsOf}
-use Rattle.register.specs.Values.{wideValues, wideOf, alive, cutValue, cutValues, wideRoom}
+use Rattle.register.specs.InHand.{wideValues, wideOf, wideRoom}
+use Rattle.register.specs.Values.{alive, cutValue, cutValues}
 use Rattle.register.proofs.Packs.{noneRead, cut-length, wide-pushed}
 use borrow.Author.Needs.{needs}
 use native.Mathlib.Omega.{arith}
@@ -34,8 +35,11 @@ room c =
 loop-again : tie.Need-loop-again Inv-loop μ-loop
 loop-again c =
     let s = c .before .before .before .before .before in
-    let t = ap not (sym (c .before .is-empty .ensures)) ∙ c .if1 .taken in
-    (search needs, sifting-keep noneRead (s .loop .inv .1) (omega arith) (c .before .before .cut .ensures) t (λ l e. wide-pushed l _ e (omega (arith, ap (λ k. k .len) e, room c))))
+    let t = ap not (sym (c .before .is-empty .ensures)) ∙ c .if1 .taken in (
+      search needs,
+      sifting-keep noneRead (s .loop .inv .1) (omega arith) (c .before .before .cut .ensures) t
+          (λ l e. wide-pushed l _ e (omega (arith, ap (λ k. k .len) e, room c))),
+    )
 
 loop-again-2 : tie.Need-loop-again-2 Inv-loop μ-loop
 loop-again-2 c =

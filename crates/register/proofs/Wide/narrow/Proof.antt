@@ -2,8 +2,10 @@
 use mathlib.Core.Path.{ap, sym}
 use mathlib.Core.List.{[], map-id}
 use Prim.Native.Nat.{_-_, _≤_, _<_}
-use Rattle.lists.proofs.Trailing.{Trailing, trailing-start, trailing-add, trailing-room, trailing-end}
-use Rattle.register.specs.Values.{valueLimit, wideValues, registerOf}
+use Rattle.listlaws.proofs.Trailing.{Trailing, trailing-start, trailing-add, trailing-room, trailing-end}
+use Rattle.limits.specs.Limits.{valueLimit}
+use Rattle.register.specs.Values.{registerOf}
+use Rattle.register.specs.InHand.{wideValues}
 use Rattle.register.proofs.Packs.{noneRead, pushed}
 use borrow.Author.Needs.{needs}
 use native.Mathlib.Omega.{arith}
@@ -26,7 +28,11 @@ room c =
     omega (arith, ap (λ k. k .len) (r .1), r .2)
 
 loop-again : tie.Need-loop-again Inv-loop μ-loop
-loop-again c = (search needs, trailing-add noneRead (c .before .before .loop .inv .1) (omega arith) (λ l e. pushed l _ e (omega (arith, ap (λ k. k .len) e, room c))))
+loop-again c = (
+  search needs,
+  trailing-add noneRead (c .before .before .loop .inv .1) (omega arith)
+      (λ l e. pushed l _ e (omega (arith, ap (λ k. k .len) e, room c))),
+)
 
 returns : tie.Need-returns Inv-loop μ-loop
 returns c = trailing-end (c .before .loop .inv .1) (omega arith)

@@ -1,5 +1,5 @@
 -- `Wide::new` meets its contract.
-use Rattle.lists.specs.Pad.{pad}
+use Rattle.listlaws.specs.Pad.{pad}
 use borrow.Author.Needs.{needs}
 use Rattle.register.proofs.Wide.new.Statement.{statement}
 use Rattle.register.proofs.Wide.new.Tie as tie

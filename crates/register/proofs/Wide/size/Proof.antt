@@ -1,10 +1,10 @@
 -- `Wide::size` meets its contract: the count, and the room where the count is larger.
 use mathlib.Core.Path.{_≡_}
 use lib.ListN.{length, length-take}
-use Rattle.lists.proofs.Pads.{unmapped}
+use Rattle.listlaws.proofs.Pads.{unmapped}
 use borrow.Author.Needs.{needs}
 use native.Mathlib.Omega.{arith}
-use Rattle.register.specs.Values.{wideRoom}
+use Rattle.register.specs.InHand.{wideRoom}
 use Rattle.register.proofs.Wide.size.Statement.{statement}
 use Rattle.register.proofs.Wide.size.Tie as tie
 

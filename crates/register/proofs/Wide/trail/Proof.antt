@@ -2,9 +2,10 @@
 use mathlib.Core.Path.{_≡_, ap, sym}
 use mathlib.Core.List.{List, _++_, map-id}
 use Prim.Native.Nat.{_+_, _-_, _≤_}
-use Rattle.lists.proofs.Trailing.{Trailing, trailing-start, trailing-add, trailing-end}
+use Rattle.listlaws.proofs.Trailing.{Trailing, trailing-start, trailing-add, trailing-end}
 use Rattle.register.specs.declared.Value.{Value}
-use Rattle.register.specs.Values.{valuesOf, wideOf}
+use Rattle.register.specs.Values.{valuesOf}
+use Rattle.register.specs.InHand.{wideOf}
 use Rattle.register.proofs.Packs.{noneRead, wide-pushed}
 use borrow.Author.Needs.{needs}
 use native.Mathlib.Omega.{arith}
@@ -13,7 +14,8 @@ use Rattle.register.proofs.Wide.trail.Tie as tie
 
 abbrev Inv-loop : tie.InvT-loop
 Inv-loop from n out₀ i₀ out i =
-    (i ≤ n) × (out .len ≡ out₀ .len + i) × ((l : List Value) → out₀ ≡ wideOf l → Trailing wideOf (λ v. v) (l ++ valuesOf from) (from .values) (from .len) i out)
+    (i ≤ n) × (out .len ≡ out₀ .len + i) × ((l : List Value) → out₀ ≡ wideOf l
+    → Trailing wideOf (λ v. v) (l ++ valuesOf from) (from .values) (from .len) i out)
 
 abbrev μ-loop : tie.MeasureT-loop
 μ-loop from n out₀ i₀ out i = n - i
@@ -23,8 +25,12 @@ loop-holds c = (search needs, search needs, λ l e. trailing-start l (ap (λ r. 
 
 loop-again : tie.Need-loop-again Inv-loop μ-loop
 loop-again c =
-    let s = c .before .before in
-    (search needs, search needs, λ l e. trailing-add noneRead (s .loop .inv .2 l e) (omega arith) (λ m q. wide-pushed m _ q (omega (arith, ap (λ k. k .len) q, s .loop .inv .1))))
+    let s = c .before .before in (
+      search needs,
+      search needs,
+      λ l e. trailing-add noneRead (s .loop .inv .2 l e) (omega arith)
+          (λ m q. wide-pushed m _ q (omega (arith, ap (λ k. k .len) q, s .loop .inv .1))),
+    )
 
 returns : tie.Need-returns Inv-loop μ-loop
 returns c = λ l e. trailing-end (c .before .loop .inv .2 l e) (omega arith)

@@ -1,7 +1,7 @@
 -- `Scan::next` meets its contract.
 use borrow.Author.Tests.{eq-eqb, ne-eqb}
 use borrow.Author.Needs.{needs}
-use Rattle.scan.specs.Scanned.{scanOn}
+use Rattle.scan.specs.Stepping.{scanOn}
 use Rattle.scan.proofs.Scan.next.Statement.{statement}
 use Rattle.scan.proofs.Scan.next.Tie as tie
 
@@ -11,7 +11,8 @@ returns c = rw (eq-eqb _ _ (c .if1 .taken))
 
 returns-2 : tie.Need-returns-2
 unfolding scanOn
-returns-2 c = rw (ne-eqb _ _ (c .before .before .before .if1 .left), ← c .before .before .follows .ensures, c .before .if2 .taken) (c .counted .ensures)
+returns-2 c = rw (ne-eqb _ _ (c .before .before .before .if1 .left), ← c .before .before .follows .ensures, c .before .if2 .taken)
+    (c .counted .ensures)
 
 returns-3 : tie.Need-returns-3
 unfolding scanOn

@@ -4,7 +4,7 @@ use Prim.Native.Nat.{_≤_, _-_}
 use lib.ListN.{length, take, length-set}
 use native.Mathlib.Omega.{arith}
 use borrow.Author.Needs.{needs}
-use Rattle.clock.specs.Dots.{dotLimit}
+use Rattle.limits.specs.Limits.{dotLimit}
 use Rattle.sketch.specs.Drawn.{beside}
 use Rattle.sketch.proofs.Flats.{length-beside, beside-more, taken-all}
 use Rattle.sketch.proofs.Flat.clock.Statement.{statement}

@@ -4,8 +4,9 @@ use Prim.Native.Nat.{_≤_, _-_}
 use lib.ListN.{length, take, getD, length-set}
 use native.Mathlib.Omega.{arith}
 use borrow.Author.Needs.{needs}
-use Rattle.lists.proofs.Pads.{unmapped}
-use Rattle.clock.specs.Dots.{dotLimit, noDot}
+use Rattle.listlaws.proofs.Pads.{unmapped}
+use Rattle.limits.specs.Limits.{dotLimit}
+use Rattle.clock.specs.Dots.{noDot}
 use Rattle.sketch.specs.Drawn.{beside}
 use Rattle.sketch.proofs.Flats.{length-beside, apart-more, taken-all}
 use Rattle.sketch.proofs.Flat.of.Statement.{statement}
@@ -32,7 +33,8 @@ loop-again c =
     let k = f .inv in
     let room = long (s .before) in (
       (omega arith, (simp length-set (k .0 .1 .0), simp length-set (k .0 .1 .1))),
-      apart-more (f .actors) (f .counters) (s .before .args .t1 .dots) (f .i) (getD (s .before .args .t1 .dots) (f .i) noDot) (omega (arith, k .0 .1 .0, k .0 .1 .1)) (k .1) refl (omega arith) (omega arith),
+      apart-more (f .actors) (f .counters) (s .before .args .t1 .dots) (f .i) (getD (s .before .args .t1 .dots) (f .i) noDot)
+          (omega (arith, k .0 .1 .0, k .0 .1 .1)) (k .1) refl (omega arith) (omega arith),
     )
 
 returns : tie.Need-returns Inv-loop μ-loop

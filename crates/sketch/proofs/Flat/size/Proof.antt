@@ -3,7 +3,7 @@ use mathlib.Core.Path.{_≡_}
 use lib.ListN.{length, length-take}
 use borrow.Author.Needs.{needs}
 use native.Mathlib.Omega.{arith}
-use Rattle.clock.specs.Dots.{dotLimit}
+use Rattle.limits.specs.Limits.{dotLimit}
 use Rattle.sketch.specs.declared.Flat.{Flat}
 use Rattle.sketch.specs.Drawn.{beside}
 use Rattle.sketch.proofs.Flats.{length-beside}

@@ -1,9 +1,9 @@
 -- `Sketch::size` meets its contract: the count, and the room where the count is larger.
 use mathlib.Core.Path.{_≡_}
 use lib.ListN.{length, length-take}
-use Rattle.lists.proofs.Pads.{unmapped}
+use Rattle.listlaws.proofs.Pads.{unmapped}
 use borrow.Author.Needs.{needs}
-use Rattle.parts.specs.Model.{entryLimit}
+use Rattle.limits.specs.Limits.{entryLimit}
 use native.Mathlib.Omega.{arith}
 use Rattle.sketch.proofs.Sketch.size.Statement.{statement}
 use Rattle.sketch.proofs.Sketch.size.Tie as tie

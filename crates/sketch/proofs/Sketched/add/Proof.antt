@@ -4,7 +4,7 @@ use lib.ListN.{length}
 use native.Mathlib.Omega.{arith}
 use borrow.Author.Needs.{needs}
 use borrow.Author.Tests.{not-true, not-false}
-use Rattle.lists.proofs.Pads.{unmapped}
+use Rattle.listlaws.proofs.Pads.{unmapped}
 use Rattle.sketch.proofs.Adding.{add-none, add-one, add-over}
 use Rattle.sketch.proofs.Sketched.add.Statement.{statement}
 use Rattle.sketch.proofs.Sketched.add.Tie as tie

@@ -1,7 +1,7 @@
 -- `Sketched::size` meets its contract: the count, and the room where the count is larger.
 use mathlib.Core.Path.{_≡_}
 use lib.ListN.{length, length-take}
-use Rattle.lists.proofs.Pads.{unmapped}
+use Rattle.listlaws.proofs.Pads.{unmapped}
 use borrow.Author.Needs.{needs}
 use native.Mathlib.Omega.{arith}
 use Rattle.sketch.proofs.Sketched.size.Statement.{statement}

@@ -1,8 +1,8 @@
 -- `Sums::new` meets its contract.
 use mathlib.Core.Path.{refl}
 use native.Mathlib.Omega.{arith}
-use Rattle.lists.specs.First.{firstIn}
-use Rattle.answers.specs.Sizes.{totalOf}
+use Rattle.listlaws.specs.First.{firstIn}
+use Rattle.listlaws.specs.Fold.{totalOf}
 use Rattle.sketch.proofs.Sums.new.Statement.{statement}
 use Rattle.sketch.proofs.Sums.new.Tie as tie
 

@@ -5,9 +5,9 @@ use Prim.Native.Nat.{ℕ, _+_, _*_, _≤_, _<_, _-_}
 use lib.ListN.{length, drop, take, getD}
 use native.Mathlib.Omega.{arith}
 use borrow.Author.Needs.{needs}
-use Rattle.lists.proofs.Rests.{in-list}
-use Rattle.clock.specs.Dots.{dotLimit}
-use Rattle.answers.specs.Sizes.{totalOf}
+use Rattle.listlaws.proofs.Rests.{in-list}
+use Rattle.limits.specs.Limits.{dotLimit}
+use Rattle.listlaws.specs.Fold.{totalOf}
 use Rattle.answers.proofs.Totals.{total-on, total-end}
 use Rattle.marks.specs.Marks.{marksSet}
 use Rattle.sketch.specs.Drawn.{sourceSize, sourcesOf, Ready}
@@ -41,8 +41,14 @@ loop-again c =
 
 returns : tie.Need-returns Inv-loop μ-loop
 returns c =
-    let s = c .before in
-    (omega (arith, s .loop .inv .0), λ x y h. omega (arith, s .loop .inv .1 x y h, total-end sourceSize (sourcesOf (s .before .before .args .t1)) (s .loop .i) (omega arith)))
+    let s = c .before in (
+      omega (arith, s .loop .inv .0),
+      λ x y h. omega (
+        arith,
+        s .loop .inv .1 x y h,
+        total-end sourceSize (sourcesOf (s .before .before .args .t1)) (s .loop .i) (omega arith),
+      ),
+    )
 
 pub count-sources-spec : {M : Type 1} → statement M
 count-sources-spec =

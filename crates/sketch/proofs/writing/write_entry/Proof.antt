@@ -5,7 +5,7 @@ use native.Mathlib.Omega.{arith}
 use borrow.Author.Needs.{needs}
 use Rattle.clock.specs.Dots.{dotsOf}
 use Rattle.clockimage.specs.Image.{dotRecord, dotRecords}
-use Rattle.sketch.specs.Drawn.{clockIn}
+use Rattle.sketch.specs.Drawn.{clockApart}
 use Rattle.sketch.proofs.Sources.{entry-dots, entry-more, wrote-as}
 use Rattle.sketch.proofs.writing.write_entry.Statement.{statement}
 use Rattle.sketch.proofs.writing.write_entry.Tie as tie
@@ -18,7 +18,7 @@ write-dots-requires c κs =
     omega (
       arith,
       ap length (entry-dots (a .s .now) (a .t .now) (a .e) (a .kind) (c .before .before .before .if1 .taken)),
-      length-map (dotsOf (clockIn (a .e .own))) (dotRecord 2 0 (a .e .key)),
+      length-map (dotsOf (clockApart (a .e .own))) (dotRecord 2 0 (a .e .key)),
       ap (λ k. length (dotsOf k)) (c .before .clock .ensures),
     )
 

@@ -5,10 +5,10 @@ use Prim.Native.Nat.{_≤_, _<_, _-_, _+_, _*_}
 use lib.ListN.{length, getD, length-map}
 use native.Mathlib.Omega.{arith}
 use borrow.Author.Needs.{needs}
-use Rattle.lists.proofs.Rests.{in-list}
+use Rattle.listlaws.proofs.Rests.{in-list}
 use Rattle.records.proofs.Writing.{Writing, write-start, write-room, write-on, write-end, last-room, write-last}
 use Rattle.clock.specs.Dots.{dotsOf}
-use Rattle.parts.specs.Model.{entryLimit}
+use Rattle.limits.specs.Limits.{entryLimit}
 use Rattle.records.specs.declared.Record.{Record}
 use Rattle.clockimage.specs.Image.{dotRecord, dotRecords}
 use Rattle.mapimage.specs.MapImage.{entryRecords}
@@ -43,7 +43,8 @@ write-dots-requires c κs =
 -- what is left when they are written
 begun : (c : tie.After-slice-known2 Inv-loop μ-loop) → let z = c .before .before .before .before .before .before .before .before in
     Writing (dots z ++ sections z) (sections z) 0 (z .args .out .now) (c .before .before .write-dots .last .0) (c .before .before .write-dots .result)
-begun c = let z = c .before .before .before .before .before .before .before .before in write-on _ _ _ (dots z) (start z) refl (c .before .before .write-dots .ensures)
+begun c = let z = c .before .before .before .before .before .before .before .before in
+    write-on _ _ _ (dots z) (start z) refl (c .before .before .write-dots .ensures)
 
 loop-holds : tie.Need-loop-holds Inv-loop μ-loop
 loop-holds c =
@@ -80,7 +81,11 @@ loop-again c =
     let a = s .before .before .before .before .before .before .before .before .before .args in
     let g = s .loop .inv .1 .1 in
     let on : s .loop .kind < 5 = c .before .before .before .before .before .before .loop-test .taken in
-    let k : s .loop .i < length (itemsOf (a .t4)) = omega (arith, s .before .before .before .before .before .size .ensures .0, c .before .before .before .before .before .if1 .taken) in
+    let k : s .loop .i < length (itemsOf (a .t4)) = omega (
+      arith,
+      s .before .before .before .before .before .size .ensures .0,
+      c .before .before .before .before .before .if1 .taken,
+    ) in
     let x = getD (a .t4 .items) (s .loop .i) noSketchedRead in (
       (omega arith, omega arith),
       (
@@ -102,7 +107,8 @@ loop-again-2 c =
     let g = s .loop .inv .1 .1 in
     let on : s .loop .kind < 5 = c .before .loop-test .taken in
     let l = drawnAll (a .s .now) (a .t .now) (a .t4) in
-    let e = g .inside on ∙ section-end (a .s .now) (a .t .now) (a .t4) (s .loop .kind) (s .loop .i) (omega (arith, s .before .before .before .before .before .size .ensures .0, c .if1 .left)) in (
+    let e = g .inside on ∙ section-end (a .s .now) (a .t .now) (a .t4) (s .loop .kind) (s .loop .i)
+    (omega (arith, s .before .before .before .before .before .size .ensures .0, c .if1 .left)) in (
       (omega arith, omega arith),
       (
         omega arith,

@@ -3,19 +3,20 @@ use mathlib.Core.List.{List}
 use Prim.Native.Nat.{ℕ, _+_, _*_, _≤_}
 use lib.ListN.{length}
 use borrow.Author.Needs.{needs}
-use Rattle.records.specs.Records.{bytesOf, Wrote}
+use Rattle.records.specs.Records.{bytesOf}
+use Rattle.records.specs.Writing.{Wrote}
 use Rattle.mapimage.specs.MapImage.{valueRecords}
 use Rattle.sketch.specs.declared.Source.{Source}
-use Rattle.sketch.specs.Drawn.{valueIn, Placed}
+use Rattle.sketch.specs.Drawn.{valueNamed, Placed}
 use Rattle.sketch.proofs.Sources.{in-second, in-first}
 use Rattle.sketch.proofs.writing.write_source.Statement.{statement}
 use Rattle.sketch.proofs.writing.write_source.Tie as tie
 
 abbrev Room : Source → ℕ → ℕ → ℕ → ℕ → ℕ → List ℕ → Type 0
-Room x kind key index at room s = Placed s x × (at + length (valueRecords kind key index (valueIn s x)) * 16 ≤ room)
+Room x kind key index at room s = Placed s x × (at + length (valueRecords kind key index (valueNamed s x)) * 16 ≤ room)
 
 abbrev Done : Source → ℕ → ℕ → ℕ → ℕ → List ℕ → List ℕ → ℕ → List ℕ → Type 0
-Done x kind key index at entry exit next s = Wrote at (bytesOf (valueRecords kind key index (valueIn s x))) entry exit next
+Done x kind key index at entry exit next s = Wrote at (bytesOf (valueRecords kind key index (valueNamed s x))) entry exit next
 
 write-in-requires : tie.Need-write-in-requires
 write-in-requires c κs =

@@ -4,9 +4,10 @@ use Prim.Native.Nat.{_≤_}
 use lib.ListN.{length}
 use borrow.Author.Needs.{needs}
 use Rattle.clock.specs.declared.Joined.{Joined}
-use Rattle.clock.specs.Dots.{dotLimit, clockOf, fitted, addDot}
+use Rattle.limits.specs.Limits.{dotLimit}
+use Rattle.clock.specs.Dots.{clockOf, fitted, addDot}
 use Rattle.clock.proofs.Packs.{dots-of, fits}
-use Rattle.parts.specs.Model.{dotsIn}
+use Rattle.entries.specs.Model.{dotsIn}
 use Rattle.updating.specs.Updated.{dotsTo}
 use Rattle.updating.proofs.drawing.clock_to.Statement.{statement}
 use Rattle.updating.proofs.drawing.clock_to.Tie as tie

@@ -4,21 +4,22 @@ use mathlib.Core.List.{List, []}
 use Prim.Native.Nat.{ℕ, _≤_}
 use lib.ListN.{length}
 use borrow.Author.Needs.{needs}
-use Rattle.lists.specs.Sift.{sift}
-use Rattle.lists.proofs.Orders.{apart}
+use Rattle.listlaws.specs.Sift.{sift}
+use Rattle.listlaws.proofs.Orders.{apart}
 use Rattle.clock.specs.declared.Dot.{Dot}
-use Rattle.clock.specs.Dots.{dotLimit, clockOf, isEmpty}
+use Rattle.limits.specs.Limits.{dotLimit, valueLimit}
+use Rattle.clock.specs.Dots.{clockOf, isEmpty}
 use Rattle.clock.proofs.Packs.{dots-of}
 use Rattle.register.specs.declared.Value.{Value}
-use Rattle.register.specs.Values.{valueLimit, alive}
-use Rattle.parts.specs.declared.Entry.{Entry}
-use Rattle.parts.specs.declared.Removal.{Removal}
-use Rattle.parts.specs.declared.Update.{Update}
-use Rattle.parts.specs.Model.{valuesIn}
+use Rattle.register.specs.Values.{alive}
+use Rattle.entries.specs.declared.Entry.{Entry}
+use Rattle.removals.specs.declared.Removal.{Removal}
+use Rattle.entries.specs.declared.Update.{Update}
+use Rattle.entries.specs.Model.{valuesIn}
 use Rattle.queued.specs.Queue.{cutsFor, Queued, Marked}
 use Rattle.marks.proofs.Picks.{picked-all}
 use Rattle.sketch.specs.declared.Sketched.{Sketched}
-use Rattle.sketch.specs.Walking.{LiesAt}
+use Rattle.entrywalk.specs.Walking.{LiesAt}
 use Rattle.sketch.specs.Drawn.{Draws}
 use Rattle.leaving.specs.Left.{valueLeft}
 use Rattle.updating.specs.Updated.{dotsTo, valuesTo}

@@ -7,20 +7,20 @@ use lib.ListN.{length, length-set}
 use native.Mathlib.Omega.{arith}
 use borrow.Author.Needs.{needs}
 use borrow.Author.Tests.{ltb-false}
-use Rattle.lists.proofs.Orders.{apart}
+use Rattle.listlaws.proofs.Orders.{apart}
 use Rattle.clock.specs.declared.Dot.{Dot}
 use Rattle.clock.specs.Dots.{dotsOf, isEmpty}
 use Rattle.clock.proofs.Packs.{dots-of}
 use Rattle.map.specs.declared.Map.{Map}
-use Rattle.parts.specs.Model.{entryLimit}
+use Rattle.limits.specs.Limits.{entryLimit}
 use Rattle.map.specs.Model.{waitingIn}
 use Rattle.maprecords.specs.Related.{readMap}
 use Rattle.mapimage.specs.MapImage.{keyNumber}
 use Rattle.queued.specs.Queue.{Marked, Keyed}
-use Rattle.sketch.specs.Drawn.{clockIn}
+use Rattle.sketch.specs.Drawn.{clockApart}
 use Rattle.sketch.proofs.Adding.{sketch-none, push-one, push-over}
-use Rattle.merging.proofs.Merges.{some-left, none-left}
-use Rattle.updating.specs.Updated.{puts, Comes, PutLies}
+use Rattle.leaving.proofs.Fates.{some-left, none-left}
+use Rattle.updating.specs.Updated.{puts, UpdateComes, PutLies}
 use Rattle.updating.proofs.Lying.{put-lies}
 use Rattle.updating.proofs.Updates.{Drawing, drawing-start, fits-next, cutKey, Drew, drew, grown-goes, grown-stays, drawing-on, drawing-end}
 use Rattle.updating.proofs.drawing.draw_keys.Statement.{statement}
@@ -42,8 +42,9 @@ next-requires : tie.Need-next-requires Inv-loop μ-loop
 next-requires c κs = let d = c .before .before .loop .inv .1 in (c .if1 .taken, (d .es, d .ahead))
 
 -- what comes next
-came : (c : tie.After-next Inv-loop μ-loop) → let w = c .before .before .before in let a = w .before .before .before .before .before .before .before .args in
-    Comes (a .s .now) (a .l) (a .u) (w .loop .x) (w .loop .done) (w .loop .inv .1 .es) (c .next .result)
+came : (c : tie.After-next Inv-loop μ-loop) → let w = c .before .before .before in
+    let a = w .before .before .before .before .before .before .before .args in
+    UpdateComes (a .s .now) (a .l) (a .u) (w .loop .x) (w .loop .done) (w .loop .inv .1 .es) (c .next .result)
 came c = let d = c .before .before .before .loop .inv .1 in c .next .ensures _ (d .es) refl (d .ahead)
 
 listers-requires : tie.Need-listers-requires Inv-loop μ-loop
@@ -121,7 +122,7 @@ module _ (c : tie.After-draw-key Inv-loop μ-loop) where
       (subst (λ x. Marked (waitingIn m) x (i .listers .result .under)) (r .lies .key) (ours .0)))
 
   abbrev drawnDots : List Dot
-  drawnDots = dotsOf (clockIn (c .draw-key .result .own))
+  drawnDots = dotsOf (clockApart (c .draw-key .result .own))
 
   left : isEmpty (cutKey (w .loop .inv .1) (came k)) ≡ isEmpty drawnDots
   left = ap isEmpty (sym (dots-of (cutKey (w .loop .inv .1) (came k)) (drawn .0)))

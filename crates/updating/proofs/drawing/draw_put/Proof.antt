@@ -4,13 +4,14 @@ use mathlib.Core.Bool.{cond}
 use mathlib.Core.List.{[]}
 use native.Mathlib.Omega.{arith}
 use borrow.Author.Needs.{needs}
-use Rattle.lists.specs.Sift.{sift}
-use Rattle.register.specs.Values.{valueLimit, alive}
-use Rattle.parts.specs.Model.{valuesIn}
+use Rattle.listlaws.specs.Sift.{sift}
+use Rattle.limits.specs.Limits.{valueLimit}
+use Rattle.register.specs.Values.{alive}
+use Rattle.entries.specs.Model.{valuesIn}
 use Rattle.marks.proofs.Picks.{picked-all}
-use Rattle.sketch.specs.Drawn.{valueIn, imageOf, valueAt, Draws}
+use Rattle.sketch.specs.Drawn.{valueNamed, imageNamed, valueFrom, Draws}
 use Rattle.leaving.specs.Left.{valueLeft}
-use Rattle.merging.proofs.Standing.{runs-of}
+use Rattle.entrywalk.proofs.Lying.{runs-of}
 use Rattle.updating.proofs.Lying.{put-empty, put-full}
 use Rattle.updating.proofs.Values.{put-nothing, put-yields, put-behind}
 use Rattle.updating.proofs.drawing.draw_put.Statement.{statement}
@@ -42,7 +43,8 @@ returns-2 c =
     (c .before .draw-standing2 .ensures .1 (a .op .now) key d e w g l q m)
 
 put-source-requires : tie.Need-put-source-requires
-put-source-requires c κs = let p = c .before .before .before .before .before .before .before .before .before .before .before .pre in (p .1, p .0 .1 .1 .1)
+put-source-requires c κs = let p = c .before .before .before .before .before .before .before .before .before .before .before .pre in
+    (p .1, p .0 .1 .1 .1)
 
 add-requires : tie.Need-add-requires
 add-requires c κs = (omega (arith, c .before .before .draw-standing2 .ensures .0), c .put-source .ensures .0 .1)
@@ -57,8 +59,9 @@ returns-3 c =
     let o = st .put-stands .ensures (valuesIn e) (u .put) (runs-of l) (h .dots) in
     let r = c .before .put-source .result in
     let found = c .before .put-source .ensures .1 u w (e .key) h q m in
-    let image : imageOf (a .s .now) (a .op .now) r ≡ a .op .now = ap (λ z. cond z (a .op .now) (a .s .now)) (c .before .put-source .ensures .0 .0) in
-    let value : valueAt (a .s .now) (a .op .now) r ≡ valueLeft w [] (e .key) [] (u .put) = ap (λ z. valueIn z r) image ∙ found .1 in
+    let image : imageNamed (a .s .now) (a .op .now) r ≡ a .op .now = ap (λ z. cond z (a .op .now) (a .s .now))
+    (c .before .put-source .ensures .0 .0) in
+    let value : valueFrom (a .s .now) (a .op .now) r ≡ valueLeft w [] (e .key) [] (u .put) = ap (λ z. valueNamed z r) image ∙ found .1 in
     subst (λ x. Draws (a .s .now) (a .op .now) key d x (c .add .result))
     (put-behind (valuesIn e) (u .put) (valueLeft w [] (e .key) []) (put-full h (omega (arith, i .if1 .left)))
     (sym (o .1) ∙ c .before .before .if2 .left) (o .0) value)

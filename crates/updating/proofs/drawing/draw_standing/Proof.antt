@@ -3,11 +3,11 @@ use mathlib.Core.Path.{refl, subst}
 use mathlib.Core.List.{[]}
 use native.Mathlib.Omega.{arith}
 use borrow.Author.Needs.{needs}
-use Rattle.lists.specs.Sift.{sift}
+use Rattle.listlaws.specs.Sift.{sift}
 use Rattle.clock.proofs.Joins.{lawful-nil}
 use Rattle.clock.proofs.Packs.{dots-of}
 use Rattle.register.specs.Values.{alive}
-use Rattle.parts.specs.Model.{valuesIn}
+use Rattle.entries.specs.Model.{valuesIn}
 use Rattle.marks.specs.Marks.{picked}
 use Rattle.sketch.specs.Drawn.{Draws}
 use Rattle.leaving.specs.Left.{valueLeft}

@@ -3,17 +3,17 @@ use mathlib.Core.Path.{sym, subst}
 use native.Mathlib.Omega.{arith}
 use borrow.Author.Needs.{needs}
 use Rattle.queued.specs.Queue.{Keyed, Queued}
-use Rattle.queued.proofs.Starts.{keyed-image, keyed-none}
-use Rattle.merging.proofs.Weaving.{nothing}
+use Rattle.queued.proofs.Starts.{none-queued, keyed-image, keyed-none}
 use Rattle.updating.proofs.drawing.draw_updated.Statement.{statement}
 use Rattle.updating.proofs.drawing.draw_updated.Tie as tie
 
 draw-keys-requires : tie.Need-draw-keys-requires
 draw-keys-requires c κs =
     let p = c .before .before .before .before .before .pre in
-    let n = p .0 .1 .count in
-    let k = c .before .if1 .taken in
-    ((p .0 .0, subst (Queued _ _) (sym (nothing _ (omega arith))) (c .none .ensures _)), (p .1 .0, (p .1 .1 .0, (p .1 .1 .1 .0, (p .1 .1 .1 .1, subst (Keyed _ _ _ _) (sym (nothing _ (omega arith))) (keyed-none _ 0 (omega arith)))))))
+    let none = sym (none-queued _ (p .0 .1) (c .before .if1 .taken)) in (
+      (p .0 .0, subst (Queued _ _) none (c .none .ensures _)),
+      (p .1 .0, (p .1 .1 .0, (p .1 .1 .1 .0, (p .1 .1 .1 .1, subst (Keyed _ _ _ _) none (keyed-none _ 0 (omega arith)))))),
+    )
 
 draw-keys-requires-2 : tie.Need-draw-keys-requires-2
 draw-keys-requires-2 c κs =

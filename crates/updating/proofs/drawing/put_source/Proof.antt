@@ -2,7 +2,8 @@
 use mathlib.Core.Path.{refl, ap, sym, _∙_}
 use native.Mathlib.Omega.{arith}
 use borrow.Author.Needs.{needs}
-use Rattle.clock.specs.Dots.{dotLimit, clockOf}
+use Rattle.limits.specs.Limits.{dotLimit}
+use Rattle.clock.specs.Dots.{clockOf}
 use Rattle.queued.specs.Queue.{cutsFor}
 use Rattle.marks.proofs.Picks.{picked-all}
 use Rattle.updating.proofs.Lying.{put-short, put-few}

@@ -5,9 +5,9 @@ use mathlib.Core.List.{[]}
 use native.Mathlib.Omega.{arith}
 use borrow.Author.Needs.{needs}
 use borrow.Author.Tests.{ltb-true}
-use Rattle.parts.specs.Model.{entryAs}
-use Rattle.sketch.specs.Walking.{LiesAt}
-use Rattle.merging.proofs.Fronts.{front-first, front-above}
+use Rattle.entries.specs.Model.{entryAs}
+use Rattle.entrywalk.specs.Walking.{LiesAt}
+use Rattle.entrywalk.proofs.Fronts.{front-first, front-above}
 use Rattle.updating.proofs.Nexts.{comes-behind, comes-before, comes-on, comes-new, comes-told}
 use Rattle.updating.proofs.stepping.next.Statement.{statement}
 use Rattle.updating.proofs.stepping.next.Tie as tie

@@ -1,0 +1,13 @@
+pub mod Packs
+pub mod Preserving
+pub mod Cuts
+pub mod Runs
+pub mod ByKey
+pub mod Puts
+pub mod ClocksFit
+pub mod MergeLeaves
+pub mod MergeSteps
+pub mod Finishing
+pub mod EntryValid
+pub mod EntriesValid
+pub mod Limits

@@ -1,0 +1,4 @@
+pub mod Model
+pub mod Entries
+pub mod Valid
+pub mod Steps

@@ -1,0 +1,4 @@
+pub mod Starts
+pub mod Stepping
+pub mod Fronts
+pub mod Lying

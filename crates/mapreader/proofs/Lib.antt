@@ -1,4 +1,0 @@
-pub mod SoFar
-pub mod Steps
-pub mod Waits
-pub mod Readers

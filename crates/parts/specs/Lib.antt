@@ -1,4 +1,0 @@
-pub mod Model
-pub mod Entries
-pub mod Waits
-pub mod Valid

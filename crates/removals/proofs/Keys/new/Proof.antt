@@ -1,0 +1,14 @@
+-- `Keys::new` meets its contract.
+use Rattle.listlaws.specs.Pad.{pad}
+use borrow.Author.Needs.{needs}
+use Rattle.removals.proofs.Keys.new.Statement.{statement}
+use Rattle.removals.proofs.Keys.new.Tie as tie
+
+returns : tie.Need-returns
+unfolding pad
+returns c = search needs
+
+pub new-spec : {M : Type 1} → statement M
+new-spec =
+    tie.close
+    (tie.spec returns)

@@ -1,0 +1,11 @@
+pub mod Packs
+pub mod KeyLimits
+pub mod ClockOrder
+pub mod Waits
+pub mod Unions
+pub mod Uniting
+pub mod WaitingValid
+pub mod Lengths
+pub mod Joining
+pub mod Resetting
+pub mod ListingClocks

@@ -1,0 +1,4 @@
+pub mod Model
+pub mod Waits
+pub mod Valid
+pub mod Counted
