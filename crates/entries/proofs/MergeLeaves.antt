@@ -25,7 +25,7 @@ stays-alone other e =
     let left = cutDots other (dotsIn e) in
     ap (λ d. not (isEmpty d)) (dots-in (e .key) left (cutValues (cutDots left other) (valuesIn e))) ∙ ap not (empty-covered other (dotsIn e))
 
--- so that, where it doesn't cover the entry clock of a valid map, the cut leaves a dot
+-- an end theorem: so that, where it doesn't cover the entry clock of a valid map, the cut leaves a dot
 pub cut-leaves : {seen : List Dot} {e : Entry} → ValidEntry seen e → (other : List Dot) → covers other (dotsIn e) ≡ false
     → isEmpty (dotsIn (cutAlone other e)) ≡ false
 cut-leaves {e = e} v other n = not-true _ (stays-alone other e ∙ ap not n)
