@@ -12,7 +12,7 @@ ghost use Rattle.entries.specs.Model.{dotsIn, entryAs};
 ghost use Rattle.records.specs.Records.{recordFrom};
 ghost use Rattle.records.specs.Kinds.{valueDotKind};
 ghost use Rattle.mapimage.specs.MapImage.{flatFrom, valueRecords};
-ghost use Rattle.walks.specs.Walk.{part};
+ghost use Rattle.walks.specs.Walk.{part, Splits};
 ghost use Rattle.entrywalk.specs.Walking.{beyondKeys, Runs, Ahead, LiesAt, Steps};
 use clock::Clock;
 use limits::DOTS;
@@ -42,6 +42,22 @@ pub struct Lain {
     pub next: Cursor,
 }
 
+// The first place from `from` on whose field is at least `bound`, where the field does not fall: walked along, since it is near.
+fn next_from(s: &[u8], field: u8, bound: u64, from: usize, end: usize) -> usize
+    requires { ⌜ (from ≤ end) × (end * 16 ≤ length (now s)) ⌝ }
+    ensures { λ r. ⌜ (from ≤ r) × ((r ≤ end) × ((at : ℕ) → Splits (now (s .entry)) field bound from end at → r ≡ at)) ⌝ }
+{
+    let mut i = from;
+    while i < end {
+        let r = records::read_record(s, i * 16);
+        if bound <= walks::field_of(field, r) {
+            return i;
+        }
+        i += 1;
+    }
+    i
+}
+
 // Where the dots of each of n values begin, and where the last one's end.
 pub fn starts_of(s: &[u8], n: usize, from: usize, end: usize) -> [usize; VALUE_STARTS]
     requires { ⌜ (n ≤ valueLimit) × ((from ≤ end) × (end * 16 ≤ length (now s))) ⌝ }
@@ -52,7 +68,7 @@ pub fn starts_of(s: &[u8], n: usize, from: usize, end: usize) -> [usize; VALUE_S
     let mut at = from;
     let mut i: usize = 0;
     while i < n {
-        at = walks::first_from(s, BY_INDEX, i as u64 + 1, at, end);
+        at = next_from(s, BY_INDEX, i as u64 + 1, at, end);
         i += 1;
         starts[i] = at;
     }
@@ -70,9 +86,9 @@ pub fn entry_at(s: &[u8], l: Layout, x: Cursor) -> Lain
     let first = records::read_record(s, own * 16);
     let key = first.key;
     let above = key as u64 + 1;
-    let dots = walks::first_from(s, BY_KEY, above, own, l.third);
-    let values = walks::first_from(s, BY_KEY, above, value, l.fourth);
-    let clocks = walks::first_from(s, BY_KEY, above, dot, l.fifth);
+    let dots = next_from(s, BY_KEY, above, own, l.third);
+    let values = next_from(s, BY_KEY, above, value, l.fourth);
+    let clocks = next_from(s, BY_KEY, above, dot, l.fifth);
     let starts = starts_of(s, values - value, dot, clocks);
     let next = Cursor {
         own: dots,

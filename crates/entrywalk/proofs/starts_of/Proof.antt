@@ -26,7 +26,7 @@ loop-holds c = (search needs, λ key l e p. started (c .before .pre .1 .0) refl 
 
 loop-again : tie.Need-loop-again Inv-loop μ-loop
 loop-again c =
-    let f = c .first-from .ensures in
+    let f = c .next-from .ensures in
     let v = c .before .before .loop .inv in (
       (omega arith, (omega arith, (omega arith, (omega arith, simp length-set (omega arith))))),
       λ key l e p. started-on (v .1 key l e p) (omega arith) (omega arith) (omega arith) _ (f .0) (f .1 .0) (f .1 .1),
