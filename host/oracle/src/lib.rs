@@ -5,5 +5,6 @@ pub mod expected;
 pub mod full;
 pub mod image;
 pub mod model;
+pub mod nested;
 pub mod published;
 mod tree;

@@ -13,7 +13,7 @@ pub fn clock_in(clock: &Clock) -> VClock<u16> {
     VClock { dots: clock.clone() }
 }
 
-fn clock_tree(clock: &Clock) -> Tree {
+pub(crate) fn clock_tree(clock: &Clock) -> Tree {
     let dots = clock
         .iter()
         .map(|(actor, counter)| (Tree::Number((*actor).into()), Tree::Number(*counter)))
@@ -21,7 +21,7 @@ fn clock_tree(clock: &Clock) -> Tree {
     Tree::List(vec![Tree::Table(dots)])
 }
 
-fn register_tree(values: &[(Clock, ValueAndOrigin)]) -> Tree {
+pub(crate) fn register_tree(values: &[(Clock, ValueAndOrigin)]) -> Tree {
     let values = values
         .iter()
         .map(|(clock, value)| Tree::List(vec![clock_tree(clock), to_tree(value)]))
@@ -71,16 +71,16 @@ fn actor_of(tree: Tree) -> u16 {
     tree.number().try_into().expect("an actor has 16 bits")
 }
 
-fn key_of(tree: Tree) -> u32 {
+pub(crate) fn key_of(tree: Tree) -> u32 {
     tree.number().try_into().expect("a key has 32 bits")
 }
 
-fn clock_of(tree: Tree) -> Clock {
+pub(crate) fn clock_of(tree: Tree) -> Clock {
     let [dots] = tree.fields();
     dots.table().into_iter().map(|(actor, counter)| (actor_of(actor), counter.number())).collect()
 }
 
-fn values_of(tree: Tree) -> Vec<(Clock, ValueAndOrigin)> {
+pub(crate) fn values_of(tree: Tree) -> Vec<(Clock, ValueAndOrigin)> {
     let [values] = tree.fields();
     let pair = |value: Tree| {
         let [clock, value] = value.fields();
