@@ -11,7 +11,8 @@ use Rattle.listlaws.specs.First.{firstIn, some}
 use Rattle.records.specs.declared.Record.{Record}
 use Rattle.scan.specs.Each.{eachAfter, countAfter}
 use Rattle.scan.specs.Formed.{follows, wellFormed}
-use Rattle.scan.specs.Limits.{outer, middle, inner, sameKind, sameOuter, sameMiddle, fresh, tally, within, room, withinLimits}
+use Rattle.scan.specs.Limits.{outer, middle, inner, sameKind, sameOuter, sameMiddle, fresh, tally, within, roomBy, withinLimitsBy}
+use Rattle.scan.specs.Limits.{Limits, today, withinBy}
 use Rattle.scan.specs.Numbers.{scanNumber}
 use Rattle.scan.proofs.Eachs.{both-left, both-right, both, decide}
 use Rattle.originlaws.specs.Before.{oldOk, oldFollows, oldFormed, oldRoom, oldWithin, oldJudged}
@@ -68,20 +69,23 @@ module _ (group : Record → Bool) (f g : Record → ℕ) where
   unfolding tally
   tally-alike l h = count-alike [] l (λ y i. absurd (List·Memᴰ·not-nil i)) h
 
-within-after : (seen l : List Record) → ((x : Record) → x ∈ seen → Unnamed x) → ((x : Record) → x ∈ l → Unnamed x)
-    → eachAfter oldRoom seen l ≡ eachAfter room seen l
+within-after : (t : Limits) (seen l : List Record) → ((x : Record) → x ∈ seen → Unnamed x) → ((x : Record) → x ∈ l → Unnamed x)
+    → eachAfter (oldRoom t) seen l ≡ eachAfter (roomBy t) seen l
 unfolding eachAfter
-within-after seen [] a h = refl
-within-after seen (r ∷ l) a h =
+within-after t seen [] a h = refl
+within-after t seen (r ∷ l) a h =
     let here : (x : Record) → x ∈ (seen ++ (r ∷ [])) → Unnamed x = λ x i. ⊎-elim (a x) (λ j. let s : x ≡ r = List·Memᴰ·eq-of-singleton j in
     rw s (h r (List·Memᴰ·head refl))) (List·Memᴰ·append-cases seen i) in
-    let one = ap (withinLimits (r .kind) (tally (sameKind r) outer (seen ++ (r ∷ []))) (tally (sameOuter r) middle (seen ++ (r ∷ []))))
+    let one = ap (withinLimitsBy t (r .kind) (tally (sameKind r) outer (seen ++ (r ∷ []))) (tally (sameOuter r) middle (seen ++ (r ∷ []))))
     (tally-alike (sameMiddle r) (λ x. x .actor) inner (seen ++ (r ∷ [])) (λ y i. by-actor y (here y i))) in
-    rw (one, within-after (seen ++ (r ∷ [])) l here (λ x i. h x (List·Memᴰ·tail i))) refl
+    rw (one, within-after t (seen ++ (r ∷ [])) l here (λ x i. h x (List·Memᴰ·tail i))) refl
 
-same-within : (l : List Record) → ((x : Record) → x ∈ l → Unnamed x) → oldWithin l ≡ within l
+pub same-within-by : (t : Limits) (l : List Record) → ((x : Record) → x ∈ l → Unnamed x) → oldWithin t l ≡ withinBy t l
+same-within-by t l h = within-after t [] l (λ x i. absurd (List·Memᴰ·not-nil i)) h
+
+same-within : (l : List Record) → ((x : Record) → x ∈ l → Unnamed x) → oldWithin today l ≡ within l
 unfolding within
-same-within l h = within-after [] l (λ x i. absurd (List·Memᴰ·not-nil i)) h
+same-within l h = same-within-by today l h
 
 -- the verdict on records, as it is
 abbrev pub judgedBy : {R : Type 0} → ℕ → ℕ → (ℕ → R) → (List Record → Bool) → (List Record → R) → List Record → R
@@ -89,7 +93,7 @@ judgedBy low high refused fit meant l =
     cond (eqb (scanNumber low high l) 0) (cond (fit l) (meant l) (refused 3)) (refused (scanNumber low high l))
 
 module _ {R : Type 0} (low high : ℕ) (refused : ℕ → R) (fit : List Record → Bool) (meant : List Record → R) (l : List Record) where
-  pub judged-same : oldFormed low high l ≡ true → judgedBy low high refused fit meant l ≡ oldJudged low high refused fit meant l
+  pub judged-same : oldFormed low high l ≡ true → judgedBy low high refused fit meant l ≡ oldJudged today low high refused fit meant l
   unfolding scanNumber
   judged-same h =
       let w = same-within l (all-unnamed low high l h) in
@@ -97,5 +101,5 @@ module _ {R : Type 0} (low high : ℕ) (refused : ℕ → R) (fit : List Record 
       (λ t. rw (h, w ∙ t, still-formed low high l h, t) refl)
       (λ f. rw (h, w ∙ f, still-formed low high l h, f) refl)
 
-  pub judged-one : oldFormed low high l ≡ false → oldJudged low high refused fit meant l ≡ refused 1
+  pub judged-one : oldFormed low high l ≡ false → oldJudged today low high refused fit meant l ≡ refused 1
   judged-one f = rw f refl

@@ -15,6 +15,7 @@ use Rattle.entries.proofs.Packs.{entries-of, values-in}
 use Rattle.records.specs.declared.Record.{Record}
 use Rattle.records.specs.Records.{recordsOf}
 use Rattle.records.proofs.Rule.{isValue}
+use Rattle.scan.specs.Limits.{today}
 use Rattle.scan.proofs.Eachs.{decide}
 use Rattle.clockimage.specs.Image.{isKind, dotsFrom, imageOf}
 use Rattle.opimage.specs.OpImage.{opLongest, noRecord, recordOf, opRelated, opIn, refusedOp, readOp}
@@ -37,7 +38,7 @@ module _ {R : Type 0} (longest low high : ℕ) (number : R → ℕ) (refused : �
   l = recordsOf s
 
   abbrev old : R
-  old = imageOf longest refused (oldJudged low high refused fit meant) s
+  old = imageOf longest refused (oldJudged today low high refused fit meant) s
 
   abbrev new : R
   new = imageOf longest refused (judgedBy low high refused fit meant) s
@@ -48,20 +49,20 @@ module _ {R : Type 0} (longest low high : ℕ) (number : R → ℕ) (refused : �
       decide (ltb longest (length s)) (λ t. absurd (let z = sym (numbered 2) ∙ (rw t at h) in omega arith))
       (λ n. decide (eqb (length s % 16) 0) (λ t. rw (n, t) refl) (λ m. absurd (let z = sym (numbered 1) ∙ (rw (n, m) at h) in omega arith)))
 
-  formed : number (oldJudged low high refused fit meant l) ≡ 0 → oldFormed low high l ≡ true
+  formed : number (oldJudged today low high refused fit meant l) ≡ 0 → oldFormed low high l ≡ true
   formed h = decide (oldFormed low high l) (λ t. t) (λ f. absurd (let z = sym (numbered 1) ∙ (rw f at h) in omega arith))
 
-  means : number (oldJudged low high refused fit meant l) ≡ 0 → oldJudged low high refused fit meant l ≡ meant l
+  means : number (oldJudged today low high refused fit meant l) ≡ 0 → oldJudged today low high refused fit meant l ≡ meant l
   means h =
       let t = formed h in
-      decide (oldWithin l)
+      decide (oldWithin today l)
       (λ u. decide (fit l) (λ v. rw (t, u, v) refl) (λ f. absurd (let z = sym (numbered 3) ∙ (rw (t, u, f) at h) in omega arith)))
       (λ f. absurd (let z = sym (numbered 2) ∙ (rw (t, f) at h) in omega arith))
 
   pub stands : number old ≡ 0 → (new ≡ old) × ((new ≡ meant l) × ((x : Record) → x ∈ l → Unnamed x))
   stands h =
-      let a = by-records (oldJudged low high refused fit meant) (oldJudged low high refused fit meant) h in
-      let b = by-records (oldJudged low high refused fit meant) (judgedBy low high refused fit meant) h in
+      let a = by-records (oldJudged today low high refused fit meant) (oldJudged today low high refused fit meant) h in
+      let b = by-records (oldJudged today low high refused fit meant) (judgedBy low high refused fit meant) h in
       let z = sym (ap number a) ∙ h in
       let same = b ∙ judged-same low high refused fit meant l (formed z) ∙ sym a in
       (same, (same ∙ a ∙ means z, all-unnamed low high l (formed z)))
@@ -69,7 +70,7 @@ module _ {R : Type 0} (longest low high : ℕ) (number : R → ℕ) (refused : �
   -- one that is accepted now, and whose values cannot all be without a name
   pub refuses : number new ≡ 0 → (new ≡ meant l → ((x : Record) → x ∈ l → Unnamed x) → ⊥) → old ≡ refused 1
   refuses h f =
-      let a = by-records (judgedBy low high refused fit meant) (oldJudged low high refused fit meant) h in
+      let a = by-records (judgedBy low high refused fit meant) (oldJudged today low high refused fit meant) h in
       decide (oldFormed low high l)
       (λ t. let b = by-records (judgedBy low high refused fit meant) (judgedBy low high refused fit meant) h in
       let same = b ∙ judged-same low high refused fit meant l t in

@@ -29,7 +29,7 @@ row-is true b t f = absurd (Rattle.listlaws.proofs.Orders.apart f)
 row-is false true t f = refl
 row-is false false t f = absurd t
 
-mask-same : (k : ℕ) → isValue k ≡ false → oldMask k ≡ maskOf k
+pub mask-same : (k : ℕ) → isValue k ≡ false → oldMask k ≡ maskOf k
 unfolding sameRow
 mask-same k f =
     decide (ltb k 13)
@@ -86,7 +86,7 @@ order-same s r z =
 
 -- so it follows those before it as it did
 module _ (low high : ℕ) (seen : List Record) (r : Record) where
-  orders-same : Unnamed r → every (λ s. oldBefore s r) seen ≡ every (λ s. before s r) seen
+  pub orders-same : Unnamed r → every (λ s. oldBefore s r) seen ≡ every (λ s. before s r) seen
   orders-same z = ap (λ f. every f seen) (fun-ext (λ s. order-same s r z))
 
   pub still-follows : oldFollows low high seen r ≡ true → follows low high seen r ≡ true

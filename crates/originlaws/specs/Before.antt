@@ -8,7 +8,7 @@ use lib.ListN.{getD}
 use Rattle.records.specs.declared.Record.{Record}
 use Rattle.records.specs.Kinds.{fieldsOk, counterOk, clockDotKind, waitingKeyKind, removalKind, putDotKind}
 use Rattle.scan.specs.Each.{every, each}
-use Rattle.scan.specs.Limits.{outer, middle, sameKind, sameOuter, sameMiddle, tally, withinLimits}
+use Rattle.scan.specs.Limits.{Limits, today, outer, middle, sameKind, sameOuter, sameMiddle, tally, withinLimitsBy}
 use Rattle.clockimage.specs.Image.{imageOf}
 use Rattle.opimage.specs.declared.ReadOp.{ReadOp}
 use Rattle.opimage.specs.OpImage.{opLongest, opRelated, opIn, refusedOp}
@@ -41,22 +41,24 @@ oldFollows low high seen r = oldOk low high r && every (λ s. oldBefore s r) see
 abbrev pub oldFormed : ℕ → ℕ → List Record → Bool
 oldFormed low high l = each (oldFollows low high) l
 
--- the limits counted every record's actor
-abbrev pub oldRoom : List Record → Record → Bool
-oldRoom seen r =
-    withinLimits (r .kind) (tally (sameKind r) outer (seen ++ (r ∷ [])))
+-- the limits, of a sled of some size, counted every record's actor
+abbrev pub oldRoom : Limits → List Record → Record → Bool
+oldRoom t seen r =
+    withinLimitsBy t (r .kind) (tally (sameKind r) outer (seen ++ (r ∷ [])))
     (tally (sameOuter r) middle (seen ++ (r ∷ []))) (tally (sameMiddle r) (λ x. x .actor) (seen ++ (r ∷ [])))
 
-abbrev pub oldWithin : List Record → Bool
-oldWithin l = each oldRoom l
+abbrev pub oldWithin : Limits → List Record → Bool
+oldWithin t l = each (oldRoom t) l
 
 -- 1, 2, 3, or what the records stand for
-abbrev pub oldJudged : {R : Type 0} → ℕ → ℕ → (ℕ → R) → (List Record → Bool) → (List Record → R) → List Record → R
-oldJudged low high refused fit meant l =
-    cond (oldFormed low high l) (cond (oldWithin l) (cond (fit l) (meant l) (refused 3)) (refused 2)) (refused 1)
+abbrev pub oldJudged : {R : Type 0} → Limits → ℕ → ℕ → (ℕ → R) → (List Record → Bool) → (List Record → R) → List Record → R
+oldJudged t low high refused fit meant l =
+    cond (oldFormed low high l) (cond (oldWithin t l) (cond (fit l) (meant l) (refused 3)) (refused 2)) (refused 1)
 
 unfoldable pub oldMap : List ℕ → ReadMap
-oldMap s = imageOf mapLongest refusedMap (oldJudged clockDotKind waitingKeyKind refusedMap related (λ l. record { number = 0; map = mapIn l })) s
+oldMap s =
+    imageOf mapLongest refusedMap
+    (oldJudged today clockDotKind waitingKeyKind refusedMap related (λ l. record { number = 0; map = mapIn l })) s
 
 unfoldable pub oldOp : List ℕ → ReadOp
-oldOp s = imageOf opLongest refusedOp (oldJudged removalKind putDotKind refusedOp opRelated (λ l. record { number = 0; op = opIn l })) s
+oldOp s = imageOf opLongest refusedOp (oldJudged today removalKind putDotKind refusedOp opRelated (λ l. record { number = 0; op = opIn l })) s

@@ -171,7 +171,7 @@ pub fn delivered(image: &[u8]) -> Answer {
 }
 
 /// The number, and the dots after the call, on all eight places that are lent: dots behind `len`
-/// are not read, and become zero where the call has an effect (docs/DECISIONS.md, 26).
+/// are not read, and become zero where the call has an effect (docs/DECISIONS.md, C6).
 pub fn clock_advance(
     dots: &[(u16, u64); 8],
     len: usize,

@@ -1,0 +1,4 @@
+pub mod Tables
+pub mod Images
+pub mod Words
+pub mod Demands
