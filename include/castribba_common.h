@@ -52,7 +52,10 @@ enum castribba_number {
     CASTRIBBA_GAP = 11,             /* validate_op: counters of the actor are missing before this update */
     CASTRIBBA_DOUBLE_SPENT = 12,    /* validate_merge: the maps hold one dot under different keys */
     CASTRIBBA_ENDED = 13,           /* the calls on pieces: the reader has ended, or was not begun */
-    CASTRIBBA_NO_BAY = 14           /* the loader's calls: there is no such bay */
+    CASTRIBBA_NO_BAY = 14,          /* the loader's calls: there is no such bay */
+    CASTRIBBA_FOREIGN = 19,         /* ready: not castribba_update's: the put clock lacks its own dot */
+    CASTRIBBA_SEEN = 20,            /* ready: the map has seen the update */
+    CASTRIBBA_HOLD = 21             /* ready: something that the update's writer had seen is missing */
 };
 
 /* The number in words, for a number that this version does not know too. It is no part of the

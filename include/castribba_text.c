@@ -35,6 +35,12 @@ const char *castribba_number_text(uint32_t number)
         return "the reader of pieces has ended, or was not begun";
     case CASTRIBBA_NO_BAY:
         return "there is no such bay";
+    case CASTRIBBA_FOREIGN:
+        return "the update was not made by castribba_update";
+    case CASTRIBBA_SEEN:
+        return "the update was seen";
+    case CASTRIBBA_HOLD:
+        return "something that the update's writer had seen is missing";
     default:
         return "a number that this version does not know";
     }

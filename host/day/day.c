@@ -1,7 +1,8 @@
 /* day.c: a setting's day, acted out through the calls of castribba.h and printed for a reader.
  *
  * Three parties keep a map each: the management controller and two drive controllers. A key is a
- * bay, a value the number of the image that the bay boots. No heap: every buffer is static.
+ * bay, a value the number of the image that the bay boots. Every party keeps castribba.h's rules; step 21
+ * shows what breaking one does. No heap: every buffer is static.
  */
 #include <castribba.h>
 
@@ -129,6 +130,12 @@ static int same(const map *one, const map *other)
     return one->len == other->len && memcmp(one->bytes, other->bytes, one->len) == 0;
 }
 
+/* What drives that were given the same operations have in common; their bytes may differ. */
+static int agree(const map *one, const map *other)
+{
+    return same_settings(one->bytes, one->len, other->bytes, other->len);
+}
+
 /* The calls, each checked. */
 
 /* Which call made a new map does not matter for how it replaces the old one. */
@@ -141,8 +148,16 @@ static void replace(map *m, uint64_t word, const map *fresh)
 
 static map fresh; /* an output must not overlap an input */
 
+/* Rule 1: what the guard says of an operation that came. */
+static uint32_t ready(const map *m, const operation *op)
+{
+    uint64_t word = castribba_ready(m->bytes, m->len, op->bytes, op->len);
+    check(CASTRIBBA_LENGTH(word) == 0, "the guard's answer has no length");
+    return CASTRIBBA_NUMBER(word);
+}
+
 /* Answers how many dots the operation took from the entries. */
-static uint64_t deliver(map *to, const operation *op)
+static uint64_t apply(map *to, const operation *op)
 {
     uint64_t taken = castribba_apply_deleted(to->bytes, to->len, op->bytes, op->len,
                                              sizeof fresh.bytes);
@@ -151,12 +166,45 @@ static uint64_t deliver(map *to, const operation *op)
     return taken;
 }
 
+/* The operation is one that may be applied. */
+static uint64_t deliver(map *to, const operation *op)
+{
+    check(ready(to, op) == CASTRIBBA_DONE, "the operation was to be the next");
+    return apply(to, op);
+}
+
+/* What was seen may be dropped; applied, it changes nothing. */
 static void deliver_again(map *to, const operation *op)
 {
     static map before;
+    int removal = record_at(op->bytes, 0).kind == CASTRIBBA_REMOVAL;
     before = *to;
-    check(deliver(to, op) == 0, "an operation delivered twice took something");
+    check(ready(to, op) == (removal ? CASTRIBBA_DONE : CASTRIBBA_SEEN), "the update was to be seen");
+    check(apply(to, op) == 0, "an operation delivered twice took something");
     check(same(to, &before), "an operation delivered twice changed the map");
+}
+
+enum { MAIL = 3 };
+
+/* Operations in an order of the mailbox's: what is not the next is held, and asked about again when more
+ * has come. Answers how often one was held. */
+static int deliver_in_order(map *to, const operation *const mail[MAIL], const int order[MAIL])
+{
+    int held[MAIL] = {0}, times_held = 0;
+    for (int place = 0; place < MAIL; place++) {
+        held[order[place]] = 1;
+        for (int one = 0; one < MAIL; one++)
+            if (held[one] && ready(to, mail[one]) == CASTRIBBA_DONE) {
+                held[one] = 0;
+                deliver(to, mail[one]);
+                deliver_again(to, mail[one]);
+                one = -1; /* what was held before it may be the next */
+            }
+        times_held += held[order[place]];
+    }
+    for (int one = 0; one < MAIL; one++)
+        check(!held[one], "an operation was held to the end");
+    return times_held;
 }
 
 static void show_taken(const char *party, uint64_t taken, uint64_t expected)
@@ -165,10 +213,15 @@ static void show_taken(const char *party, uint64_t taken, uint64_t expected)
     printf("  %-10s %" PRIu64 " dots were taken from the entries\n", party, taken);
 }
 
+/* Rule 4: a merge, and which of the maps is kept. Here it is the merged one. */
 static void merge(map *into, const map *other)
 {
-    replace(into, castribba_merge(into->bytes, into->len, other->bytes, other->len, fresh.bytes,
-                                  sizeof fresh.bytes), &fresh);
+    static map merged;
+    replace(&merged, castribba_merge(into->bytes, into->len, other->bytes, other->len, fresh.bytes,
+                                     sizeof fresh.bytes), &fresh);
+    check(kept_of(merged.bytes, merged.len, other->bytes, other->len, into->bytes, into->len) == KEEP_MERGED,
+          "another map was to be kept");
+    *into = merged;
 }
 
 /* A map through the mailbox: the receiver has no room for an image on its way, and reads it piece by
@@ -208,7 +261,17 @@ static void pick(map *m, uint16_t actor, uint16_t origin, uint32_t bay, uint64_t
     deliver(m, op);
 }
 
+/* Rule 2: under all that the party has seen. */
 static uint64_t withdraw(map *m, uint32_t bay, operation *op)
+{
+    uint64_t word = castribba_rm_read_ctx(m->bytes, m->len, bay, op->bytes, sizeof op->bytes);
+    check(CASTRIBBA_NUMBER(word) == 0, "a removal was not made");
+    op->len = CASTRIBBA_LENGTH(word);
+    return deliver(m, op);
+}
+
+/* Rule 2 broken: under the entry's dots alone. */
+static uint64_t withdraw_by_entry(map *m, uint32_t bay, operation *op)
 {
     uint64_t word = castribba_rm_get(m->bytes, m->len, bay, op->bytes, sizeof op->bytes);
     check(CASTRIBBA_NUMBER(word) == 0, "a removal was not made");
@@ -322,21 +385,21 @@ static void removal_comes_first(void)
     check_withdrawn(&drive_b, BAY_5);
     show_all();
 
-    begin("9. The same with an edit of bay 6 among them, in each of the six orders.");
+    begin("9. The same with a later edit of bay 6 among them, in each of the six orders.");
     pick(&drive_b, DRIVE_B, ITSELF, BAY_6, 61, &other);
     deliver(&controller, &other);
     deliver(&drive_a, &other);
-    const operation *const mail[3] = {&update, &removal, &other};
-    const int orders[6][3] = {{0, 1, 2}, {0, 2, 1}, {1, 0, 2}, {1, 2, 0}, {2, 0, 1}, {2, 1, 0}};
+    const operation *const mail[MAIL] = {&update, &removal, &other};
+    const int orders[6][MAIL] = {{0, 1, 2}, {0, 2, 1}, {1, 0, 2}, {1, 2, 0}, {2, 0, 1}, {2, 1, 0}};
+    int held = 0;
     for (int order = 0; order < 6; order++) {
         replica = before;
-        for (int place = 0; place < 3; place++) {
-            deliver(&replica, mail[orders[order][place]]);
-            deliver_again(&replica, mail[orders[order][place]]);
-        }
-        check(same(&replica, &controller), "an order of delivery made a difference");
+        held += deliver_in_order(&replica, mail, orders[order]);
+        check(agree(&replica, &controller), "an order of delivery made a difference");
     }
+    check(held == 3, "the edit was to be held where it came before the update that its writer had seen");
     show("each order", &replica);
+    printf("  in %d of them the edit was held, since its writer had seen the update\n", held);
 }
 
 static void plugged_back_in(void)
@@ -353,7 +416,7 @@ static void plugged_back_in(void)
     send_map("drive B", &drive_b, &from_b);
     send_map("controller", &controller, &from_controller);
 
-    begin("12. The whole maps are merged, both ways with one result.");
+    begin("12. The whole maps are merged, both ways with one result, and by rule 4 it is kept.");
     check(castribba_validate_merge(controller.bytes, controller.len, from_b.bytes, from_b.len) == 0,
           "the merge was to be valid");
     one_way = controller;
@@ -394,12 +457,18 @@ static void show_gap(const map *m, const operation *op)
            castribba_validate_op_end(m->bytes, m->len, op->bytes, op->len));
 }
 
-static void show_order(const map *m, const operation *op, int next)
+/* An operation that came, and what the guard says. */
+static void show_ready(const char *party, const map *m, const operation *op, uint32_t expected)
 {
     record head = record_at(op->bytes, 0);
-    check(is_next(m->bytes, m->len, op->bytes) == next, "the operation's place is another");
-    printf("  update %" PRIu64 " of actor %d came, %" PRIu64 " were seen: %s\n", head.number, head.actor,
-           seen_of(head.actor, m->bytes, m->len), next ? "it is the next" : "it is held back");
+    check(ready(m, op) == expected, "the guard was to say something else");
+    printf("  %-10s update %" PRIu64 " of actor %d came: ", party, head.number, head.actor);
+    if (expected == CASTRIBBA_HOLD)
+        printf("held, number %" PRIu32 ", until update %" PRIu64 " of actor %" PRIu64 " is there\n", expected,
+               castribba_ready_counter(m->bytes, m->len, op->bytes, op->len),
+               castribba_ready_actor(m->bytes, m->len, op->bytes, op->len));
+    else
+        printf("it is the next\n");
 }
 
 static void gap_is_caught(void)
@@ -408,18 +477,18 @@ static void gap_is_caught(void)
     begin("14. Ida picks 46 for bay 5, then Otto 64 for bay 6; the mailbox loses the first.");
     pick(&controller, CONTROLLER, IDA, BAY_5, 46, &lost);
     pick(&controller, CONTROLLER, OTTO, BAY_6, 64, &arrived);
-    show_order(&drive_a, &arrived, 0);
+    show_ready("drive A", &drive_a, &arrived, CASTRIBBA_HOLD);
     show_gap(&drive_a, &arrived);
     show("drive A", &drive_a);
 
     begin("15. It is sent again. validate_op asks bay 6 too, where the controller was never seen.");
     deliver(&drive_a, &lost);
-    show_order(&drive_a, &arrived, 1);
+    show_ready("drive A", &drive_a, &arrived, CASTRIBBA_DONE);
     show_gap(&drive_a, &arrived);
     deliver(&drive_a, &arrived);
-    check(same(&drive_a, &controller), "the parties differ");
-    merge(&drive_b, &controller);
-    check(same(&drive_b, &controller), "the parties differ");
+    deliver(&drive_b, &lost);
+    deliver(&drive_b, &arrived);
+    check(agree(&drive_a, &controller) && agree(&drive_b, &controller), "the parties differ");
     show_all();
 }
 
@@ -427,13 +496,15 @@ static void handed_on(void)
 {
     static operation newer;
     static map seen;
-    begin("16. The sled is handed on: what the console has seen is reset, what is newer stays.");
+    begin("16. The sled is handed on: what the console had seen is reset on all three, what is newer stays.");
     seen = controller;
     pick(&drive_b, DRIVE_B, ITSELF, BAY_6, 63, &newer);
-    show_taken("controller", reset(&controller, seen.bytes, clock_len(&seen)), 3);
-    show_taken("drive A", reset(&drive_a, seen.bytes, clock_len(&seen)), 3);
+    deliver(&controller, &newer);
+    deliver(&drive_a, &newer); /* rule 5: nothing is on its way */
+    show_taken("controller", reset(&controller, seen.bytes, clock_len(&seen)), 2);
+    show_taken("drive A", reset(&drive_a, seen.bytes, clock_len(&seen)), 2);
     show_taken("drive B", reset(&drive_b, seen.bytes, clock_len(&seen)), 2);
-    check(controller.len == 0 && drive_a.len == 0, "the empty map has no bytes");
+    check(agree(&drive_a, &controller) && agree(&drive_b, &controller), "the parties differ");
     check(count(&drive_b) == 1, "one bay was to stay set");
     check_boots(&drive_b, BAY_6, 63, ITSELF);
     show_all();
@@ -452,6 +523,73 @@ static void refusal(void)
            CASTRIBBA_LENGTH(word));
 }
 
+static void show_removal(const char *call, const operation *op)
+{
+    const char *between = "";
+    printf("  %-21s removes bay %d under {", call, BAY_5);
+    for (size_t place = 0; place < op->len; place += CASTRIBBA_RECORD) {
+        record r = record_at(op->bytes, place);
+        if (r.kind == CASTRIBBA_REMOVAL_DOT) {
+            printf("%s%d:%" PRIu64, between, r.actor, r.number);
+            between = " ";
+        }
+    }
+    printf("}\n");
+}
+
+static void withdrawn_stays_away(void)
+{
+    static operation on_6, bad, removal, by_entry, meanwhile;
+    static map without_rule_a, without_rule_b;
+    begin("18. Drive B picks 65 for bay 6; drive A hears of it and picks 50 for bay 5. The console is cut off.");
+    pick(&drive_b, DRIVE_B, ITSELF, BAY_6, 65, &on_6);
+    deliver(&drive_a, &on_6);
+    pick(&drive_a, DRIVE_A, ITSELF, BAY_5, 50, &bad);
+    deliver(&drive_b, &bad);
+    show_all();
+
+    begin("19. Image 50 is bad: at drive B it is withdrawn. Meanwhile Otto picks 51 at the console.");
+    without_rule_a = drive_a;
+    without_rule_b = drive_b;
+    withdraw(&drive_b, BAY_5, &removal);
+    withdraw_by_entry(&without_rule_b, BAY_5, &by_entry);
+    show_removal("castribba_rm_read_ctx", &removal);
+    pick(&controller, CONTROLLER, OTTO, BAY_5, 51, &meanwhile);
+    show_all();
+
+    begin("20. All hear of all: 51 comes to drive A before the removal, the console gets 50 first and holds it.");
+    deliver(&drive_a, &meanwhile);
+    check_side_by_side(&drive_a, BAY_5);
+    deliver(&drive_a, &removal);
+    deliver(&drive_b, &meanwhile);
+    show_ready("controller", &controller, &bad, CASTRIBBA_HOLD);
+    deliver(&controller, &removal);
+    show("controller", &controller);
+    deliver(&controller, &on_6);
+    show_ready("controller", &controller, &bad, CASTRIBBA_DONE);
+    deliver(&controller, &bad);
+    check_boots(&drive_a, BAY_5, 51, OTTO);
+    check_boots(&drive_b, BAY_5, 51, OTTO);
+    check_boots(&controller, BAY_5, 51, OTTO);
+    check(agree(&drive_a, &drive_b) && agree(&drive_a, &controller), "the parties differ");
+    check(!same(&drive_a, &drive_b), "the bytes were to differ");
+    show_all();
+    printf("  All agree. Their images have %zu, %zu and %zu bytes: bytes don't tell.\n", controller.len,
+           drive_a.len, drive_b.len);
+
+    begin("21. What rm_get's removal would have done to the drives, in the same order: 50 is back at drive A.");
+    show_removal("castribba_rm_get", &by_entry);
+    deliver(&without_rule_a, &meanwhile);
+    deliver(&without_rule_a, &by_entry);
+    deliver(&without_rule_b, &meanwhile);
+    check_side_by_side(&without_rule_a, BAY_5);
+    check_boots(&without_rule_b, BAY_5, 51, OTTO);
+    check(!agree(&without_rule_a, &without_rule_b), "the drives were to differ");
+    show("drive A", &without_rule_a);
+    show("drive B", &without_rule_b);
+    printf("  Every call answered 0. Neither overwrote the other, so that drive A's loader takes the smaller: 50.\n");
+}
+
 int main(void)
 {
     static char line[BUFSIZ]; /* otherwise stdio would ask the heap for one */
@@ -468,6 +606,7 @@ int main(void)
     gap_is_caught();
     handed_on();
     refusal();
+    withdrawn_stays_away();
     printf("\nThe day is over, and every answer was as expected.\n");
     return 0;
 }

@@ -1,6 +1,6 @@
 /* every.c: calls every function of castribba.h once with an accepted input and once with a refused
  * one, and checks the number, the length, the bytes written and the bytes left alone. Then it runs the
- * examples of the three rules in castribba.h, the code of docs/FORMAT.md, and the numbers' texts. */
+ * examples of the rules in castribba.h, the code of docs/FORMAT.md, and the numbers' texts. */
 #include <castribba.h>
 
 #define CHECKS_NAME "every"
@@ -31,6 +31,9 @@ static const uint8_t M_TWICE[] = {ROW(1, 0, 1, 0, 1), ROW(2, 0, 1, 5, 1), ROW(3,
                                   ROW(3, 0, 7, 5, 40), ROW(4, 0, 1, 5, 1)};
 static const uint8_t M_UPDATE[] = {ROW(10, 0, 1, 5, 1), ROW(11, 0, 0, 0, 40), ROW(12, 0, 1, 0, 1)};
 static const uint8_t UPDATE_ON_6[] = {ROW(10, 0, 1, 6, 2), ROW(11, 0, 0, 0, 41)};
+/* by actor 2, who had seen three updates of actor 1 */
+static const uint8_t UPDATE_BY_2[] = {ROW(10, 0, 2, 5, 1), ROW(11, 0, 0, 0, 42), ROW(12, 0, 1, 0, 3),
+                                      ROW(12, 0, 2, 0, 1)};
 static const uint8_t BAD_KIND[] = {ROW(13, 0, 0, 0, 0)};
 static const uint8_t OUTSIDE_CLOCK[] = {ROW(2, 0, 1, 5, 1)}; /* an entry dot without map clock */
 static const uint8_t TOO_LONG[CASTRIBBA_LONGEST_MAP + 1];
@@ -110,6 +113,24 @@ static void validating(void)
     is("validate_op, a gap", castribba_validate_op(IMAGE(M), IMAGE(UPDATE_ON_6)), REFUSED(11));
     is("validate_op_start", castribba_validate_op_start(IMAGE(M), IMAGE(UPDATE_ON_6)), 1);
     is("validate_op_end", castribba_validate_op_end(IMAGE(M), IMAGE(UPDATE_ON_6)), 2);
+
+    is("ready, a removal", castribba_ready(IMAGE(ONLY_CLOCK), IMAGE(REMOVAL)), 0);
+    is("ready, the next", castribba_ready(IMAGE(M), IMAGE(UPDATE)), 0);
+    is("ready_actor, none", castribba_ready_actor(IMAGE(M), IMAGE(UPDATE)), 0);
+    is("ready_counter, none", castribba_ready_counter(IMAGE(M), IMAGE(UPDATE)), 0);
+    is("ready, not made by update", castribba_ready(IMAGE(M), IMAGE(UPDATE_ON_6)), REFUSED(19));
+    is("ready, not made by update, though seen", castribba_ready(IMAGE(SPENT), IMAGE(UPDATE_ON_6)), REFUSED(19));
+    is("ready, seen", castribba_ready(IMAGE(M), IMAGE(M_UPDATE)), REFUSED(20));
+    is("ready_counter, seen", castribba_ready_counter(IMAGE(M), IMAGE(M_UPDATE)), 0);
+    is("ready, its actor's before it", castribba_ready(NULL, 0, IMAGE(UPDATE)), REFUSED(21));
+    is("ready_actor, its own", castribba_ready_actor(NULL, 0, IMAGE(UPDATE)), 1);
+    is("ready_counter, its own", castribba_ready_counter(NULL, 0, IMAGE(UPDATE)), 1);
+    is("ready, another's", castribba_ready(IMAGE(M), IMAGE(UPDATE_BY_2)), REFUSED(21));
+    is("ready_actor", castribba_ready_actor(IMAGE(M), IMAGE(UPDATE_BY_2)), 1);
+    is("ready_counter", castribba_ready_counter(IMAGE(M), IMAGE(UPDATE_BY_2)), 2);
+    is("ready, a map too long", castribba_ready(IMAGE(TOO_LONG), IMAGE(BAD_KIND)), REFUSED(2));
+    is("ready, a bad kind", castribba_ready(IMAGE(M), IMAGE(BAD_KIND)), REFUSED(1));
+    is("ready, no operation", castribba_ready(IMAGE(M), NULL, 0), REFUSED(3));
 
     is("validate_merge", castribba_validate_merge(IMAGE(M), IMAGE(M)), 0);
     is("validate_merge_actor, none", castribba_validate_merge_actor(IMAGE(M), IMAGE(M)), 0);
@@ -303,13 +324,43 @@ static void boots(const char *what, const image *map, uint32_t bay, uint64_t val
 
 enum { NOTHING = 0 }; /* no bay boots image 0 here */
 
+/* The guard's number, and that an update which is held carries this actor and counter. */
+static void asks(const char *what, const image *map, const image *op, uint32_t number, uint64_t actor,
+                 uint64_t counter)
+{
+    report(castribba_ready(HELD(map), HELD(op)) == REFUSED(number) &&
+               castribba_ready_actor(HELD(map), HELD(op)) == actor &&
+               castribba_ready_counter(HELD(map), HELD(op)) == counter,
+           what);
+}
+
+/* An update that is next, or a removal. */
+static void feed(const char *what, image *map, const image *op)
+{
+    asks(what, map, op, CASTRIBBA_DONE, 0, 0);
+    deliver(map, op);
+}
+
+/* By the map clock, which withdraws, or by the entry's. */
+static void removes(image *map, uint32_t bay, image *op)
+{
+    take("a removal made", op, castribba_rm_read_ctx(HELD(map), bay, OUT));
+    deliver(map, op);
+}
+
+static void removes_by_entry(image *map, uint32_t bay, image *op)
+{
+    take("a removal made", op, castribba_rm_get(HELD(map), bay, OUT));
+    deliver(map, op);
+}
+
 static void one_actor_in_order(void)
 {
     static image ours, theirs, in_order, bay_5, bay_6, both;
     sets(&ours, 1, 5, 40, &bay_5);
     sets(&ours, 1, 6, 60, &bay_6);
 
-    report(!is_next(HELD(&theirs), bay_6.bytes), "rule 1: the second is not the next");
+    asks("rule 1: the second is held", &theirs, &bay_6, CASTRIBBA_HOLD, 1, 1);
     deliver(&theirs, &bay_6);
     deliver(&theirs, &bay_5);
     boots("rule 1: bay 5 is lost", &theirs, 5, NOTHING);
@@ -317,15 +368,152 @@ static void one_actor_in_order(void)
     both = merged(&ours, &theirs);
     boots("rule 1: a merge loses bay 5 for us too", &both, 5, NOTHING);
 
-    report(is_next(HELD(&in_order), bay_5.bytes), "rule 1: the first is the next");
-    deliver(&in_order, &bay_5);
-    report(!is_next(HELD(&in_order), bay_5.bytes), "rule 1: the first was seen");
-    report(is_next(HELD(&in_order), bay_6.bytes), "rule 1: then the second is the next");
-    is("rule 2: validate_op asks the bay's entry too",
+    feed("rule 1: the first is the next", &in_order, &bay_5);
+    asks("rule 1: the first was seen", &in_order, &bay_5, CASTRIBBA_SEEN, 0, 0);
+    is("validate_op asks the bay's entry too",
        castribba_validate_op(HELD(&in_order), HELD(&bay_6)), REFUSED(CASTRIBBA_GAP));
-    deliver(&in_order, &bay_6);
+    feed("rule 1: then the second is the next", &in_order, &bay_6);
     boots("rule 1: in order, bay 5 is there", &in_order, 5, 40);
-    report(is_next(HELD(&ours), REMOVAL), "rule 1: a removal is always the next");
+}
+
+/* Each actor's order is kept, and still drives differ: the reader took an update before what its writer
+ * had seen. The guard holds it. */
+static void what_the_writer_had_seen(void)
+{
+    static image a, b, c, by_a, by_b, removal;
+    sets(&a, 1, 5, 10, &by_a);
+    feed("rule 1: the first update", &b, &by_a);
+    sets(&b, 2, 5, 40, &by_b);
+    asks("rule 1: its writer had seen more", &c, &by_b, CASTRIBBA_HOLD, 1, 1);
+    is("validate_op lets it pass", castribba_validate_op(HELD(&c), HELD(&by_b)), 0);
+    deliver(&c, &by_b);
+    removes(&c, 5, &removal);
+    deliver(&b, &removal);
+    deliver(&c, &by_a);
+    boots("rule 1 broken: one boots the one", &b, 5, 40);
+    boots("rule 1 broken: the other the other", &c, 5, 10);
+}
+
+/* Two drives, by the guard: B's value has seen A's, which A has removed. */
+static void which_removal_withdraws(void)
+{
+    static image a, b, first, first_removal, by_b, whole, a_before, b_before;
+    sets(&a, 1, 5, 10, &first);
+    removes(&a, 5, &first_removal);
+    feed("rule 2: A's update", &b, &first);
+    sets(&b, 2, 5, 40, &by_b);
+    feed("rule 2: B's update", &a, &by_b);
+    a_before = a;
+    b_before = b;
+
+    removes_by_entry(&a, 5, &whole);
+    feed("rule 2: rm_get's removal", &b, &whole);
+    boots("rule 2: by rm_get it is gone at A", &a, 5, NOTHING);
+    boots("rule 2: by rm_get it boots at B", &b, 5, 40);
+
+    a = a_before;
+    b = b_before;
+    removes(&a, 5, &whole);
+    feed("rule 2: rm_read_ctx's removal", &b, &whole);
+    boots("rule 2: by rm_read_ctx it is gone at A", &a, 5, NOTHING);
+    boots("rule 2: by rm_read_ctx it is gone at B", &b, 5, NOTHING);
+    feed("rule 2: a removal again", &b, &first_removal);
+    report(same_settings(HELD(&a), HELD(&b)), "rule 2: A and B agree");
+}
+
+/* Drives that were given the same have the same settings, and other bytes. */
+static void settings_and_bytes(void)
+{
+    static image a, b, first, removal, by_b;
+    sets(&a, 1, 5, 10, &first);
+    removes(&a, 5, &removal);
+    feed("settings: A's update", &b, &first);
+    sets(&b, 2, 5, 40, &by_b);
+    feed("settings: B's update", &a, &by_b);
+    report(!same_settings(HELD(&a), HELD(&b)), "settings: a removal is still missing");
+    feed("settings: A's removal", &b, &removal);
+    report(same_settings(HELD(&a), HELD(&b)), "settings: the same");
+    report(a.len == 96 && b.len == 80, "settings: other bytes");
+    report(!same_settings(HELD(&a), IMAGE(M)) && same_settings(NULL, 0, NULL, 0), "settings: other maps");
+    report(!same_settings(IMAGE(M), IMAGE(M_BY_7)), "settings: other origins");
+}
+
+static void keeps_of(const char *what, image *ours, const image *theirs, enum keep expected)
+{
+    static image both;
+    both = merged(ours, theirs);
+    enum keep keep = kept_of(HELD(&both), HELD(theirs), HELD(ours));
+    report(keep == expected, what);
+    if (keep == KEEP_THEIRS)
+        *ours = *theirs;
+    if (keep == KEEP_MERGED)
+        *ours = both;
+}
+
+/* A merge brings back what was overwritten, though nothing was ever removed, and what was withdrawn. */
+static void merges_at_will(void)
+{
+    static image a, b, c, a_right, b_right, on_6, by_b, again, by_c, removal, both, apart;
+    sets(&a, 1, 6, 60, &on_6);
+    feed("rule 4: A's update", &b, &on_6);
+    sets(&b, 2, 5, 40, &by_b);
+    a_right = a;
+    b_right = b;
+    sets(&b, 2, 5, 41, &again);
+    b = merged(&b, &a);
+    feed("rule 4: B's first update", &a, &by_b);
+    both = merged(&a, &b);
+    report(times(record_at((const uint8_t[]){ROW(3, 0, 0, 5, 40)}, 0), HELD(&both)) == 1,
+           "rule 4: a merge brings an overwritten value back");
+    keeps_of("rule 4: B has all", &a, &b, KEEP_THEIRS);
+    boots("rule 4: the choice keeps what is right", &a, 5, 41);
+    keeps_of("rule 4: what we know already", &b, &b_right, KEEP_OURS);
+
+    a = a_right;
+    b = b_right;
+    sets(&c, 3, 5, 41, &by_c);
+    feed("rule 4: B's update, at A", &a, &by_b);
+    feed("rule 4: C's update, at A", &a, &by_c);
+    removes(&b, 5, &removal);
+    feed("rule 4: C's update, at B", &b, &by_c);
+    boots("rule 4: at B it is withdrawn", &b, 5, 41);
+    both = merged(&b, &a);
+    report(times(record_at((const uint8_t[]){ROW(3, 0, 0, 5, 40)}, 0), HELD(&both)) == 1,
+           "rule 4: a merge brings a withdrawn value back");
+    deliver(&both, &removal);
+    boots("rule 4: the removal applied again", &both, 5, 41);
+    keeps_of("rule 4: B has removed", &a, &b, KEEP_THEIRS);
+    boots("rule 4: the choice keeps it withdrawn", &a, 5, 41);
+
+    sets(&a, 1, 7, 70, &on_6);
+    sets(&apart, 4, 8, 80, &by_b);
+    keeps_of("rule 4: other keys", &a, &apart, KEEP_MERGED);
+    boots("rule 4: merged, ours", &a, 7, 70);
+    boots("rule 4: merged, theirs", &a, 8, 80);
+    sets(&a, 1, 7, 71, &on_6);
+    sets(&apart, 4, 7, 81, &by_b);
+    keeps_of("rule 4: two values of one key", &a, &apart, KEEP_OURS_AND_ASK);
+    boots("rule 4: ours stays", &a, 7, 71);
+}
+
+/* All reset at once by a clock that is no map's: values that knew of each other no longer do. */
+static void reset_by_some_clock(void)
+{
+    static const uint8_t of_2[] = {ROW(1, 0, 2, 0, 1)};
+    static image a, b, by_a, removal, by_b, c, by_c;
+    sets(&a, 1, 5, 10, &by_a);
+    feed("rule 5: A's update", &b, &by_a);
+    removes(&a, 5, &removal);
+    sets(&b, 2, 5, 40, &by_b);
+    sets(&c, 3, 5, 41, &by_c);
+    feed("rule 5: B's update, at A", &a, &by_b);
+    feed("rule 5: C's update, at A", &a, &by_c);
+    feed("rule 5: the removal, at B", &b, &removal);
+    feed("rule 5: C's update, at B", &b, &by_c);
+    report(same_settings(HELD(&a), HELD(&b)), "rule 5: before, all agree");
+    take("A reset", &a, castribba_reset_remove(HELD(&a), IMAGE(of_2), OUT));
+    take("B reset", &b, castribba_reset_remove(HELD(&b), IMAGE(of_2), OUT));
+    report(!same_settings(HELD(&a), HELD(&b)), "rule 5: a reset by some other clock parts them");
 }
 
 /* Actor 1 wrote bay 5 in one map, and with the same counter another bay, or the same, in the other. */
@@ -417,9 +605,9 @@ static void clocks_and_images(void)
 static void texts(void)
 {
     const char *unknown = castribba_number_text(UINT32_MAX);
-    for (uint32_t number = 0; number <= 20; number++) {
+    for (uint32_t number = 0; number <= 24; number++) {
         const char *text = castribba_number_text(number);
-        int known = number <= CASTRIBBA_NO_BAY;
+        int known = number <= CASTRIBBA_NO_BAY || (number >= CASTRIBBA_FOREIGN && number <= CASTRIBBA_HOLD);
         report((strcmp(text, unknown) != 0) == known, "a number's text");
         for (uint32_t other = 0; known && other < number; other++)
             report(strcmp(text, castribba_number_text(other)) != 0, "two numbers with one text");
@@ -438,11 +626,16 @@ int main(void)
     in_pieces();
     nothing_at_null();
     one_actor_in_order();
+    what_the_writer_had_seen();
+    which_removal_withdraws();
+    settings_and_bytes();
+    merges_at_will();
+    reset_by_some_clock();
     one_number_twice();
     one_sided_reset();
     bytes_of_the_page();
     clocks_and_images();
     texts();
-    printf("every: %d checks of the 23 calls and the rules, %d differences\n", checks, failures);
+    printf("every: %d checks of the 26 calls and the rules, %d differences\n", checks, failures);
     return failures != 0;
 }

@@ -210,6 +210,9 @@ CALL(len_count, FIRST)
 CALL(validate_op, FIRST, SECOND)
 CALL(validate_op_start, FIRST, SECOND)
 CALL(validate_op_end, FIRST, SECOND)
+CALL(ready, FIRST, SECOND)
+CALL(ready_actor, FIRST, SECOND)
+CALL(ready_counter, FIRST, SECOND)
 CALL(validate_merge, FIRST, SECOND)
 CALL(validate_merge_actor, FIRST, SECOND)
 CALL(validate_merge_counter, FIRST, SECOND)
@@ -310,6 +313,9 @@ int main(void)
         {"castribba_validate_op", run_validate_op, operations, OPERATIONS},
         {"castribba_validate_op_start", run_validate_op_start, operations, OPERATIONS},
         {"castribba_validate_op_end", run_validate_op_end, operations, OPERATIONS},
+        {"castribba_ready", run_ready, operations, OPERATIONS},
+        {"castribba_ready_actor", run_ready_actor, operations, OPERATIONS},
+        {"castribba_ready_counter", run_ready_counter, operations, OPERATIONS},
         {"castribba_validate_merge", run_validate_merge, maps, MAPS},
         {"castribba_validate_merge_actor", run_validate_merge_actor, maps, MAPS},
         {"castribba_validate_merge_counter", run_validate_merge_counter, maps, MAPS},

@@ -82,7 +82,7 @@ module _ {s o : List ℕ} {m : Map} (r : ImageOf s m) (i : OpImage o) where
     unfolding imageAfter
     step-is = ap (λ q. mapImage (q .map)) same ∙ ap mapImage (judged-map next (judged-number next ∙ z))
 
-    done-holds : Done s o
+    pub done-holds : Done s o
     unfolding imageAfter
     done-holds out n =
         number-done (applyAnswer s o) out (ap (λ q. q .number) (reads r)) (i .accepted)

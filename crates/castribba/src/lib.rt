@@ -4,6 +4,7 @@ ghost use Rattle.promises.specs.Promises.{UpdatePromise, RmGetPromise, RmReadCt
 ghost use Rattle.promises.specs.Promises.{ValidateOpStartPromise, ValidateOpEndPromise, ValidateMergePromise, ValidateMergeActorPromise};
 ghost use Rattle.promises.specs.Promises.{ValidateMergeCounterPromise, ValidateMergeOurKeyPromise, ValidateMergeTheirKeyPromise, ClockAdvancePromise};
 ghost use Rattle.promises.specs.Promises.{PiecesBeginPromise, PiecesTakePromise, PiecesEndPromise};
+ghost use Rattle.promises.specs.Ready.{ReadyPromise, ReadyActorPromise, ReadyCounterPromise};
 use clock::Clock;
 use memory::READER;
 
@@ -120,6 +121,33 @@ pub extern "C" fn castribba_validate_op_end(map: &[u8], op: &[u8]) -> u64
     let v = verdicts::op(map, op);
     let o = v.order;
     verdicts::order_end(o)
+}
+
+// The guard: asked before an update is applied.
+#[no_mangle]
+pub extern "C" fn castribba_ready(map: &[u8], op: &[u8]) -> u64
+    ensures { λ r. ⌜ ReadyPromise (now (map .entry)) (now (op .entry)) r ⌝ }
+{
+    let v = verdicts::ready(map, op);
+    answers::word(v.number)
+}
+
+#[no_mangle]
+pub extern "C" fn castribba_ready_actor(map: &[u8], op: &[u8]) -> u64
+    ensures { λ r. ⌜ ReadyActorPromise (now (map .entry)) (now (op .entry)) r ⌝ }
+{
+    let v = verdicts::ready(map, op);
+    let g = v.ready;
+    verdicts::ready_actor(g)
+}
+
+#[no_mangle]
+pub extern "C" fn castribba_ready_counter(map: &[u8], op: &[u8]) -> u64
+    ensures { λ r. ⌜ ReadyCounterPromise (now (map .entry)) (now (op .entry)) r ⌝ }
+{
+    let v = verdicts::ready(map, op);
+    let g = v.ready;
+    verdicts::ready_counter(g)
 }
 
 #[no_mangle]

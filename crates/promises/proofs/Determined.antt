@@ -10,6 +10,7 @@ use Rattle.promises.specs.Promises.{LenPromise, LenCountPromise, Validat
 use Rattle.promises.specs.Promises.{ValidateMergePromise, ValidateMergeActorPromise, ValidateMergeCounterPromise, ValidateMergeOurKeyPromise}
 use Rattle.promises.specs.Promises.{ValidateMergeTheirKeyPromise, ApplyDeletedPromise, ResetRemoveDeletedPromise, ClockAdvancePromise}
 use Rattle.promises.specs.Promises.{PiecesBeginPromise, PiecesTakePromise, PiecesEndPromise}
+use Rattle.promises.specs.Ready.{ReadyPromise, ReadyActorPromise, ReadyCounterPromise}
 
 -- a call with a number alone, and one that leaves something lent beside its number
 abbrev Numbered : (ℕ → Type 0) → Type 0
@@ -31,6 +32,9 @@ pub record Determined : Type 0 where
   pub validate-op : (map op : List ℕ) → Numbered (ValidateOpPromise map op)
   pub validate-op-start : (map op : List ℕ) → Numbered (ValidateOpStartPromise map op)
   pub validate-op-end : (map op : List ℕ) → Numbered (ValidateOpEndPromise map op)
+  pub ready : (map op : List ℕ) → Numbered (ReadyPromise map op)
+  pub ready-actor : (map op : List ℕ) → Numbered (ReadyActorPromise map op)
+  pub ready-counter : (map op : List ℕ) → Numbered (ReadyCounterPromise map op)
   pub validate-merge : (map other : List ℕ) → Numbered (ValidateMergePromise map other)
   pub validate-merge-actor : (map other : List ℕ) → Numbered (ValidateMergeActorPromise map other)
   pub validate-merge-counter : (map other : List ℕ) → Numbered (ValidateMergeCounterPromise map other)
@@ -59,6 +63,9 @@ determined = record {
   validate-op = λ map op r s p q. same p q;
   validate-op-start = λ map op r s p q. same p q;
   validate-op-end = λ map op r s p q. same p q;
+  ready = λ map op r s p q. same p q;
+  ready-actor = λ map op r s p q. same p q;
+  ready-counter = λ map op r s p q. same p q;
   validate-merge = λ map other r s p q. same p q;
   validate-merge-actor = λ map other r s p q. same p q;
   validate-merge-counter = λ map other r s p q. same p q;

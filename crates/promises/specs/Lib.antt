@@ -1,3 +1,4 @@
 pub mod Calls
 pub mod Deleted
 pub mod Promises
+pub mod Ready

@@ -1,4 +1,4 @@
--- The contract of each call of castribba.h: the code cites it, and `Determined` takes it.
+-- The contract of each call of castribba.h, but the guard's (Ready): the code cites it, and `Determined` takes it.
 use mathlib.Core.Path.{_≡_}
 use mathlib.Core.List.{List, []}
 use Prim.Native.Nat.{ℕ}

@@ -11,6 +11,9 @@ use Rattle.asking.specs.declared.CmRDTValidation.the-variants.{Fits, Missing}
 use Rattle.asking.specs.declared.CvRDTValidation.{CvRDTValidation}
 use Rattle.asking.specs.declared.CvRDTValidation.the-variants.{Once, Twice}
 use Rattle.asking.specs.Asking.{orderNumber, orderStart, orderEnd, spentNumber}
+use Rattle.readiness.specs.declared.Readiness.{Readiness}
+use Rattle.readiness.specs.declared.Readiness.the-variants.{Next, Foreign, Seen, Hold}
+use Rattle.readiness.specs.Ready.{readyNumber}
 use Rattle.answers.specs.Answer.{Answer, firstOf, numberOf, carriedOf}
 use Rattle.promises.specs.Calls.{bareAnswer}
 
@@ -49,6 +52,17 @@ end-carried = carries orderNumber orderEnd Fits 11 refl end-told
 pub spent-carried : (carried : CvRDTValidation → ℕ) → carried Once ≡ 0 → (first second : ℕ) (s : CvRDTValidation)
     → carried (cond (eqb (firstOf (first ∷ second ∷ [])) 0) s Once) ≡ carriedOf 12 (bareAnswer first second (spentNumber s)) (carried s)
 spent-carried carried z = carries spentNumber carried Once 12 z (spent-told carried z)
+
+ready-told : (carried : Readiness → ℕ) → carried Next ≡ 0 → carried Foreign ≡ 0 → carried Seen ≡ 0 → (g : Readiness)
+    → cond (eqb (readyNumber g) 21) (carried g) 0 ≡ carried g
+ready-told carried n f s Next = sym n
+ready-told carried n f s Foreign = sym f
+ready-told carried n f s Seen = sym s
+ready-told carried n f s (Hold actor counter) = refl
+
+pub ready-carried : (carried : Readiness → ℕ) → carried Next ≡ 0 → carried Foreign ≡ 0 → carried Seen ≡ 0 → (first second : ℕ) (g : Readiness)
+    → carried (cond (eqb (firstOf (first ∷ second ∷ [])) 0) g Next) ≡ carriedOf 21 (bareAnswer first second (readyNumber g)) (carried g)
+ready-carried carried n f s = carries readyNumber carried Next 21 n (ready-told carried n f s)
 
 -- the count is carried where the image passes
 pub carried-not : (with : ℕ) (a : Answer) (n : ℕ) → eqb (firstOf (a .first ∷ a .second ∷ [])) 0 ≡ false → 0 ≡ carriedOf with a n

@@ -1,11 +1,13 @@
-// Both validations over images, and the numbers that they and the count carry.
+// Both validations and the guard over images, and the numbers that they and the count carry.
 ghost use mathlib.Core.Path.{_≡_};
 ghost use Rattle.asking.specs.Asking.{orderNumber, orderStart, orderEnd, spentNumber};
 ghost use Rattle.promises.specs.Calls.{spentActor, spentCounter, spentOurs, spentTheirs};
 ghost use Rattle.promises.specs.Promises.{LenCountPromise};
-ghost use Rattle.verdicts.specs.Verdicts.{opVerdict, mergeVerdict};
+ghost use Rattle.readiness.specs.Ready.{readyNumber, readyActor, readyCounter};
+ghost use Rattle.verdicts.specs.Verdicts.{opVerdict, mergeVerdict, readyVerdict};
 use asking::CmRDTValidation;
 use asking::CvRDTValidation;
+use readiness::Readiness;
 
 // What `validate_op` says of two images: where one is refused, its number alone.
 pub struct OpVerdict {
@@ -17,6 +19,12 @@ pub struct OpVerdict {
 pub struct MergeVerdict {
     pub number: u8,
     pub spent: CvRDTValidation,
+}
+
+// What the guard says of two images.
+pub struct ReadyVerdict {
+    pub number: u8,
+    pub ready: Readiness,
 }
 
 fn order_number(o: CmRDTValidation) -> u8
@@ -91,6 +99,39 @@ pub fn spent_theirs(s: CvRDTValidation) -> u64
     }
 }
 
+fn ready_number(g: Readiness) -> u8
+    ensures { λ r. ⌜ r ≡ readyNumber g ⌝ }
+{
+    match g {
+        Readiness::Next => 0,
+        Readiness::Foreign => 19,
+        Readiness::Seen => 20,
+        Readiness::Hold(_, _) => 21,
+    }
+}
+
+pub fn ready_actor(g: Readiness) -> u64
+    ensures { λ r. ⌜ r ≡ readyActor g ⌝ }
+{
+    match g {
+        Readiness::Next => 0,
+        Readiness::Foreign => 0,
+        Readiness::Seen => 0,
+        Readiness::Hold(actor, _) => actor as u64,
+    }
+}
+
+pub fn ready_counter(g: Readiness) -> u64
+    ensures { λ r. ⌜ r ≡ readyCounter g ⌝ }
+{
+    match g {
+        Readiness::Next => 0,
+        Readiness::Foreign => 0,
+        Readiness::Seen => 0,
+        Readiness::Hold(_, counter) => counter,
+    }
+}
+
 pub fn op(map: &[u8], op: &[u8]) -> OpVerdict
     ensures { λ r. ⌜ r ≡ opVerdict (now (map .entry)) (now (op .entry)) ⌝ }
 {
@@ -112,6 +153,30 @@ pub fn op(map: &[u8], op: &[u8]) -> OpVerdict
     OpVerdict {
         number: order_number(order),
         order,
+    }
+}
+
+pub fn ready(map: &[u8], op: &[u8]) -> ReadyVerdict
+    ensures { λ r. ⌜ r ≡ readyVerdict (now (map .entry)) (now (op .entry)) ⌝ }
+{
+    let l = layout::lay_out(map);
+    if l.number != 0 {
+        return ReadyVerdict {
+            number: l.number,
+            ready: Readiness::Next,
+        };
+    }
+    let o = opimage::read_op(op);
+    if o.number != 0 {
+        return ReadyVerdict {
+            number: o.number,
+            ready: Readiness::Next,
+        };
+    }
+    let ready = readiness::ready(l.clock, o.op);
+    ReadyVerdict {
+        number: ready_number(ready),
+        ready,
     }
 }
 

@@ -85,6 +85,15 @@ impl Calls for Archive {
     fn validate_op_end(&self, map: &[u8], op: &[u8]) -> u64 {
         from_two!(castribba_validate_op_end, map, op)
     }
+    fn ready(&self, map: &[u8], op: &[u8]) -> u64 {
+        from_two!(castribba_ready, map, op)
+    }
+    fn ready_actor(&self, map: &[u8], op: &[u8]) -> u64 {
+        from_two!(castribba_ready_actor, map, op)
+    }
+    fn ready_counter(&self, map: &[u8], op: &[u8]) -> u64 {
+        from_two!(castribba_ready_counter, map, op)
+    }
     fn validate_merge(&self, map: &[u8], other: &[u8]) -> u64 {
         from_two!(castribba_validate_merge, map, other)
     }

@@ -53,6 +53,9 @@ pub trait Calls {
     fn validate_op(&self, map: &[u8], op: &[u8]) -> u64;
     fn validate_op_start(&self, map: &[u8], op: &[u8]) -> u64;
     fn validate_op_end(&self, map: &[u8], op: &[u8]) -> u64;
+    fn ready(&self, map: &[u8], op: &[u8]) -> u64;
+    fn ready_actor(&self, map: &[u8], op: &[u8]) -> u64;
+    fn ready_counter(&self, map: &[u8], op: &[u8]) -> u64;
     fn validate_merge(&self, map: &[u8], other: &[u8]) -> u64;
     fn validate_merge_actor(&self, map: &[u8], other: &[u8]) -> u64;
     fn validate_merge_counter(&self, map: &[u8], other: &[u8]) -> u64;

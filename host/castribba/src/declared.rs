@@ -45,6 +45,9 @@ extern "C" {
     pub fn castribba_validate_op(map: *const u8, map_len: usize, op: *const u8, op_len: usize) -> u64;
     pub fn castribba_validate_op_start(map: *const u8, map_len: usize, op: *const u8, op_len: usize) -> u64;
     pub fn castribba_validate_op_end(map: *const u8, map_len: usize, op: *const u8, op_len: usize) -> u64;
+    pub fn castribba_ready(map: *const u8, map_len: usize, op: *const u8, op_len: usize) -> u64;
+    pub fn castribba_ready_actor(map: *const u8, map_len: usize, op: *const u8, op_len: usize) -> u64;
+    pub fn castribba_ready_counter(map: *const u8, map_len: usize, op: *const u8, op_len: usize) -> u64;
     pub fn castribba_validate_merge(map: *const u8, map_len: usize, other: *const u8, other_len: usize) -> u64;
     pub fn castribba_validate_merge_actor(map: *const u8, map_len: usize, other: *const u8, other_len: usize) -> u64;
     pub fn castribba_validate_merge_counter(map: *const u8, map_len: usize, other: *const u8, other_len: usize) -> u64;

@@ -5,7 +5,7 @@ use alloc::vec::Vec;
 use core::fmt;
 
 use crate::slices::{self, LentClock, LentDot};
-use crate::{kind, Record, Refusal, LONGEST_MAP, LONGEST_OPERATION};
+use crate::{kind, Ready, Record, Refusal, LONGEST_MAP, LONGEST_OPERATION};
 
 /// What a call writes, given a buffer in which its longest answer fits.
 fn written(
@@ -51,9 +51,23 @@ macro_rules! image {
 /// A settings map.
 ///
 /// Two maps are equal when their images are: with the same values side by side in another order,
-/// they differ.
+/// or with other clocks of values, they differ. [`Map::agrees_with`] tells whether two drives have the
+/// same settings.
 #[derive(Clone, PartialEq, Eq, Hash, Default)]
 pub struct Map(Vec<u8>);
+
+/// Which map [`Map::merge_and_choose`] has kept.
+#[derive(Clone, Copy, Debug, PartialEq, Eq, Hash)]
+pub enum Kept {
+    /// Theirs has all that ours has.
+    Theirs,
+    /// Ours has all that theirs has.
+    Ours,
+    /// The two maps merged.
+    Merged,
+    /// Ours, since nothing tells whether the merged one is right: ask for the operations that it lacks.
+    OursAndAsk,
+}
 
 /// An edit that can be sent to other maps: an update or a removal.
 #[derive(Clone, PartialEq, Eq, Hash)]
@@ -96,23 +110,164 @@ impl Map {
 
     /// Applies an operation. One that was seen before changes nothing.
     ///
-    /// One actor's updates must come in its order: a later one is applied over the gap, and the earlier
-    /// one then counts as seen, and is lost ([the crate's page](crate#one-actors-updates-in-its-order)
-    /// has the guard).
+    /// It does not ask whether the operation is the next, and an update that is not may lose settings or
+    /// part the drives for good ([why](crate#1-ask-before-an-update-is-applied)): [`Map::ready`] tells, and
+    /// [`Map::feed`] does both.
     pub fn apply(&mut self, op: &Operation) -> Result<(), Refusal> {
         self.0 = written(LONGEST_MAP, |out| slices::apply(&self.0, &op.0, out))?;
         Ok(())
     }
 
+    /// Whether an operation may be applied: the guard, to be asked before every update. A removal may
+    /// always. It judges no limit, so that [`Map::apply`] may still be refused.
+    ///
+    /// ```
+    /// use castribba::{Map, Ready};
+    ///
+    /// let (mut ours, mut theirs) = (Map::new(), Map::new());
+    /// let first = ours.update(1, 5, 40, 0)?;
+    /// ours.apply(&first)?;
+    /// theirs.apply(&first)?;
+    /// // made by one who had seen the first
+    /// let second = theirs.update(2, 6, 60, 0)?;
+    /// let mut reader = Map::new();
+    /// assert_eq!(reader.ready(&second), Ready::Hold { actor: 1, counter: 1 });
+    /// reader.apply(&first)?;
+    /// assert_eq!(reader.ready(&second), Ready::Next);
+    /// assert_eq!(reader.ready(&first), Ready::Seen);
+    /// assert_eq!(reader.ready(&ours.withdraw(5)?), Ready::Next);
+    /// # Ok::<(), castribba::Refusal>(())
+    /// ```
+    pub fn ready(&self, op: &Operation) -> Ready {
+        slices::ready(&self.0, &op.0).expect("the images were judged when they were made")
+    }
+
+    /// Applies an operation where the guard says that it is the next, and answers what the guard said:
+    /// after anything but [`Ready::Next`] the map is as it was.
+    ///
+    /// ```
+    /// use castribba::{Map, Operation, Ready};
+    ///
+    /// // operations as they come, in any order and twice: what is held is asked about again
+    /// fn feed_all(map: &mut Map, mut held: Vec<Operation>) -> Result<Vec<Operation>, castribba::Refusal> {
+    ///     loop {
+    ///         let before = held.len();
+    ///         let mut left = Vec::new();
+    ///         for op in held {
+    ///             if let Ready::Hold { .. } = map.feed(&op)? {
+    ///                 left.push(op);
+    ///             }
+    ///         }
+    ///         if left.len() == before {
+    ///             return Ok(left);
+    ///         }
+    ///         held = left;
+    ///     }
+    /// }
+    ///
+    /// let (mut ours, mut theirs) = (Map::new(), Map::new());
+    /// let first = ours.update(1, 5, 40, 0)?;
+    /// let _ = ours.feed(&first)?;
+    /// let second = ours.update(1, 6, 60, 0)?;
+    /// let _ = ours.feed(&second)?;
+    /// let left = feed_all(&mut theirs, vec![second.clone(), first, second])?;
+    /// assert!(left.is_empty() && theirs.agrees_with(&ours));
+    /// # Ok::<(), castribba::Refusal>(())
+    /// ```
+    pub fn feed(&mut self, op: &Operation) -> Result<Ready, Refusal> {
+        let ready = self.ready(op);
+        if ready == Ready::Next {
+            self.apply(op)?;
+        }
+        Ok(ready)
+    }
+
+    /// Whether two maps have the same settings: the same clock, entry clocks and waiting removals, and under
+    /// each key the same values with their origins, each as often. Drives that were given the same
+    /// operations by the rules agree in this; the clocks of values and their order may differ.
+    ///
+    /// ```
+    /// use castribba::Map;
+    ///
+    /// // ours withdraws bay 5, while theirs sets it again
+    /// let (mut ours, mut theirs) = (Map::new(), Map::new());
+    /// let first = ours.update(1, 5, 10, 0)?;
+    /// let _ = (ours.feed(&first)?, theirs.feed(&first)?);
+    /// let removal = ours.withdraw(5)?;
+    /// let again = theirs.update(2, 5, 40, 0)?;
+    /// for op in [&removal, &again] {
+    ///     let _ = ours.feed(op)?;
+    /// }
+    /// for op in [&again, &removal] {
+    ///     let _ = theirs.feed(op)?;
+    /// }
+    /// assert!(ours.agrees_with(&theirs) && ours != theirs);
+    /// # Ok::<(), castribba::Refusal>(())
+    /// ```
+    pub fn agrees_with(&self, other: &Map) -> bool {
+        fn values(map: &Map) -> Vec<(u32, u64, u16)> {
+            let values = map.of_kind(kind::VALUE);
+            let mut values: Vec<_> = values.map(|v| (v.key, v.number, v.actor)).collect();
+            values.sort_unstable();
+            values
+        }
+        self.frame().eq(other.frame()) && values(self) == values(other)
+    }
+
+    /// Merges another map into this one where the result is right, else keeps the one of the two maps that is,
+    /// as rule 4 has it. Both must have been fed by [rule 1](crate#1-ask-before-an-update-is-applied), and
+    /// merged by this alone. A search found no exception to it; it is not proved.
+    ///
+    /// ```
+    /// use castribba::{Kept, Map};
+    ///
+    /// let (mut ours, mut theirs) = (Map::new(), Map::new());
+    /// ours.apply(&ours.update(1, 5, 40, 0)?)?;
+    /// theirs.apply(&theirs.update(2, 6, 60, 0)?)?;
+    /// assert_eq!(ours.merge_and_choose(&theirs)?, Kept::Merged);
+    /// assert_eq!(theirs.merge_and_choose(&ours)?, Kept::Theirs);
+    /// // apart, both set one bay: nothing tells whether both values are right
+    /// ours.apply(&ours.update(1, 5, 41, 0)?)?;
+    /// theirs.apply(&theirs.update(2, 5, 42, 0)?)?;
+    /// assert_eq!(ours.merge_and_choose(&theirs)?, Kept::OursAndAsk);
+    /// assert_eq!(ours.values(5), [41]);
+    /// # Ok::<(), castribba::Refusal>(())
+    /// ```
+    pub fn merge_and_choose(&mut self, theirs: &Map) -> Result<Kept, Refusal> {
+        let mut merged = self.clone();
+        merged.merge(theirs)?;
+        if merged.frame().eq(theirs.frame()) {
+            *self = theirs.clone();
+            return Ok(Kept::Theirs);
+        }
+        if merged.frame().eq(self.frame()) {
+            return Ok(Kept::Ours);
+        }
+        if merged.of_kind(kind::VALUE).any(|value| value.index > 0) {
+            return Ok(Kept::OursAndAsk);
+        }
+        *self = merged;
+        Ok(Kept::Merged)
+    }
+
+    /// The records of the clock, the entry clocks and the waiting removals: all but those of values.
+    fn frame(&self) -> impl Iterator<Item = Record> + '_ {
+        self.records().filter(|record| !matches!(record.kind, kind::VALUE | kind::VALUE_DOT))
+    }
+
     /// Merges another map into this one. [`Map::validate_merge`] tells beforehand of an actor number
     /// that was used twice, which would lose settings here.
+    ///
+    /// Old values may come back by it, overwritten ones and withdrawn ones
+    /// ([why](crate#4-catch-up-by-operations)): drives catch up by operations, or by
+    /// [`Map::merge_and_choose`].
     pub fn merge(&mut self, other: &Map) -> Result<(), Refusal> {
         self.0 = written(LONGEST_MAP, |out| slices::merge(&self.0, &other.0, out))?;
         Ok(())
     }
 
-    /// Forgets all that the clock has seen, counters too: reset all maps by the same clock, or none
-    /// ([why](crate#actor-numbers-belong-to-one-party)).
+    /// Forgets all that the clock has seen, counters too: reset all maps at once, by the whole clock of a
+    /// map or the floor of some, or none ([why](crate#5-reset-all-maps-at-once)).
     ///
     /// ```
     /// use castribba::Map;
@@ -136,7 +291,7 @@ impl Map {
     ///
     /// let mut map = Map::new();
     /// map.apply(&map.update(1, 5, 40, 0)?)?;
-    /// let removal = map.rm_get(5)?;
+    /// let removal = map.withdraw(5)?;
     /// assert_eq!(map.apply_deleted(&removal), 1);
     /// map.apply(&removal)?;
     /// assert_eq!(map.apply_deleted(&removal), 0);
@@ -186,7 +341,8 @@ impl Map {
         written(LONGEST_OPERATION, call).map(Operation)
     }
 
-    /// Makes the operation that removes what this map holds under a key, and nothing newer.
+    /// Makes the operation that withdraws a key: it removes there all that this map has seen, and nothing
+    /// that it has not seen. It may be applied at any time, and again. (`castribba_rm_read_ctx`.)
     ///
     /// ```
     /// use castribba::Map;
@@ -195,18 +351,24 @@ impl Map {
     /// let (mut ours, mut theirs) = (Map::new(), Map::new());
     /// let pick = ours.update(1, 5, 40, 0)?;
     /// ours.apply(&pick)?;
-    /// theirs.apply(&ours.rm_get(5)?)?;
+    /// theirs.apply(&ours.withdraw(5)?)?;
     /// theirs.apply(&pick)?;
     /// assert!(theirs.is_empty());
     /// # Ok::<(), castribba::Refusal>(())
     /// ```
-    pub fn rm_get(&self, key: u32) -> Result<Operation, Refusal> {
-        written(LONGEST_OPERATION, |out| slices::rm_get(&self.0, key, out)).map(Operation)
+    #[doc(alias = "rm_read_ctx")]
+    #[doc(alias = "remove")]
+    pub fn withdraw(&self, key: u32) -> Result<Operation, Refusal> {
+        written(LONGEST_OPERATION, |out| slices::rm_read_ctx(&self.0, key, out)).map(Operation)
     }
 
-    /// Makes the operation that removes under a key all that this map has seen.
-    pub fn rm_read_ctx(&self, key: u32) -> Result<Operation, Refusal> {
-        written(LONGEST_OPERATION, |out| slices::rm_read_ctx(&self.0, key, out)).map(Operation)
+    /// Makes the operation that removes the dots of a key's entry, and no others. (`castribba_rm_get`.)
+    ///
+    /// **It does not withdraw a value** where more than one actor writes the map: one whose writer had seen
+    /// another update keeps that dot, and stands on some drives ([why](crate#2-withdraw-by-withdraw)).
+    #[doc(alias = "rm_get")]
+    pub fn remove_entry(&self, key: u32) -> Result<Operation, Refusal> {
+        written(LONGEST_OPERATION, |out| slices::rm_get(&self.0, key, out)).map(Operation)
     }
 
     /// The map clock and one entry alone.
@@ -239,8 +401,8 @@ impl Map {
     /// each must be at most one behind, and [`Refusal::Gap`] says what the first that is not has missed.
     /// A removal passes.
     ///
-    /// It does not say whether this is the actor's next update: that one is refused too, when it is on
-    /// a key that the actor did not write last. [`Operation::dot`] has the guard that does.
+    /// It is not the guard: an actor's next update is refused too, when it is on a key that the actor did
+    /// not write last, and what the writer had seen of others is not asked. [`Map::ready`] is.
     ///
     /// ```
     /// use castribba::{Map, Refusal};
@@ -277,25 +439,15 @@ impl Operation {
         }
     }
 
-    /// An update's own dot, its actor and counter; a removal has none.
-    ///
-    /// An update is its actor's next when its counter is one above the map clock's. One that is further
-    /// above is held back until those before it have come, or the maps are merged.
+    /// An update's own dot, its actor and counter; a removal has none. [`Map::ready`] tells whether it may be
+    /// applied.
     ///
     /// ```
-    /// use castribba::{Map, Operation};
+    /// use castribba::Map;
     ///
-    /// fn is_next(map: &Map, op: &Operation) -> bool {
-    ///     op.dot().map_or(true, |(actor, counter)| counter - 1 == map.clock().get(actor))
-    /// }
-    ///
-    /// let (mut ours, mut theirs) = (Map::new(), Map::new());
-    /// let first = ours.update(1, 5, 40, 0)?;
-    /// ours.apply(&first)?;
-    /// let second = ours.update(1, 6, 60, 0)?;
-    /// assert!(is_next(&theirs, &first) && !is_next(&theirs, &second));
-    /// theirs.apply(&first)?;
-    /// assert!(is_next(&theirs, &second));
+    /// let map = Map::new();
+    /// assert_eq!(map.update(1, 5, 40, 0)?.dot(), Some((1, 1)));
+    /// assert_eq!(map.withdraw(5)?.dot(), None);
     /// # Ok::<(), castribba::Refusal>(())
     /// ```
     pub fn dot(&self) -> Option<(u16, u64)> {

@@ -2,30 +2,33 @@
 //!
 //! A [`Map`] gives each key (a bay) the values (numbers of boot images) that were last put there.
 //! Parties edit their own copies while apart. An edit is an [`Operation`]: it may arrive late, and
-//! twice, but [in its actor's order](#one-actors-updates-in-its-order). Whole maps are merged when
-//! parties meet. A value is overwritten only by one who had seen it; values that did not know of each
-//! other stand side by side. Each carries a code of who set it, its origin, which decides nothing.
+//! twice, and [a guard](Map::ready) says whether it may be applied yet. A value is overwritten only by one
+//! who had seen it; values that did not know of each other stand side by side. Each carries a code of who
+//! set it, its origin, which decides nothing.
 //!
 //! ```
-//! use castribba::Map;
+//! use castribba::{Map, Ready};
 //!
 //! // at actor 1 operator 7 picks image 40 for bay 5, and actor 2 hears of it, twice
 //! let (mut ours, mut theirs) = (Map::new(), Map::new());
 //! let pick = ours.update(1, 5, 40, 7)?;
 //! ours.apply(&pick)?;
-//! theirs.apply(&pick)?;
-//! theirs.apply(&pick)?;
+//! assert_eq!(theirs.feed(&pick)?, Ready::Next);
+//! assert_eq!(theirs.feed(&pick)?, Ready::Seen);
 //! assert_eq!(theirs, ours);
 //!
 //! // apart, both pick another: the two values stand side by side
-//! ours.apply(&ours.update(1, 5, 41, 0)?)?;
-//! theirs.apply(&theirs.update(2, 5, 42, 0)?)?;
-//! ours.merge(&theirs)?;
+//! let (by_us, by_them) = (ours.update(1, 5, 41, 0)?, theirs.update(2, 5, 42, 0)?);
+//! for op in [&by_us, &by_them] {
+//!     let _ = (ours.feed(op)?, theirs.feed(op)?);
+//! }
 //! assert_eq!(ours.values(5), [41, 42]);
 //!
 //! // whoever has seen both overwrites both
-//! ours.apply(&ours.update(1, 5, 43, 0)?)?;
+//! let both = ours.update(1, 5, 43, 0)?;
+//! let _ = (ours.feed(&both)?, theirs.feed(&both)?);
 //! assert_eq!(ours.values(5), [43]);
+//! assert!(ours.agrees_with(&theirs));
 //! # Ok::<(), castribba::Refusal>(())
 //! ```
 //!
@@ -34,17 +37,21 @@
 //! same calls on byte slices, for callers who have no heap. A refused call answers a [`Refusal`] and changes nothing. docs/FORMAT.md lays out an
 //! image's records; [`Record`] is one of them.
 //!
-//! # Three rules, or settings are lost
+//! # Five rules
 //!
-//! Where one is broken settings are lost, though every call answers `Ok`.
+//! Under them a withdrawn value stays away, and drives that were given the same operations agree. Where one
+//! is broken withdrawn values boot, drives differ for good or settings are lost, though every call answers
+//! `Ok`. docs/REMOVALS.md has what is proved, with every premise; rules 4 and 5 were found by a search and are
+//! not proved.
 //!
-//! ## One actor's updates in its order
+//! ## 1. Ask before an update is applied
 //!
-//! An update may arrive late, and twice, but not behind a later one of its actor. [`Map::apply`] takes
-//! the later one over the gap, and the earlier one then counts as seen.
+//! On every drive, also on one that only reads: [`Map::ready`], or [`Map::feed`], which applies what is next.
+//! What was seen is dropped, and what must be held is asked about again when more has come. [`Map::apply`]
+//! takes an update over a gap.
 //!
 //! ```
-//! use castribba::Map;
+//! use castribba::{Map, Ready};
 //!
 //! let (mut ours, mut theirs) = (Map::new(), Map::new());
 //! let bay_5 = ours.update(1, 5, 40, 0)?;
@@ -52,6 +59,7 @@
 //! let bay_6 = ours.update(1, 6, 60, 0)?;
 //! ours.apply(&bay_6)?;
 //!
+//! assert_eq!(theirs.ready(&bay_6), Ready::Hold { actor: 1, counter: 1 });
 //! theirs.apply(&bay_6)?;
 //! theirs.apply(&bay_5)?;
 //! assert_eq!((theirs.values(5), theirs.values(6)), (vec![], vec![60]));
@@ -61,18 +69,36 @@
 //! # Ok::<(), castribba::Refusal>(())
 //! ```
 //!
-//! The guard: an update is its actor's next when the counter of [`Operation::dot`] is one above
-//! [`Clock::get`] of the map's clock. Removals have no counter: they may come before what they remove,
-//! and in any order among themselves.
+//! [`Map::validate_op`] is not that guard: it asks the entry of the update's key, and so refuses an actor's
+//! next update on another key; and it does not ask what the writer had seen of others.
 //!
-//! ## `validate_op` is not that guard
+//! ## 2. Withdraw by `withdraw`
 //!
-//! [`Map::validate_op`] asks the entry of the update's key too, and so refuses an actor's next update
-//! on another key.
+//! [`Map::withdraw`], on a map that was fed by rule 1, removes under a key all that the map has seen.
+//! [`Map::remove_entry`] removes the entry's own dots alone, and is for a map that a single actor writes.
+//! A removal may be applied at any time, also before what it removes, and again.
 //!
-//! ## Actor numbers belong to one party
+//! ```
+//! use castribba::Map;
 //!
-//! An actor number belongs to one party, and its counters never start again. Where two count as one,
+//! // B's value has seen A's, which A has removed
+//! let (mut a, mut b) = (Map::new(), Map::new());
+//! let first = a.update(1, 5, 10, 0)?;
+//! let _ = (a.feed(&first)?, b.feed(&first)?);
+//! a.apply(&a.withdraw(5)?)?;
+//! let second = b.update(2, 5, 40, 0)?;
+//! let _ = (a.feed(&second)?, b.feed(&second)?);
+//!
+//! let (by_entry, withdrawal) = (a.remove_entry(5)?, a.withdraw(5)?);
+//! let mut without_the_rule = b.clone();
+//! let _ = (without_the_rule.feed(&by_entry)?, b.feed(&withdrawal)?);
+//! assert_eq!((without_the_rule.values(5), b.values(5)), (vec![40], vec![]));
+//! # Ok::<(), castribba::Refusal>(())
+//! ```
+//!
+//! ## 3. An actor number belongs to one party
+//!
+//! Its counters never start again, and it makes its updates on its newest map. Where two count as one,
 //! or one map alone is reset, a dot stands for two updates: each side takes the other's for seen, and a
 //! merge drops both. [`Map::validate_merge`] shows it, unless both wrote the same key.
 //!
@@ -98,6 +124,38 @@
 //! # Ok::<(), Refusal>(())
 //! ```
 //!
+//! ## 4. Catch up by operations
+//!
+//! A merge of two maps in use brings old values back, overwritten ones though nothing was ever removed, and
+//! withdrawn ones. [`Map::merge_and_choose`] keeps the map that is right; where that is not done, apply
+//! again after every merge each removal that must hold.
+//!
+//! ```
+//! use castribba::Map;
+//!
+//! let (mut a, mut b) = (Map::new(), Map::new());
+//! let on_6 = a.update(1, 6, 60, 0)?;
+//! let _ = (a.feed(&on_6)?, b.feed(&on_6)?);
+//! let first = b.update(2, 5, 40, 0)?;
+//! let _ = (b.feed(&first)?, a.feed(&first)?);
+//! let second = b.update(2, 5, 41, 0)?;
+//! let _ = b.feed(&second)?;
+//! // an older map, all of which B knows, changes B's all the same
+//! let mut older = Map::new();
+//! let _ = older.feed(&on_6)?;
+//! b.merge(&older)?;
+//! a.merge(&b)?;
+//! assert_eq!(a.values(5), [40, 41]);
+//! # Ok::<(), castribba::Refusal>(())
+//! ```
+//!
+//! ## 5. Reset all maps at once
+//!
+//! By the whole clock of a map, or the floor of some, with nothing on its way, no removal and no second copy
+//! either; and nothing new is made before all are reset ([`Map::reset_remove`]).
+//!
+//! A call that was refused was not made: keep the operation and try again, a removal after each update.
+//!
 //! # What it needs
 //!
 //! `CASTRIBBA_LIB_DIR` names the folder of `libcastribba.a` when the crate is built. The crate is
@@ -118,15 +176,17 @@ pub mod loader;
 #[cfg(feature = "alloc")]
 mod parts;
 mod pieces;
+mod ready;
 mod record;
 mod refusal;
 pub mod slices;
 
 #[cfg(feature = "alloc")]
-pub use image::{Clock, Map, Operation};
+pub use image::{Clock, Kept, Map, Operation};
 #[cfg(feature = "alloc")]
 pub use parts::{Entry, Removal, Standing, Value};
 pub use pieces::Pieces;
+pub use ready::Ready;
 pub use record::{kind, Record};
 pub use refusal::Refusal;
 

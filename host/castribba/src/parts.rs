@@ -106,7 +106,7 @@ impl Map {
     /// // a removal that arrives before the update that it removes
     /// let (mut ours, mut theirs) = (Map::new(), Map::new());
     /// ours.apply(&ours.update(1, 5, 40, 0)?)?;
-    /// theirs.apply(&ours.rm_get(5)?)?;
+    /// theirs.apply(&ours.withdraw(5)?)?;
     /// let waiting = theirs.waiting().next().expect("it waits");
     /// assert_eq!((waiting.keys, waiting.clock), (vec![5], ours.clock()));
     /// # Ok::<(), castribba::Refusal>(())
@@ -311,7 +311,7 @@ impl fmt::Display for Operation {
     /// let update = map.update(1, 5, 40, 0)?;
     /// map.apply(&update)?;
     /// assert_eq!(update.to_string(), "update 1 of actor 1: key 5 is 40, having seen {1:1}");
-    /// assert_eq!(map.rm_get(5)?.to_string(), "removal of key 5 under {1:1}");
+    /// assert_eq!(map.withdraw(5)?.to_string(), "removal of key 5 under {1:1}");
     /// # Ok::<(), castribba::Refusal>(())
     /// ```
     fn fmt(&self, f: &mut fmt::Formatter<'_>) -> fmt::Result {

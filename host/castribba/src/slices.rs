@@ -14,12 +14,15 @@
 //! ```
 
 use crate::declared;
-use crate::Refusal;
+use crate::{Ready, Refusal};
 
 pub use crate::declared::{LentClock, LentDot, LentPieces};
 
 const GAP: u32 = 11;
 const DOUBLE_SPENT: u32 = 12;
+const FOREIGN: u32 = 19;
+const SEEN: u32 = 20;
+const HOLD: u32 = 21;
 
 fn number_of(word: u64) -> u32 {
     (word >> 32) as u32
@@ -106,12 +109,12 @@ pub fn update(
     judged(with_one!(castribba_update, map, actor, key, value, origin; out))
 }
 
-/// The operation that removes what the map holds under a key.
+/// The operation that removes a key under its entry's clock; `Map::remove_entry` says what that is for.
 pub fn rm_get(map: &[u8], key: u32, out: &mut [u8]) -> Result<usize, Refusal> {
     judged(with_one!(castribba_rm_get, map, key; out))
 }
 
-/// The operation that removes under a key all that the map has seen.
+/// The operation that removes under a key all that the map has seen: the one that withdraws.
 pub fn rm_read_ctx(map: &[u8], key: u32, out: &mut [u8]) -> Result<usize, Refusal> {
     judged(with_one!(castribba_rm_read_ctx, map, key; out))
 }
@@ -138,6 +141,34 @@ pub fn validate_op(map: &[u8], op: &[u8]) -> Result<(), Refusal> {
         });
     }
     judged(word).map(|_| ())
+}
+
+/// Whether an operation may be applied: the guard. It judges no limit.
+///
+/// ```
+/// use castribba::{slices, Ready, Refusal, LONGEST_MAP, LONGEST_OPERATION};
+///
+/// let (mut op, mut map) = ([0; LONGEST_OPERATION], [0; LONGEST_MAP]);
+/// let update = slices::update(&[], 1, 5, 40, 0, &mut op)?;
+/// assert_eq!(slices::ready(&[], &op[..update])?, Ready::Next);
+/// let len = slices::apply(&[], &op[..update], &mut map)?;
+/// assert_eq!(slices::ready(&map[..len], &op[..update])?, Ready::Seen);
+/// let second = slices::update(&map[..len], 1, 6, 60, 0, &mut op)?;
+/// assert_eq!(slices::ready(&[], &op[..second])?, Ready::Hold { actor: 1, counter: 1 });
+/// # Ok::<(), Refusal>(())
+/// ```
+pub fn ready(map: &[u8], op: &[u8]) -> Result<Ready, Refusal> {
+    let word = with_two!(castribba_ready, map, op);
+    match number_of(word) {
+        FOREIGN => Ok(Ready::Foreign),
+        SEEN => Ok(Ready::Seen),
+        HOLD => Ok(Ready::Hold {
+            // an actor has 16 bits: the carried word holds nothing above
+            actor: with_two!(castribba_ready_actor, map, op) as u16,
+            counter: with_two!(castribba_ready_counter, map, op),
+        }),
+        _ => judged(word).map(|_| Ready::Next),
+    }
 }
 
 /// Whether no dot stands under different keys in the two maps.

@@ -56,6 +56,7 @@ fn a_refused_image_leaves_the_buffer() {
         assert_eq!(slices::get(part, 5, &mut out), Err(Refusal::Malformed));
         assert_eq!(slices::len(part), Err(Refusal::Malformed));
         assert_eq!(slices::validate_op(part, &[]), Err(Refusal::Malformed));
+        assert_eq!(slices::ready(part, &[]), Err(Refusal::Malformed));
         assert_eq!(slices::validate_merge(&m, part), Err(Refusal::Malformed));
     }
     assert!(out.iter().all(|&byte| byte == PAINT));

@@ -1,7 +1,7 @@
 //! What the C headers and this crate both say: the same.
 
 use castribba::slices::LentPieces;
-use castribba::{kind, Refusal, LONGEST_CLOCK, LONGEST_MAP, LONGEST_OPERATION, PIECES};
+use castribba::{kind, Ready, Refusal, LONGEST_CLOCK, LONGEST_MAP, LONGEST_OPERATION, PIECES};
 
 const COMMON: &str = include_str!("../../../include/castribba_common.h");
 const CALLS: &str = include_str!("../../../include/castribba.h");
@@ -86,4 +86,13 @@ fn the_numbers_and_their_texts() {
     assert_eq!(said("CASTRIBBA_GAP"), u64::from(gap.number()));
     assert_eq!(said("CASTRIBBA_DOUBLE_SPENT"), u64::from(spent.number()));
     assert!(TEXTS.contains(&format!("return \"{}\";", Refusal::Unknown(99))));
+
+    for (name, ready) in [("CASTRIBBA_FOREIGN", Ready::Foreign), ("CASTRIBBA_SEEN", Ready::Seen)] {
+        assert_eq!(said(name), u64::from(ready.number()), "{name}");
+        let text = format!("case {name}:\n        return \"{ready}\";");
+        assert!(TEXTS.contains(&text), "castribba_text.c has no {text}");
+    }
+    let hold = Ready::Hold { actor: 1, counter: 1 };
+    assert_eq!(said("CASTRIBBA_HOLD"), u64::from(hold.number()));
+    assert_eq!(Ready::Next.number(), 0);
 }

@@ -62,7 +62,7 @@ fn the_parts_of_many_maps() {
         let (party, other) = (below(3) as usize, below(3) as usize);
         let (actor, key) = (party as u16 + 1, below(5) as u32);
         let edit = match below(3) {
-            0 => parties[party].rm_read_ctx(key),
+            0 => parties[party].withdraw(key),
             _ => parties[party].update(actor, key, below(9), 0),
         };
         let edit = edit.expect("an edit within the limits");

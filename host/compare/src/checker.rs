@@ -1,13 +1,14 @@
 //! Runs calls of the implementation under test and compares everything that they did.
 
 use crate::asks::Asks;
-use crate::generate::any_origin;
+use crate::generate::{any_origin, near_next};
 use crate::panics::caught;
 use crate::pieces::Feeder;
 use crate::question::{dump, Call, Question};
 use crate::random::Random;
 use calls::{length_of, number_of, Calls, LentClock, LentDot, LONGEST_MAP};
 use oracle::expected::{self, Answer};
+use oracle::image::{operation_image, read_map};
 use std::collections::BTreeMap;
 
 /// Bytes on each side of a buffer that no call may touch.
@@ -197,12 +198,15 @@ impl<'a> Checker<'a> {
             None if call.possible().contains(&number) => "NEVER".to_string(),
             None => "-".to_string(),
         };
+        // numbers of calls that are not compared here have no column
+        let answered = |number: &u32| Call::ALL.iter().any(|call| call.possible().contains(number));
+        let numbers: Vec<u32> = (0..=Call::MOST).filter(answered).collect();
         print!("{:<15}", "call");
-        (0..=Call::MOST).for_each(|number| print!("{number:>9}"));
+        numbers.iter().for_each(|number| print!("{number:>9}"));
         println!();
         for call in Call::ALL {
             print!("{:<15}", call.name());
-            (0..=Call::MOST).for_each(|number| print!("{:>9}", cell(call, number)));
+            numbers.iter().for_each(|number| print!("{:>9}", cell(call, *number)));
             println!();
         }
     }
@@ -250,6 +254,27 @@ impl Checker<'_> {
         }
     }
 
+    /// The guard on the question's map, and on its operation or one that is near the next. It is asked here
+    /// and not by the rounds, whose inputs stay what they are.
+    fn guard(&mut self, question: &Question) {
+        let map = &question.images[0];
+        match question.call {
+            Call::ValidateOp => {
+                self.compare(&Question { call: Call::Ready, ..question.clone() });
+            }
+            Call::Apply if self.random.one_in(4) => {
+                self.compare(&Question { call: Call::Ready, ..question.clone() });
+            }
+            Call::Apply if self.random.one_in(4) => {
+                if let Ok(read) = read_map(map) {
+                    let op = operation_image(&near_next(&mut self.random, &read.clock));
+                    self.compare(&Question::of_two(Call::Ready, map, &op));
+                }
+            }
+            _ => {}
+        }
+    }
+
     /// The boot loader on the question's map image, now and then: a bay, one that is none, or all.
     fn boot(&mut self, question: &Question) {
         let image = &question.images[0];
@@ -274,6 +299,7 @@ impl Asks for Checker<'_> {
         let full = self.compare(&question)?;
         self.feed(&question);
         self.boot(&question);
+        self.guard(&question);
         Some(full)
     }
 

@@ -18,6 +18,34 @@ pub fn any_origin(random: &mut Random) -> u16 {
     }
 }
 
+/// An update that is the next on a map with this clock, or would be but for a counter or two. A put clock of
+/// nine dots, and one without the update's own dot, come up too.
+pub fn near_next(random: &mut Random, seen: &Clock) -> Operation {
+    let mut put_clock = seen.clone();
+    let actors: Vec<u16> = seen.keys().copied().chain([1, 2, 0xFFFF]).collect();
+    let near = |random: &mut Random, held: u64| match random.below(8) {
+        0 => held.saturating_add(2),
+        1 => held.max(1),
+        2 => held.saturating_sub(1).max(1),
+        3 => u64::MAX,
+        _ => held.saturating_add(1),
+    };
+    for _ in 0..random.below(3) {
+        let actor = *random.pick(&actors);
+        let counter = near(random, counter(seen, actor));
+        put_clock.insert(actor, counter);
+        if random.one_in(4) {
+            put_clock.remove(&actor);
+        }
+    }
+    let actor = *random.pick(&actors);
+    let own = near(random, counter(seen, actor));
+    if !random.one_in(12) {
+        put_clock.insert(actor, own);
+    }
+    Operation::Update { actor, counter: own, key: 5, put_clock, put_value: (7, any_origin(random)) }
+}
+
 /// How many things there are where a limit allows so many.
 #[derive(Clone, Copy)]
 enum Fill {

@@ -18,6 +18,7 @@ pub enum Call {
     Len,
     ValidateOp,
     ValidateMerge,
+    Ready,
     Bay,
     Bays,
     ClockAdvance,
@@ -26,7 +27,7 @@ pub enum Call {
 }
 
 impl Call {
-    pub const ALL: [Call; 15] = [
+    pub const ALL: [Call; 16] = [
         Call::Apply,
         Call::Merge,
         Call::ResetRemove,
@@ -37,6 +38,7 @@ impl Call {
         Call::Len,
         Call::ValidateOp,
         Call::ValidateMerge,
+        Call::Ready,
         Call::Bay,
         Call::Bays,
         Call::ClockAdvance,
@@ -45,7 +47,7 @@ impl Call {
     ];
 
     /// The largest number that any of them can answer.
-    pub const MOST: u32 = 14;
+    pub const MOST: u32 = 21;
 
     pub fn name(self) -> &'static str {
         match self {
@@ -59,6 +61,7 @@ impl Call {
             Call::Len => "len",
             Call::ValidateOp => "validate_op",
             Call::ValidateMerge => "validate_merge",
+            Call::Ready => "ready",
             Call::Bay => "bay",
             Call::Bays => "bays",
             Call::ClockAdvance => "clock_advance",
@@ -83,6 +86,7 @@ impl Call {
             Call::Len => &[0, 1, 2, 3],
             Call::ValidateOp => &[0, 1, 2, 3, 11],
             Call::ValidateMerge => &[0, 1, 2, 3, 12],
+            Call::Ready => &[0, 1, 2, 3, 19, 20, 21],
             Call::Bay => &[0, 1, 2, 3, 10, 14],
             Call::Bays => &[0, 1, 2, 3, 10],
             Call::ClockAdvance => &[0, 1, 2, 4],
@@ -127,6 +131,7 @@ impl Question {
             Call::Len => expected::len(first),
             Call::ValidateOp => expected::validate_op(first, second),
             Call::ValidateMerge => expected::validate_merge(first, second),
+            Call::Ready => expected::ready(first, second),
             Call::Bay => expected::bay(first, self.key),
             Call::Bays => expected::bays(first),
             Call::ClockAdvance => unreachable!("a lent clock is no image"),
@@ -170,6 +175,11 @@ impl Question {
                 ];
                 (calls.validate_merge(first, second), carried)
             }
+            Call::Ready => {
+                let actor = calls.ready_actor(first, second);
+                let counter = calls.ready_counter(first, second);
+                (calls.ready(first, second), vec![actor, counter])
+            }
             Call::Bay => (calls.bay(first, self.key, out), vec![]),
             Call::Bays => (calls.bays(first, out), vec![]),
             Call::ClockAdvance => unreachable!("a lent clock is no image"),
@@ -197,7 +207,7 @@ impl Question {
 
     /// Whether the call has an output buffer.
     pub fn writes(&self) -> bool {
-        !matches!(self.call, Call::Len | Call::ValidateOp | Call::ValidateMerge)
+        !matches!(self.call, Call::Len | Call::ValidateOp | Call::ValidateMerge | Call::Ready)
     }
 }
 

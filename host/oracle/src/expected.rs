@@ -1,6 +1,7 @@
 //! What each call of castribba.h must answer, given room enough: number, bytes, numbers carried.
 
 use crate::bays::{report, BAYS};
+use crate::guard::{self, Place};
 use crate::image::{map_image, operation_image, read_clock, read_map, read_operation};
 use crate::model::{Map, Operation, ValueAndOrigin};
 use crate::published;
@@ -127,6 +128,21 @@ pub fn validate_op(map: &[u8], op: &[u8]) -> Answer {
         Ok((map, operation)) => match published::validate_op(&map, &operation) {
             None => (0, vec![0; 2]),
             Some((start, end)) => (11, vec![start, end]),
+        },
+    };
+    Answer { number, bytes: vec![], carried }
+}
+
+/// Carries the actor and the counter that a held update waits for.
+pub fn ready(map: &[u8], op: &[u8]) -> Answer {
+    let read = || Ok((read_map(map)?, read_operation(op)?));
+    let (number, carried) = match read() {
+        Err(number) => (number, vec![0; 2]),
+        Ok((map, operation)) => match guard::place(&map, &operation) {
+            Place::Next => (0, vec![0; 2]),
+            Place::Foreign => (19, vec![0; 2]),
+            Place::Seen => (20, vec![0; 2]),
+            Place::Hold(actor, counter) => (21, vec![actor.into(), counter]),
         },
     };
     Answer { number, bytes: vec![], carried }

@@ -3,6 +3,7 @@
 pub mod bays;
 pub mod expected;
 pub mod full;
+pub mod guard;
 pub mod image;
 pub mod model;
 pub mod nested;

@@ -2,7 +2,7 @@
 
 use crate::image::{fits, read_map_into};
 use crate::{number, read_clock, read_op, write_map, write_op};
-use crate::{Clock, Dot, DoubleSpent, Gap, Map, Operation};
+use crate::{Clock, Dot, DoubleSpent, Gap, Map, NotNext, Operation};
 
 /// number * 2^32 + length
 pub(crate) fn word(answer: impl FnOnce() -> Result<usize, u32>) -> u64 {
@@ -137,6 +137,37 @@ pub fn castribba_validate_op_start(map: &[u8], op: &[u8]) -> u64 {
 
 pub fn castribba_validate_op_end(map: &[u8], op: &[u8]) -> u64 {
     gap_of(map, op).ok().flatten().map_or(0, |gap| gap.end)
+}
+
+fn not_next_of(map: &[u8], op: &[u8]) -> Result<Option<NotNext>, u32> {
+    let mut ours = Map::EMPTY;
+    read_map_into(map, &mut ours)?;
+    Ok(ours.ready(&read_op(op)?).err())
+}
+
+pub fn castribba_ready(map: &[u8], op: &[u8]) -> u64 {
+    word(|| match not_next_of(map, op)? {
+        None => Ok(0),
+        Some(NotNext::Foreign) => Err(number::FOREIGN),
+        Some(NotNext::Seen) => Err(number::SEEN),
+        Some(NotNext::Hold(_)) => Err(number::HOLD),
+    })
+}
+
+/// One of the numbers that 21 carries, 0 where it is not carried.
+fn carried_by_21(map: &[u8], op: &[u8], pick: impl Fn(Dot) -> u64) -> u64 {
+    match not_next_of(map, op) {
+        Ok(Some(NotNext::Hold(missing))) => pick(missing),
+        _ => 0,
+    }
+}
+
+pub fn castribba_ready_actor(map: &[u8], op: &[u8]) -> u64 {
+    carried_by_21(map, op, |missing| missing.actor.into())
+}
+
+pub fn castribba_ready_counter(map: &[u8], op: &[u8]) -> u64 {
+    carried_by_21(map, op, |missing| missing.counter)
 }
 
 fn double_spent_of(map: &[u8], other: &[u8]) -> Result<Option<DoubleSpent>, u32> {

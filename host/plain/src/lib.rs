@@ -14,7 +14,7 @@ pub use calls::*;
 pub use clock::{Clock, Dot};
 pub use image::{read_clock, read_map, read_op, write_map, write_op};
 pub use loader::*;
-pub use map::{DoubleSpent, Entry, Gap, Map, Operation, Removal, Waiting};
+pub use map::{DoubleSpent, Entry, Gap, Map, NotNext, Operation, Removal, Waiting};
 pub use pieces::*;
 pub use register::{Register, Value};
 

@@ -50,6 +50,16 @@ pub struct Gap {
     pub end: u64,
 }
 
+/// Why an update is not the next.
+#[derive(Clone, Copy, Debug, PartialEq, Eq)]
+pub enum NotNext {
+    /// Its put clock lacks its own dot.
+    Foreign,
+    Seen,
+    /// This update, of one that its writer had seen, is the first that is missing.
+    Hold(Dot),
+}
+
 /// A dot that stands under one key in our map and under another in theirs.
 #[derive(Clone, Copy, Debug, PartialEq, Eq)]
 pub struct DoubleSpent {
@@ -424,6 +434,27 @@ impl Map {
                 if dot.counter > next {
                     return Err(Gap { start: next, end: dot.counter });
                 }
+            }
+        }
+        Ok(())
+    }
+
+    /// Whether an operation may be applied: a removal, or an update before which nothing is missing.
+    pub fn ready(&self, operation: &Operation) -> Result<(), NotNext> {
+        let Operation::Update { dot, put, .. } = operation else {
+            return Ok(());
+        };
+        if !put.clock.dots().contains(dot) {
+            return Err(NotNext::Foreign);
+        }
+        if self.clock.counter(dot.actor) >= dot.counter {
+            return Err(NotNext::Seen);
+        }
+        for had in put.clock.dots() {
+            let needed = had.counter - u64::from(had.actor == dot.actor);
+            let seen = self.clock.counter(had.actor);
+            if seen < needed {
+                return Err(NotNext::Hold(Dot { actor: had.actor, counter: seen + 1 }));
             }
         }
         Ok(())

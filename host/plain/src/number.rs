@@ -15,3 +15,6 @@ pub const SOURCE_ORDER: u32 = 11;
 pub const DOUBLE_SPENT: u32 = 12;
 pub const ENDED: u32 = 13;
 pub const NO_BAY: u32 = 14;
+pub const FOREIGN: u32 = 19;
+pub const SEEN: u32 = 20;
+pub const HOLD: u32 = 21;

@@ -1,12 +1,14 @@
 //! Why the tool stops: what it says, and its exit status.
 
-use castribba::Refusal;
+use castribba::{Ready, Refusal};
 use std::fmt;
 
 /// A reason to stop. Nothing was written.
 pub enum Failure {
     /// What was asked for is refused: by whom or of what, the number and its text, and more for a reader.
     Refused { what: String, refusal: Refusal, more: String },
+    /// The guard says that an update must not be applied yet, or not at all.
+    NotNext(Ready),
     /// The command's words or a file are at fault.
     Trouble(String),
 }
@@ -14,7 +16,7 @@ pub enum Failure {
 impl Failure {
     pub fn status(&self) -> u8 {
         match self {
-            Failure::Refused { .. } => 1,
+            Failure::Refused { .. } | Failure::NotNext(_) => 1,
             Failure::Trouble(_) => 2,
         }
     }
@@ -25,6 +27,9 @@ impl fmt::Display for Failure {
         match self {
             Failure::Refused { what, refusal, more } => {
                 write!(f, "{what}: refused, number {}: {refusal}{more}", refusal.number())
+            }
+            Failure::NotNext(ready) => {
+                write!(f, "apply: refused, number {}: {ready}", ready.number())
             }
             Failure::Trouble(what) => write!(f, "{what}"),
         }

@@ -4,7 +4,7 @@ mod failure;
 mod files;
 mod words;
 
-use castribba::{loader, Entry, Map, Operation, Refusal};
+use castribba::{loader, Entry, Map, Operation, Ready, Refusal};
 use failure::{trouble, Failure};
 use files::{map_in, named, operation_in, print, shown, write_all};
 use std::process::ExitCode;
@@ -49,6 +49,11 @@ fn run(given: Vec<String>) -> Result<u8, Failure> {
         "merge" => merge(&words),
         _ => diff(&words),
     }
+}
+
+/// A line for a reader that is no reason to stop.
+fn note(text: &str) {
+    eprintln!("castribba: {text}");
 }
 
 fn say(text: &str) -> Result<u8, Failure> {
@@ -119,17 +124,23 @@ fn remove(words: &Words) -> Result<u8, Failure> {
     if !map.contains_key(key) {
         return trouble(format!("{} has no entry for key {key}", named(&words.operands[0])));
     }
-    let op = refused(words, map.rm_get(key))?;
-    write_edit(words, map, &op)
+    let op = if words.entry { map.remove_entry(key) } else { map.withdraw(key) };
+    let written = write_edit(words, map, &refused(words, op)?)?;
+    if words.entry {
+        note("this removes the entry's own dots alone: where several actors write the map, its values may stand on other drives");
+    }
+    Ok(written)
 }
 
-/// What an update would be applied over: updates of its actor that have not come.
-fn gap_before(map: &Map, op: &Operation) -> Result<(), Refusal> {
-    match op.dot() {
-        Some((actor, end)) if end - 1 > map.clock().get(actor) => {
-            Err(Refusal::Gap { start: map.clock().get(actor) + 1, end })
+/// What the guard says: an update that must be held, or that no `set` made, is not applied.
+fn guarded(map: &Map, op: &Operation) -> Result<(), Failure> {
+    match map.ready(op) {
+        Ready::Next => Ok(()),
+        Ready::Seen => {
+            note("the update was seen, and changes nothing");
+            Ok(())
         }
-        _ => Ok(()),
+        not_next => Err(Failure::NotNext(not_next)),
     }
 }
 
@@ -137,7 +148,7 @@ fn apply(words: &Words) -> Result<u8, Failure> {
     let mut map = map_in(&words.operands[0])?;
     let op = operation_in(&words.operands[1])?;
     if !words.anyway {
-        refused(words, gap_before(&map, &op))?;
+        guarded(&map, &op)?;
     }
     refused(words, map.apply(&op))?;
     write_map(words, &map)
@@ -153,12 +164,16 @@ fn merge(words: &Words) -> Result<u8, Failure> {
     write_map(words, &map)
 }
 
-/// Whether two entries of a key are the same, whatever the order of their values.
+/// Whether two entries of a key are the same setting, whatever the order of their values, and the clocks of
+/// these: drives that were given the same operations may differ in both.
 fn same(one: &Entry, other: &Entry) -> bool {
-    let times = |entry: &Entry, value| entry.values.iter().filter(|held| *held == value).count();
-    one.clock == other.clock
-        && one.values.len() == other.values.len()
-        && one.values.iter().all(|value| times(one, value) == times(other, value))
+    let values = |entry: &Entry| {
+        let mut values: Vec<_> =
+            entry.values.iter().map(|held| (held.value, held.origin)).collect();
+        values.sort_unstable();
+        values
+    };
+    one.clock == other.clock && values(one) == values(other)
 }
 
 fn diff(words: &Words) -> Result<u8, Failure> {

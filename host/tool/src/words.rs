@@ -10,8 +10,8 @@ castribba: settings maps, looked at and edited
   castribba bays MAP                        what each of the 24 bays boots
   castribba get MAP KEY                     one entry, in words
   castribba set MAP ACTOR KEY VALUE         the map after this actor has set the key
-  castribba remove MAP KEY                  the map without the key
-  castribba apply MAP OP                    the map after an operation
+  castribba remove MAP KEY                  the map without the key, which is withdrawn
+  castribba apply MAP OP                    the map after an operation that is the next
   castribba merge MAP OTHER                 the two maps merged
   castribba diff MAP OTHER                  keys only in one, and keys that differ
 
@@ -22,8 +22,15 @@ set, remove, apply and merge write a map:
   -o FILE        to this file, which may be the one that was read; else to standard output
   --op FILE      set and remove: the operation too, for the others to apply
   --origin CODE  set: who set the value, a code that stays with it; else 0, for none
-  --anyway       apply: over a gap in the actor's updates, which are then lost
+  --entry        remove: the entry's own dots alone, for a map that one actor writes; where several do,
+                 its values may stand on other drives
+  --anyway       apply: though something that the update's writer had seen is missing, which may lose
+                 settings and part the drives
                  merge: though one dot stands under different keys, which loses both
+
+remove takes from the key all that the map has seen. merge brings old values back, overwritten and
+withdrawn ones, where both maps were in use: catch up by operations. diff compares settings: the clocks of
+values and their order are left aside, in which drives that agree may differ.
 
 Exit status: 0 done; 1 refused, with the number and its text; 2 a fault in the command or a file;
 3 diff found a difference. Unless it is 0 or 3, nothing was written.
@@ -37,6 +44,7 @@ pub struct Words {
     pub operation: Option<String>,
     pub origin: Option<String>,
     pub anyway: bool,
+    pub entry: bool,
 }
 
 /// What a command takes: its operands, whether it writes a map, and the options of its own.
@@ -61,7 +69,7 @@ const FORMS: [Form; 8] = [
     form("bays", &["MAP"], false, &[]),
     form("get", &["MAP", "KEY"], false, &[]),
     form("set", &["MAP", "ACTOR", "KEY", "VALUE"], true, &["--op", "--origin"]),
-    form("remove", &["MAP", "KEY"], true, &["--op"]),
+    form("remove", &["MAP", "KEY"], true, &["--op", "--entry"]),
     form("apply", &["MAP", "OP"], true, &["--anyway"]),
     form("merge", &["MAP", "OTHER"], true, &["--anyway"]),
     form("diff", &["MAP", "OTHER"], false, &[]),
@@ -82,6 +90,7 @@ impl Words {
             operation: None,
             origin: None,
             anyway: false,
+            entry: false,
         };
         while let Some(word) = given.next() {
             let known = (word == "-o" && form.writes) || form.options.contains(&word.as_str());
@@ -90,6 +99,7 @@ impl Words {
                 "--op" if known => once(&word, "file", &mut words.operation, given.next())?,
                 "--origin" if known => once(&word, "number", &mut words.origin, given.next())?,
                 "--anyway" if known => words.anyway = true,
+                "--entry" if known => words.entry = true,
                 _ if looks_like_option(&word) => {
                     return trouble(format!("{} has no option {word}", words.command));
                 }

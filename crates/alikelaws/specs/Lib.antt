@@ -1,0 +1,12 @@
+pub mod Among
+pub mod Honest
+pub mod Source
+pub mod Runs
+pub mod Withdrawal
+pub mod Picture
+pub mod Settings
+pub mod Agreement
+pub mod OnMaps
+pub mod MadeOps
+pub mod MadeCalls
+pub mod EndingAlike
