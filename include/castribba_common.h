@@ -9,7 +9,8 @@
  * - Images and reports are little-endian, whatever machine writes them. docs/FORMAT.md lays them out.
  * - The archives are for x86-64 under the System V convention: at a call the stack is aligned to 16
  *   bytes; SSE registers and the 128 bytes below the stack pointer (the red zone) are used. They need
- *   `memcpy` from the program around them and nothing else: no heap, no other libc, no system call.
+ *   `memcpy`, and castribba's `memset` too, from the program around them and nothing else: no heap, no
+ *   other libc, no system call.
  *   docs/INTEGRATING.md says what that means for a kernel, a boot loader and another machine.
  * - The stack that each call uses is in docs/MEASURES.md; host/stack/run prints that of castribba.h's calls
  *   for the archive at hand.
@@ -35,7 +36,7 @@
 #define CASTRIBBA_NUMBER(word) ((uint32_t)((word) >> 32))
 #define CASTRIBBA_LENGTH(word) ((uint32_t)(word))
 
-/* The numbers. 15 to 18 are kept for calls to come: a program should expect numbers that it does not
+/* The numbers. 15 and 18 are kept for calls to come: a program should expect numbers that it does not
  * know. */
 enum castribba_number {
     CASTRIBBA_DONE = 0,             /* done */
@@ -53,6 +54,8 @@ enum castribba_number {
     CASTRIBBA_DOUBLE_SPENT = 12,    /* validate_merge: the maps hold one dot under different keys */
     CASTRIBBA_ENDED = 13,           /* the calls on pieces: the reader has ended, or was not begun */
     CASTRIBBA_NO_BAY = 14,          /* the loader's calls: there is no such bay */
+    CASTRIBBA_ENDS_ELSEWHERE = 16,  /* catch_up: the operations end in another map's image than theirs */
+    CASTRIBBA_TOO_MANY_OPERATIONS = 17, /* catch_up: more than 32 operations */
     CASTRIBBA_FOREIGN = 19,         /* ready: not castribba_update's: the put clock lacks its own dot */
     CASTRIBBA_SEEN = 20,            /* ready: the map has seen the update */
     CASTRIBBA_HOLD = 21             /* ready: something that the update's writer had seen is missing */

@@ -35,6 +35,10 @@ const char *castribba_number_text(uint32_t number)
         return "the reader of pieces has ended, or was not begun";
     case CASTRIBBA_NO_BAY:
         return "there is no such bay";
+    case CASTRIBBA_ENDS_ELSEWHERE:
+        return "the operations end in another map than theirs";
+    case CASTRIBBA_TOO_MANY_OPERATIONS:
+        return "the list has more than 32 operations";
     case CASTRIBBA_FOREIGN:
         return "the update was not made by castribba_update";
     case CASTRIBBA_SEEN:

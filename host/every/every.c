@@ -145,6 +145,33 @@ static void validating(void)
     is("validate_merge_their_key", castribba_validate_merge_their_key(IMAGE(M), IMAGE(M_ON_6)), 6);
 }
 
+/* M and what an operation makes of it, held against lists of that operation. */
+static void catching_up(void)
+{
+    static uint8_t after[CASTRIBBA_LONGEST_MAP], list[34 * sizeof REMOVAL];
+    uint64_t word = castribba_apply(IMAGE(M), IMAGE(REMOVAL), after, sizeof after);
+    size_t after_len = CASTRIBBA_LENGTH(word);
+    for (int op = 0; op < 34; op++)
+        memcpy(list + op * sizeof REMOVAL, REMOVAL, sizeof REMOVAL);
+    is("catch_up", castribba_catch_up(IMAGE(M), after, after_len, IMAGE(REMOVAL)), 0);
+    is("catch_up, nothing to do", castribba_catch_up(IMAGE(M), IMAGE(M), NULL, 0), 0);
+    is("catch_up, 32 operations", castribba_catch_up(IMAGE(M), after, after_len, list, 32 * sizeof REMOVAL), 0);
+    is("catch_up, nothing done", castribba_catch_up(IMAGE(M), after, after_len, NULL, 0),
+       REFUSED(CASTRIBBA_ENDS_ELSEWHERE));
+    is("catch_up, 33 operations", castribba_catch_up(IMAGE(M), after, after_len, list, 33 * sizeof REMOVAL),
+       REFUSED(CASTRIBBA_TOO_MANY_OPERATIONS));
+    is("catch_up, a part of a record", castribba_catch_up(IMAGE(M), after, after_len, list, 2 * sizeof REMOVAL + 1),
+       REFUSED(1));
+    is("catch_up_place, a part of a record",
+       castribba_catch_up_place(IMAGE(M), after, after_len, list, 2 * sizeof REMOVAL + 1), 1);
+    is("catch_up, no head", castribba_catch_up(IMAGE(M), after, after_len, list + 16, sizeof REMOVAL - 16),
+       REFUSED(3));
+    is("catch_up, our map first", castribba_catch_up(M, 15, IMAGE(M_ON_6), list, 1), REFUSED(1));
+    is("catch_up_place, our map", castribba_catch_up_place(M, 15, IMAGE(M), list, 1), 0);
+    is("catch_up, their map before 17", castribba_catch_up(IMAGE(M), list, 16, list, 33 * sizeof REMOVAL), REFUSED(1));
+    is("catch_up_place, none refused", castribba_catch_up_place(IMAGE(M), IMAGE(M), IMAGE(REMOVAL)), 0);
+}
+
 /* Field by field: the bytes between an actor and its counter are nobody's. */
 static int same_clock(const castribba_clock *one, const castribba_clock *other)
 {
@@ -607,7 +634,9 @@ static void texts(void)
     const char *unknown = castribba_number_text(UINT32_MAX);
     for (uint32_t number = 0; number <= 24; number++) {
         const char *text = castribba_number_text(number);
-        int known = number <= CASTRIBBA_NO_BAY || (number >= CASTRIBBA_FOREIGN && number <= CASTRIBBA_HOLD);
+        int known = number <= CASTRIBBA_NO_BAY || number == CASTRIBBA_ENDS_ELSEWHERE ||
+                    number == CASTRIBBA_TOO_MANY_OPERATIONS ||
+                    (number >= CASTRIBBA_FOREIGN && number <= CASTRIBBA_HOLD);
         report((strcmp(text, unknown) != 0) == known, "a number's text");
         for (uint32_t other = 0; known && other < number; other++)
             report(strcmp(text, castribba_number_text(other)) != 0, "two numbers with one text");
@@ -622,6 +651,7 @@ int main(void)
     origins();
     reading();
     validating();
+    catching_up();
     advancing();
     in_pieces();
     nothing_at_null();
@@ -636,6 +666,6 @@ int main(void)
     bytes_of_the_page();
     clocks_and_images();
     texts();
-    printf("every: %d checks of the 26 calls and the rules, %d differences\n", checks, failures);
+    printf("every: %d checks of the 28 calls and the rules, %d differences\n", checks, failures);
     return failures != 0;
 }

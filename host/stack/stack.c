@@ -218,6 +218,8 @@ CALL(validate_merge_actor, FIRST, SECOND)
 CALL(validate_merge_counter, FIRST, SECOND)
 CALL(validate_merge_our_key, FIRST, SECOND)
 CALL(validate_merge_their_key, FIRST, SECOND)
+CALL(catch_up, FIRST, FIRST, SECOND)
+CALL(catch_up_place, FIRST, FIRST, SECOND)
 CALL(clock_advance, &lent, 3, 5)
 CALL(pieces_begin, &reader)
 CALL(pieces_take, &reader, FIRST)
@@ -321,6 +323,8 @@ int main(void)
         {"castribba_validate_merge_counter", run_validate_merge_counter, maps, MAPS},
         {"castribba_validate_merge_our_key", run_validate_merge_our_key, maps, MAPS},
         {"castribba_validate_merge_their_key", run_validate_merge_their_key, maps, MAPS},
+        {"castribba_catch_up", run_catch_up, operations, OPERATIONS},
+        {"castribba_catch_up_place", run_catch_up_place, operations, OPERATIONS},
         {"castribba_clock_advance", run_clock_advance, clocks, 1},
         {"castribba_pieces_begin", run_pieces_begin, clocks, 1},
         {"castribba_pieces_take", run_pieces_take, clocks, 1},

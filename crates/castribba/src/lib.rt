@@ -3,6 +3,7 @@ ghost use Rattle.promises.specs.Promises.{ApplyPromise, ApplyDeletedPromise, Me
 ghost use Rattle.promises.specs.Promises.{UpdatePromise, RmGetPromise, RmReadCtxPromise, GetPromise, LenPromise, LenCountPromise, ValidateOpPromise};
 ghost use Rattle.promises.specs.Promises.{ValidateOpStartPromise, ValidateOpEndPromise, ValidateMergePromise, ValidateMergeActorPromise};
 ghost use Rattle.promises.specs.Promises.{ValidateMergeCounterPromise, ValidateMergeOurKeyPromise, ValidateMergeTheirKeyPromise, ClockAdvancePromise};
+ghost use Rattle.promises.specs.Promises.{CatchUpPromise, CatchUpPlacePromise};
 ghost use Rattle.promises.specs.Promises.{PiecesBeginPromise, PiecesTakePromise, PiecesEndPromise};
 ghost use Rattle.promises.specs.Ready.{ReadyPromise, ReadyActorPromise, ReadyCounterPromise};
 use clock::Clock;
@@ -192,6 +193,22 @@ pub extern "C" fn castribba_validate_merge_their_key(map: &[u8], other: &[u8]) -
     let v = verdicts::merge(map, other);
     let s = v.spent;
     verdicts::spent_theirs(s)
+}
+
+// Whether a list of operations brings our map to theirs.
+#[no_mangle]
+pub extern "C" fn castribba_catch_up(map: &[u8], other: &[u8], list: &[u8]) -> u64
+    ensures { λ r. ⌜ CatchUpPromise (now (map .entry)) (now (other .entry)) (now (list .entry)) r ⌝ }
+{
+    catchup::catch_up(map, other, list)
+}
+
+// The place of the operation that is refused.
+#[no_mangle]
+pub extern "C" fn castribba_catch_up_place(map: &[u8], other: &[u8], list: &[u8]) -> u64
+    ensures { λ r. ⌜ CatchUpPlacePromise (now (map .entry)) (now (other .entry)) (now (list .entry)) r ⌝ }
+{
+    catchup::catch_up_place(map, other, list)
 }
 
 // The lent clock, advanced in place by one dot; where the dot takes no effect nothing is stored.

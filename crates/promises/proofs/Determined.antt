@@ -9,6 +9,7 @@ use Rattle.promises.specs.Promises.{ApplyPromise, MergePromise, ResetRem
 use Rattle.promises.specs.Promises.{LenPromise, LenCountPromise, ValidateOpPromise, ValidateOpStartPromise, ValidateOpEndPromise}
 use Rattle.promises.specs.Promises.{ValidateMergePromise, ValidateMergeActorPromise, ValidateMergeCounterPromise, ValidateMergeOurKeyPromise}
 use Rattle.promises.specs.Promises.{ValidateMergeTheirKeyPromise, ApplyDeletedPromise, ResetRemoveDeletedPromise, ClockAdvancePromise}
+use Rattle.promises.specs.Promises.{CatchUpPromise, CatchUpPlacePromise}
 use Rattle.promises.specs.Promises.{PiecesBeginPromise, PiecesTakePromise, PiecesEndPromise}
 use Rattle.promises.specs.Ready.{ReadyPromise, ReadyActorPromise, ReadyCounterPromise}
 
@@ -42,6 +43,8 @@ pub record Determined : Type 0 where
   pub validate-merge-their-key : (map other : List ℕ) → Numbered (ValidateMergeTheirKeyPromise map other)
   pub apply-deleted : (map op : List ℕ) (room : ℕ) → Numbered (ApplyDeletedPromise map op room)
   pub reset-remove-deleted : (map clock : List ℕ) (room : ℕ) → Numbered (ResetRemoveDeletedPromise map clock room)
+  pub catch-up : (map other list : List ℕ) → Numbered (CatchUpPromise map other list)
+  pub catch-up-place : (map other list : List ℕ) → Numbered (CatchUpPlacePromise map other list)
   pub clock-advance : (clock : Clock) (actor counter : ℕ) → Lent (ClockAdvancePromise clock actor counter)
   pub pieces-begin : (reader : List ℕ) → Lent (PiecesBeginPromise reader)
   pub pieces-take : (reader piece : List ℕ) → Lent (PiecesTakePromise reader piece)
@@ -73,6 +76,8 @@ determined = record {
   validate-merge-their-key = λ map other r s p q. same p q;
   apply-deleted = λ map op room r s p q. same-count p q;
   reset-remove-deleted = λ map clock room r s p q. same-count p q;
+  catch-up = λ map other list r s p q. same p q;
+  catch-up-place = λ map other list r s p q. same p q;
   clock-advance = λ clock actor counter x y r s p q. (same (p .0) (q .0), same (p .1) (q .1));
   pieces-begin = λ reader x y r s p q. (same (p .0) (q .0), same (p .1) (q .1));
   pieces-take = λ reader piece x y r s p q. (same (p .0) (q .0), same (p .1) (q .1));

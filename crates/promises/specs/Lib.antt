@@ -1,4 +1,5 @@
 pub mod Calls
 pub mod Deleted
+pub mod CatchUp
 pub mod Promises
 pub mod Ready

@@ -8,6 +8,7 @@ use Rattle.answers.specs.Answer.{Answered, wordOf, carriedOf, Counted}
 use Rattle.advance.specs.Advancing.{advancedOf}
 use Rattle.mailbox.specs.Machine.{begun, takeWord, takeIn}
 use Rattle.delivery.specs.Delivery.{Ended}
+use Rattle.promises.specs.CatchUp.{catchUpAnswer, catchUpPlace}
 use Rattle.promises.specs.Deleted.{applyDeleted, resetDeleted}
 use Rattle.promises.specs.Calls.{applyAnswer, mergeAnswer, resetAnswer, updateAnswer, rmGetAnswer, rmReadCtxAnswer, getAnswer, lenAnswer}
 use Rattle.promises.specs.Calls.{countOf, opValidation, orderAnswer, spentOf, spentAnswer, spentActor, spentCounter, spentOurs, spentTheirs}
@@ -77,6 +78,14 @@ module _ (map other : List ℕ) (room word : ℕ) where
 
   abbrev pub ResetRemoveDeletedPromise : Type 0
   ResetRemoveDeletedPromise = Counted (resetAnswer map other) room (resetDeleted map other) word
+
+-- whether a list of operations brings our map to theirs, and the place of the operation that is refused
+module _ (map other list : List ℕ) (word : ℕ) where
+  abbrev pub CatchUpPromise : Type 0
+  CatchUpPromise = word ≡ wordOf (catchUpAnswer map other list) []
+
+  abbrev pub CatchUpPlacePromise : Type 0
+  CatchUpPlacePromise = word ≡ catchUpPlace map other list
 
 -- the lent clock, at entry and at exit
 abbrev pub ClockAdvancePromise : Clock → ℕ → ℕ → Clock → ℕ → Type 0

@@ -50,7 +50,7 @@ pub record Zeros (a : Answer) (entry : List ℕ) : Type 0 where
   pub own : a .own ≡ 0
   pub short : shortOf (a .bytes) entry ≡ 0
 
-first-zero : (n : ℕ) (l : List ℕ) → firstOf (n ∷ l) ≡ 0 → (n ≡ 0) × (firstOf l ≡ 0)
+pub first-zero : (n : ℕ) (l : List ℕ) → firstOf (n ∷ l) ≡ 0 → (n ≡ 0) × (firstOf l ≡ 0)
 unfolding firstOf
 first-zero n l e = decide (eqb n 0) (λ t. (eqb-true n 0 t, rw t at e)) (λ f. absurd (eqb-false n 0 f (rw f at e)))
 

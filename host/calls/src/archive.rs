@@ -29,6 +29,23 @@ macro_rules! from_two {
     };
 }
 
+/// A call on two maps and a list of operations.
+macro_rules! from_three {
+    ($call:ident, $map:expr, $other:expr, $list:expr) => {
+        // SAFETY: each pointer goes with the length of the slice that it comes from.
+        unsafe {
+            declared::$call(
+                $map.as_ptr(),
+                $map.len(),
+                $other.as_ptr(),
+                $other.len(),
+                $list.as_ptr(),
+                $list.len(),
+            )
+        }
+    };
+}
+
 impl Calls for Archive {
     fn name(&self) -> &'static str {
         "archive"
@@ -108,6 +125,12 @@ impl Calls for Archive {
     }
     fn validate_merge_their_key(&self, map: &[u8], other: &[u8]) -> u64 {
         from_two!(castribba_validate_merge_their_key, map, other)
+    }
+    fn catch_up(&self, map: &[u8], other: &[u8], list: &[u8]) -> u64 {
+        from_three!(castribba_catch_up, map, other, list)
+    }
+    fn catch_up_place(&self, map: &[u8], other: &[u8], list: &[u8]) -> u64 {
+        from_three!(castribba_catch_up_place, map, other, list)
     }
     fn bay(&self, map: &[u8], bay: u32, out: &mut [u8]) -> u64 {
         from_map!(castribba_bay, map, (bay), out)

@@ -61,6 +61,8 @@ pub trait Calls {
     fn validate_merge_counter(&self, map: &[u8], other: &[u8]) -> u64;
     fn validate_merge_our_key(&self, map: &[u8], other: &[u8]) -> u64;
     fn validate_merge_their_key(&self, map: &[u8], other: &[u8]) -> u64;
+    fn catch_up(&self, map: &[u8], other: &[u8], list: &[u8]) -> u64;
+    fn catch_up_place(&self, map: &[u8], other: &[u8], list: &[u8]) -> u64;
     fn bay(&self, map: &[u8], bay: u32, out: &mut [u8]) -> u64;
     fn bays(&self, map: &[u8], out: &mut [u8]) -> u64;
     fn clock_advance(&self, clock: &mut LentClock, actor: u16, counter: u64) -> u64;

@@ -82,6 +82,12 @@ impl Calls for Plain {
     fn validate_merge_their_key(&self, map: &[u8], other: &[u8]) -> u64 {
         plain::castribba_validate_merge_their_key(map, other)
     }
+    fn catch_up(&self, map: &[u8], other: &[u8], list: &[u8]) -> u64 {
+        plain::castribba_catch_up(map, other, list)
+    }
+    fn catch_up_place(&self, map: &[u8], other: &[u8], list: &[u8]) -> u64 {
+        plain::castribba_catch_up_place(map, other, list)
+    }
     fn bay(&self, map: &[u8], bay: u32, out: &mut [u8]) -> u64 {
         plain::castribba_bay(map, bay, out)
     }

@@ -53,6 +53,22 @@ extern "C" {
     pub fn castribba_validate_merge_counter(map: *const u8, map_len: usize, other: *const u8, other_len: usize) -> u64;
     pub fn castribba_validate_merge_our_key(map: *const u8, map_len: usize, other: *const u8, other_len: usize) -> u64;
     pub fn castribba_validate_merge_their_key(map: *const u8, map_len: usize, other: *const u8, other_len: usize) -> u64;
+    pub fn castribba_catch_up(
+        map: *const u8,
+        map_len: usize,
+        other: *const u8,
+        other_len: usize,
+        list: *const u8,
+        list_len: usize,
+    ) -> u64;
+    pub fn castribba_catch_up_place(
+        map: *const u8,
+        map_len: usize,
+        other: *const u8,
+        other_len: usize,
+        list: *const u8,
+        list_len: usize,
+    ) -> u64;
     pub fn castribba_clock_advance(clock: *mut LentClock, actor: u16, counter: u64) -> u64;
     pub fn castribba_pieces_begin(reader: *mut LentPieces) -> u64;
     pub fn castribba_pieces_take(reader: *mut LentPieces, piece: *const u8, piece_len: usize) -> u64;

@@ -5,7 +5,7 @@ use alloc::vec::Vec;
 use core::fmt;
 
 use crate::slices::{self, LentClock, LentDot};
-use crate::{kind, Ready, Record, Refusal, LONGEST_MAP, LONGEST_OPERATION};
+use crate::{kind, Ready, Record, Refusal, Rejected, LONGEST_MAP, LONGEST_OPERATION};
 
 /// What a call writes, given a buffer in which its longest answer fits.
 fn written(
@@ -426,6 +426,13 @@ impl Map {
     /// Under the same key it is not seen.
     pub fn validate_merge(&self, other: &Map) -> Result<(), Refusal> {
         slices::validate_merge(&self.0, &other.0)
+    }
+
+    /// Whether these operations, one after another, bring this map to the other, byte for byte.
+    /// [`slices::catch_up`] takes images of every content.
+    pub fn catch_up(&self, other: &Map, operations: &[Operation]) -> Result<(), Rejected> {
+        let images: Vec<&[u8]> = operations.iter().map(Operation::as_image).collect();
+        slices::catch_up(&self.0, &other.0, &images.concat())
     }
 }
 

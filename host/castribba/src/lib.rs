@@ -188,7 +188,7 @@ pub use parts::{Entry, Removal, Standing, Value};
 pub use pieces::Pieces;
 pub use ready::Ready;
 pub use record::{kind, Record};
-pub use refusal::Refusal;
+pub use refusal::{Refusal, Rejected};
 
 /// The longest image of a map, in bytes.
 pub const LONGEST_MAP: usize = 28_800;

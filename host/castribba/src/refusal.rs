@@ -37,6 +37,10 @@ pub enum Refusal {
     Ended,
     /// 14: the loader has no such bay.
     NoBay,
+    /// 16: the operations of a list end in another map's image than theirs.
+    EndsElsewhere,
+    /// 17: a list has more than 32 operations.
+    TooManyOperations,
     /// A number that this version does not know: the archive is of a later one.
     Unknown(u32),
 }
@@ -63,6 +67,8 @@ impl Refusal {
             Refusal::DoubleSpent { .. } => 12,
             Refusal::Ended => 13,
             Refusal::NoBay => 14,
+            Refusal::EndsElsewhere => 16,
+            Refusal::TooManyOperations => 17,
             Refusal::Unknown(number) => *number,
         }
     }
@@ -82,6 +88,8 @@ impl Refusal {
             10 => Refusal::ShortBuffer,
             13 => Refusal::Ended,
             14 => Refusal::NoBay,
+            16 => Refusal::EndsElsewhere,
+            17 => Refusal::TooManyOperations,
             _ => Refusal::Unknown(number),
         }
     }
@@ -109,9 +117,49 @@ impl fmt::Display for Refusal {
             ),
             Refusal::Ended => write!(f, "the reader of pieces has ended, or was not begun"),
             Refusal::NoBay => write!(f, "there is no such bay"),
+            Refusal::EndsElsewhere => write!(f, "the operations end in another map than theirs"),
+            Refusal::TooManyOperations => write!(f, "the list has more than 32 operations"),
             Refusal::Unknown(_) => write!(f, "a number that this version does not know"),
         }
     }
 }
 
 impl core::error::Error for Refusal {}
+
+/// Why a list of operations does not bring one map to another.
+#[derive(Clone, Copy, Debug, PartialEq, Eq, Hash)]
+pub enum Rejected {
+    /// Our map's image is refused.
+    Ours(Refusal),
+    /// Their map's image is refused.
+    Theirs(Refusal),
+    /// The operation at this place, counted from 0, is refused.
+    Operation { place: usize, refusal: Refusal },
+    /// [`Refusal::TooManyOperations`] or [`Refusal::EndsElsewhere`].
+    List(Refusal),
+}
+
+impl Rejected {
+    /// The refusal, whatever it is of.
+    pub fn refusal(&self) -> Refusal {
+        match *self {
+            Rejected::Ours(refusal) | Rejected::Theirs(refusal) | Rejected::List(refusal) => {
+                refusal
+            }
+            Rejected::Operation { refusal, .. } => refusal,
+        }
+    }
+}
+
+impl fmt::Display for Rejected {
+    fn fmt(&self, f: &mut fmt::Formatter<'_>) -> fmt::Result {
+        match self {
+            Rejected::Ours(refusal) => write!(f, "our map: {refusal}"),
+            Rejected::Theirs(refusal) => write!(f, "their map: {refusal}"),
+            Rejected::Operation { place, refusal } => write!(f, "operation {place}: {refusal}"),
+            Rejected::List(refusal) => write!(f, "{refusal}"),
+        }
+    }
+}
+
+impl core::error::Error for Rejected {}

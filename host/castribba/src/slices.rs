@@ -14,7 +14,7 @@
 //! ```
 
 use crate::declared;
-use crate::{Ready, Refusal};
+use crate::{Ready, Refusal, Rejected};
 
 pub use crate::declared::{LentClock, LentDot, LentPieces};
 
@@ -53,8 +53,8 @@ pub(crate) use with_one;
 
 /// A call on two images, with an output buffer or none.
 macro_rules! with_two {
-    ($call:ident, $first:expr, $second:expr $(; $out:expr)?) => {
-        with_one!($call, $first, $second.as_ptr(), $second.len() $(; $out)?)
+    ($call:ident, $first:expr, $second:expr $(, $argument:expr)* $(; $out:expr)?) => {
+        with_one!($call, $first, $second.as_ptr(), $second.len() $(, $argument)* $(; $out)?)
     };
 }
 
@@ -184,6 +184,54 @@ pub fn validate_merge(map: &[u8], other: &[u8]) -> Result<(), Refusal> {
         });
     }
     judged(word).map(|_| ())
+}
+
+/// Whether a list of operation images, one after another, brings our map to theirs, byte for byte.
+///
+/// ```
+/// use castribba::{slices, Map, Refusal, Rejected};
+///
+/// let mut theirs = Map::new();
+/// let first = theirs.update(1, 5, 40, 0)?;
+/// theirs.apply(&first)?;
+/// let second = theirs.update(1, 6, 60, 0)?;
+/// theirs.apply(&second)?;
+/// let list = [first.as_image(), second.as_image()].concat();
+/// assert_eq!(slices::catch_up(&[], theirs.as_image(), &list), Ok(()));
+/// // a part of a record at the end belongs to the operation before it
+/// let rejected = slices::catch_up(&[], theirs.as_image(), &list[..list.len() - 1]);
+/// assert_eq!(rejected, Err(Rejected::Operation { place: 1, refusal: Refusal::Malformed }));
+/// let rejected = slices::catch_up(&[], theirs.as_image(), first.as_image());
+/// assert_eq!(rejected, Err(Rejected::List(Refusal::EndsElsewhere)));
+/// # Ok::<(), Refusal>(())
+/// ```
+pub fn catch_up(map: &[u8], other: &[u8], list: &[u8]) -> Result<(), Rejected> {
+    let word = with_two!(castribba_catch_up, map, other, list.as_ptr(), list.len());
+    let Err(refusal) = judged(word) else { return Ok(()) };
+    // a map's own number comes first
+    if let Err(own) = len(map) {
+        return Err(Rejected::Ours(own));
+    }
+    if let Err(own) = len(other) {
+        return Err(Rejected::Theirs(own));
+    }
+    if matches!(refusal, Refusal::EndsElsewhere | Refusal::TooManyOperations) {
+        return Err(Rejected::List(refusal));
+    }
+    let place = with_two!(castribba_catch_up_place, map, other, list.as_ptr(), list.len());
+    Err(Rejected::Operation { place: place as usize, refusal })
+}
+
+/// Where each operation of a list begins and ends: it is cut before each whole record of kind 7 or 10.
+pub fn operations(list: &[u8]) -> impl Iterator<Item = &[u8]> {
+    let mut rest = list;
+    core::iter::from_fn(move || {
+        let head = |at: &usize| rest.len() - at >= 16 && matches!(rest[*at], 7 | 10);
+        let end = (16..rest.len()).step_by(16).find(head).unwrap_or(rest.len());
+        let (operation, behind) = rest.split_at(end);
+        rest = behind;
+        (!operation.is_empty()).then_some(operation)
+    })
 }
 
 /// Advances a clock in place by one dot.

@@ -74,6 +74,8 @@ fn the_numbers_and_their_texts() {
         ("CASTRIBBA_SHORT_BUFFER", Refusal::ShortBuffer),
         ("CASTRIBBA_ENDED", Refusal::Ended),
         ("CASTRIBBA_NO_BAY", Refusal::NoBay),
+        ("CASTRIBBA_ENDS_ELSEWHERE", Refusal::EndsElsewhere),
+        ("CASTRIBBA_TOO_MANY_OPERATIONS", Refusal::TooManyOperations),
     ];
     for (name, refusal) in refusals {
         assert_eq!(said(name), u64::from(refusal.number()), "{name}");

@@ -57,6 +57,10 @@ pub trait Asks {
         self.ask(Question::of_two(Call::ValidateMerge, map, other))
     }
 
+    fn catch_up(&mut self, map: &[u8], other: &[u8], list: &[u8]) -> Option<Answer> {
+        self.ask(Question::of_three(Call::CatchUp, map, other, list))
+    }
+
     /// Every call that takes a map, the second image as whatever the call takes.
     fn every_call(
         &mut self,

@@ -5,6 +5,7 @@ pub mod checker;
 mod damage;
 pub mod generate;
 mod history;
+pub mod lists;
 pub mod panics;
 mod pieces;
 pub mod question;

@@ -3,7 +3,7 @@
 use calls::Calls;
 use compare::checker::Checker;
 use compare::random::Random;
-use compare::{panics, registers, rounds, settled};
+use compare::{lists, panics, registers, rounds, settled};
 use std::process::ExitCode;
 
 fn implementation(name: &str) -> Option<Box<dyn Calls>> {
@@ -39,6 +39,9 @@ fn main() -> ExitCode {
     checker.feed_more();
     while checker.cases < short + cases {
         rounds::any_round(&mut random, &mut checker);
+        if random.one_in(3) {
+            lists::list_round(&mut random, &mut checker);
+        }
     }
     let in_registers = registers::compare_equality(&mut random, 20_000);
 

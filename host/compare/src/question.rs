@@ -19,6 +19,7 @@ pub enum Call {
     ValidateOp,
     ValidateMerge,
     Ready,
+    CatchUp,
     Bay,
     Bays,
     ClockAdvance,
@@ -39,6 +40,7 @@ impl Call {
         Call::ValidateOp,
         Call::ValidateMerge,
         Call::Ready,
+        Call::CatchUp,
         Call::Bay,
         Call::Bays,
         Call::ClockAdvance,
@@ -62,6 +64,7 @@ impl Call {
             Call::ValidateOp => "validate_op",
             Call::ValidateMerge => "validate_merge",
             Call::Ready => "ready",
+            Call::CatchUp => "catch_up",
             Call::Bay => "bay",
             Call::Bays => "bays",
             Call::ClockAdvance => "clock_advance",
@@ -72,7 +75,7 @@ impl Call {
 
     /// Whether the second image is a map's too.
     pub fn takes_two_maps(self) -> bool {
-        matches!(self, Call::Merge | Call::ValidateMerge)
+        matches!(self, Call::Merge | Call::ValidateMerge | Call::CatchUp)
     }
 
     /// The numbers that the call can answer: a run must meet each of them.
@@ -87,6 +90,7 @@ impl Call {
             Call::ValidateOp => &[0, 1, 2, 3, 11],
             Call::ValidateMerge => &[0, 1, 2, 3, 12],
             Call::Ready => &[0, 1, 2, 3, 19, 20, 21],
+            Call::CatchUp => &[0, 1, 2, 3, 4, 5, 6, 7, 8, 16, 17],
             Call::Bay => &[0, 1, 2, 3, 10, 14],
             Call::Bays => &[0, 1, 2, 3, 10],
             Call::ClockAdvance => &[0, 1, 2, 4],
@@ -116,6 +120,11 @@ impl Question {
         Question { call, images, actor: 0, key: 0, value: (0, 0) }
     }
 
+    pub fn of_three(call: Call, map: &[u8], other: &[u8], list: &[u8]) -> Question {
+        let images = vec![map.to_vec(), other.to_vec(), list.to_vec()];
+        Question { call, images, actor: 0, key: 0, value: (0, 0) }
+    }
+
     /// What must be answered, given room enough. An error is a disagreement of the published
     /// crate with document 01.
     pub fn expected(&self) -> Result<Answer, String> {
@@ -132,6 +141,7 @@ impl Question {
             Call::ValidateOp => expected::validate_op(first, second),
             Call::ValidateMerge => expected::validate_merge(first, second),
             Call::Ready => expected::ready(first, second),
+            Call::CatchUp => expected::catch_up(first, &self.images[1], second),
             Call::Bay => expected::bay(first, self.key),
             Call::Bays => expected::bays(first),
             Call::ClockAdvance => unreachable!("a lent clock is no image"),
@@ -180,6 +190,10 @@ impl Question {
                 let counter = calls.ready_counter(first, second);
                 (calls.ready(first, second), vec![actor, counter])
             }
+            Call::CatchUp => {
+                let place = calls.catch_up_place(first, images[1], second);
+                (calls.catch_up(first, images[1], second), vec![place])
+            }
             Call::Bay => (calls.bay(first, self.key, out), vec![]),
             Call::Bays => (calls.bays(first, out), vec![]),
             Call::ClockAdvance => unreachable!("a lent clock is no image"),
@@ -189,7 +203,10 @@ impl Question {
 
     /// Whether no origin of a value in the images has any part in the answer.
     pub fn is_blind_to_origins(&self) -> bool {
-        !matches!(self.call, Call::Apply | Call::Merge | Call::ResetRemove | Call::Get)
+        !matches!(
+            self.call,
+            Call::Apply | Call::Merge | Call::ResetRemove | Call::Get | Call::CatchUp
+        )
     }
 
     /// The same question, where each value's origin in the images is another, or by chance the same.
@@ -207,7 +224,10 @@ impl Question {
 
     /// Whether the call has an output buffer.
     pub fn writes(&self) -> bool {
-        !matches!(self.call, Call::Len | Call::ValidateOp | Call::ValidateMerge | Call::Ready)
+        !matches!(
+            self.call,
+            Call::Len | Call::ValidateOp | Call::ValidateMerge | Call::Ready | Call::CatchUp
+        )
     }
 }
 

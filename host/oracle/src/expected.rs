@@ -162,6 +162,40 @@ pub fn validate_merge(map: &[u8], other: &[u8]) -> Answer {
     Answer { number, bytes: vec![], carried }
 }
 
+/// A list of operations, cut before each whole record of kind 7 or 10.
+pub fn operations(list: &[u8]) -> Vec<Vec<u8>> {
+    let mut operations: Vec<Vec<u8>> = vec![];
+    for record in list.chunks(16) {
+        let head = record.len() == 16 && (record[0] == 7 || record[0] == 10);
+        match operations.last_mut() {
+            Some(operation) if !head => operation.extend(record),
+            _ => operations.push(record.to_vec()),
+        }
+    }
+    operations
+}
+
+/// Carries the place of the operation that is refused.
+pub fn catch_up(map: &[u8], other: &[u8], list: &[u8]) -> Answer {
+    let carrying = |number, place| Answer { number, bytes: vec![], carried: vec![place] };
+    if let Err(number) = read_map(map).and_then(|_| read_map(other)) {
+        return carrying(number, 0);
+    }
+    let operations = operations(list);
+    if operations.len() > 32 {
+        return carrying(17, 0);
+    }
+    let mut here = map.to_vec();
+    for (place, operation) in operations.iter().enumerate() {
+        let answer = apply(&here, operation);
+        if answer.number != 0 {
+            return carrying(answer.number, place as u64);
+        }
+        here = answer.bytes;
+    }
+    carrying(if here == other { 0 } else { 16 }, 0)
+}
+
 /// 14 comes after the map's own number.
 pub fn bay(map: &[u8], bay: u32) -> Answer {
     after_reading(|| {

@@ -2,6 +2,7 @@
 #![no_std]
 
 mod calls;
+mod catch_up;
 mod clock;
 mod image;
 mod loader;
@@ -11,6 +12,7 @@ mod pieces;
 mod register;
 
 pub use calls::*;
+pub use catch_up::*;
 pub use clock::{Clock, Dot};
 pub use image::{read_clock, read_map, read_op, write_map, write_op};
 pub use loader::*;

@@ -58,6 +58,7 @@ fn place_of(call: Call) -> usize {
         Call::ClockAdvance => 18,
         Call::Bay | Call::Bays => unreachable!("nothing asks the loader here"),
         Call::Ready => unreachable!("nothing asks the guard here"),
+        Call::CatchUp => unreachable!("nothing asks for lists here"),
         Call::PiecesTake | Call::PiecesEnd => unreachable!("nothing asks for pieces here"),
     }
 }

@@ -17,7 +17,7 @@ pub fn named(file: &str) -> &str {
     }
 }
 
-fn bytes_of(file: &str) -> Result<Vec<u8>, Failure> {
+pub fn bytes_of(file: &str) -> Result<Vec<u8>, Failure> {
     let mut bytes = Vec::new();
     let read = match file {
         "-" => io::stdin().lock().take(READ_MOST + 1).read_to_end(&mut bytes),

@@ -4,9 +4,9 @@ mod failure;
 mod files;
 mod words;
 
-use castribba::{loader, Entry, Map, Operation, Ready, Refusal};
+use castribba::{loader, slices, Entry, Map, Operation, Ready, Refusal, Rejected};
 use failure::{trouble, Failure};
-use files::{map_in, named, operation_in, print, shown, write_all};
+use files::{bytes_of, map_in, named, operation_in, print, shown, write_all};
 use std::process::ExitCode;
 use words::Words;
 
@@ -47,6 +47,7 @@ fn run(given: Vec<String>) -> Result<u8, Failure> {
         "remove" => remove(&words),
         "apply" => apply(&words),
         "merge" => merge(&words),
+        "catch-up" => catch_up(&words),
         _ => diff(&words),
     }
 }
@@ -162,6 +163,35 @@ fn merge(words: &Words) -> Result<u8, Failure> {
     }
     refused(words, map.merge(&other))?;
     write_map(words, &map)
+}
+
+/// An operation of a list in words, or how many bytes it has where it is none.
+fn proposed(operation: &[u8]) -> String {
+    match Operation::from_image(operation) {
+        Ok(op) => op.to_string(),
+        Err(_) => format!("no operation: {} bytes", operation.len()),
+    }
+}
+
+fn catch_up(words: &Words) -> Result<u8, Failure> {
+    let map = map_in(&words.operands[0])?;
+    let theirs = map_in(&words.operands[1])?;
+    let list = bytes_of(&words.operands[2])?;
+    let Err(rejected) = slices::catch_up(map.as_image(), theirs.as_image(), &list) else {
+        return say(&format!("{} operations\n", slices::operations(&list).count()));
+    };
+    let more = match rejected {
+        Rejected::Operation { place, .. } => {
+            let operation = slices::operations(&list).nth(place).unwrap_or_default();
+            format!("\n  operation {place}: {}", proposed(operation))
+        }
+        _ => String::new(),
+    };
+    Err(Failure::Refused {
+        what: named(&words.operands[2]).to_string(),
+        refusal: rejected.refusal(),
+        more,
+    })
 }
 
 /// Whether two entries of a key are the same setting, whatever the order of their values, and the clocks of

@@ -14,9 +14,10 @@ castribba: settings maps, looked at and edited
   castribba apply MAP OP                    the map after an operation that is the next
   castribba merge MAP OTHER                 the two maps merged
   castribba diff MAP OTHER                  keys only in one, and keys that differ
+  castribba catch-up MAP THEIRS LIST        whether a list of operations brings the map to theirs
 
-A FILE, MAP, OTHER or OP is a file that holds an image and nothing else, or - for standard input. The
-empty map is an empty file. KEY, ACTOR, VALUE and CODE are decimal numbers.
+A FILE, MAP, OTHER, THEIRS or OP is a file that holds an image and nothing else, or - for standard
+input; a LIST holds up to 32 operations one after another. The empty map is an empty file. KEY, ACTOR, VALUE and CODE are decimal numbers.
 
 set, remove, apply and merge write a map:
   -o FILE        to this file, which may be the one that was read; else to standard output
@@ -64,7 +65,7 @@ const fn form(
     Form { command, operands, writes, options }
 }
 
-const FORMS: [Form; 8] = [
+const FORMS: [Form; 9] = [
     form("show", &["FILE"], false, &[]),
     form("bays", &["MAP"], false, &[]),
     form("get", &["MAP", "KEY"], false, &[]),
@@ -73,6 +74,7 @@ const FORMS: [Form; 8] = [
     form("apply", &["MAP", "OP"], true, &["--anyway"]),
     form("merge", &["MAP", "OTHER"], true, &["--anyway"]),
     form("diff", &["MAP", "OTHER"], false, &[]),
+    form("catch-up", &["MAP", "THEIRS", "LIST"], false, &[]),
 ];
 
 impl Words {
