@@ -1,4 +1,4 @@
-/* castribba_common.h: what castribba.h and loader.h share. Include one of those, or both.
+/* castribba_common.h: what castribba.h, loader.h and salvage.h share. Include one of those, or several.
  *
  * What holds for every call:
  * - It is total: it takes buffers of every length and content, and ends. It keeps no state (what comes in
@@ -12,8 +12,7 @@
  *   `memcpy`, and castribba's `memset` too, from the program around them and nothing else: no heap, no
  *   other libc, no system call.
  *   docs/INTEGRATING.md says what that means for a kernel, a boot loader and another machine.
- * - The stack that each call uses is in docs/MEASURES.md; host/stack/run prints that of castribba.h's calls
- *   for the archive at hand.
+ * - The stack that each call uses is in docs/MEASURES.md; host/stack/run prints it for the archives at hand.
  */
 #ifndef CASTRIBBA_COMMON_H
 #define CASTRIBBA_COMMON_H

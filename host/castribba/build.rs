@@ -1,8 +1,11 @@
-//! Tells the linker where libcastribba.a is, and libloader.a with the feature `loader`: in the folder
-//! that CASTRIBBA_LIB_DIR names. CASTRIBBA_LOADER_DIR may name another one for the second.
+//! Tells the linker where libcastribba.a is, with the feature `loader` libloader.a too, and with `salvage`
+//! libsalvage.a: in the folder that CASTRIBBA_LIB_DIR names. CASTRIBBA_LOADER_DIR and CASTRIBBA_SALVAGE_DIR
+//! may name others for these.
 
 use std::env;
 use std::path::Path;
+
+const LIB: &str = "CASTRIBBA_LIB_DIR";
 
 /// The folder that a variable names, where it has the archive; else one line that says what to do.
 fn folder(variable: &str, archive: &str) -> Result<String, String> {
@@ -29,16 +32,20 @@ fn link(variable: &str, name: &str) -> Result<(), String> {
     Ok(())
 }
 
-fn link_all() -> Result<(), String> {
-    const LIB: &str = "CASTRIBBA_LIB_DIR";
-    const LOADER: &str = "CASTRIBBA_LOADER_DIR";
-    println!("cargo::rerun-if-env-changed={LIB}");
-    println!("cargo::rerun-if-env-changed={LOADER}");
-    link(LIB, "castribba")?;
-    if env::var_os("CARGO_FEATURE_LOADER").is_some() {
-        link(if env::var_os(LOADER).is_some() { LOADER } else { LIB }, "loader")?;
+/// Has a feature's archive linked, from a folder of its own or from the first one's.
+fn link_where_asked(feature: &str, own: &str, name: &str) -> Result<(), String> {
+    println!("cargo::rerun-if-env-changed={own}");
+    if env::var_os(feature).is_none() {
+        return Ok(());
     }
-    Ok(())
+    link(if env::var_os(own).is_some() { own } else { LIB }, name)
+}
+
+fn link_all() -> Result<(), String> {
+    println!("cargo::rerun-if-env-changed={LIB}");
+    link(LIB, "castribba")?;
+    link_where_asked("CARGO_FEATURE_LOADER", "CASTRIBBA_LOADER_DIR", "loader")?;
+    link_where_asked("CARGO_FEATURE_SALVAGE", "CASTRIBBA_SALVAGE_DIR", "salvage")
 }
 
 fn main() {

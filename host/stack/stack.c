@@ -1,15 +1,16 @@
 /* stack.c: measures how much stack each call uses, and prints a table in bytes: the calls of
- * castribba.h, or, where LOADER is defined, those of loader.h.
+ * castribba.h, or, where LOADER is defined, those of loader.h, or, where SALVAGE is, those of salvage.h.
  *
  * Each call runs on a stack of its own that was painted first; what lost its paint was used. The
  * buffers are static, and what an empty call uses is taken off: the rest is the call's own.
  * A call is run on every pair of the inputs below, from empty to the longest, and on images that are
- * refused late with 1, 2 and 3: the table has its deepest run on images that are accepted, and on
+ * refused late with 1, 2 and 3, or worn: the table has its deepest run on images that are accepted, and on
  * those that are not. Link with -z now, or the linker's own work on a first call is measured too.
  */
 #define _XOPEN_SOURCE 700
 #include <castribba.h>
 #include <loader.h>
+#include <salvage.h>
 
 #include <stdio.h>
 #include <string.h>
@@ -93,13 +94,20 @@ static void fill_clock(image *clock, uint64_t counter)
 }
 
 /* maps: accepted ones first, then those that are refused */
-enum { ACCEPTED = 6, LATE_1 = ACCEPTED, LATE_2, LATE_3, TOO_LONG, MAPS, OPERATIONS = 6, CLOCKS = 4 };
+enum { ACCEPTED = 6, LATE_1 = ACCEPTED, LATE_2, LATE_3, UNITED, WORN, TOO_LONG, MAPS, OPERATIONS = 6, CLOCKS = 4 };
 static image maps[MAPS], operations[OPERATIONS], clocks[CLOCKS]; /* the first of each is empty */
 
 /* the kind of the last record */
 static uint8_t *last_record(image *map)
 {
     return map->bytes + map->len - RECORD;
+}
+
+/* a dot of a waiting clock of a full map */
+static uint8_t *waiting_dot(image *map, unsigned index, unsigned actor)
+{
+    enum { KEYS = MOST_WAITING * MOST_KEYS, DOTS = MOST_WAITING * MOST_DOTS };
+    return map->bytes + map->len - RECORD * (KEYS + DOTS - index * MOST_DOTS - actor);
 }
 
 static void fill(void)
@@ -119,6 +127,12 @@ static void fill(void)
     last_record(&maps[LATE_3])[1] = 200; /* a waiting key with no clock */
     for (unsigned key = 0; key < MOST_KEYS - 1; key++)
         last_record(&maps[LATE_3])[-(int)(RECORD * MOST_WAITING * (key + 1)) + 1] = 200;
+    maps[UNITED] = maps[2]; /* all waiting clocks are equal */
+    for (unsigned index = 1; index < MOST_WAITING; index++)
+        for (unsigned actor = 0; actor < MOST_DOTS; actor++)
+            waiting_dot(&maps[UNITED], index, actor)[8] = waiting_dot(&maps[UNITED], 0, actor)[8];
+    maps[WORN].len = CASTRIBBA_LONGEST_MAP;
+    memset(maps[WORN].bytes, 0xFF, maps[WORN].len);
     maps[TOO_LONG] = maps[2];
     maps[TOO_LONG].len += 1;
 
@@ -137,8 +151,10 @@ static uint8_t out[CASTRIBBA_LONGEST_MAP];
 
 static uint64_t number_of(const image *map)
 {
-#ifdef LOADER
+#if defined LOADER
     return castribba_bays(map->bytes, map->len, out, sizeof out) >> 32;
+#elif defined SALVAGE
+    return castribba_salvage_report(map->bytes, map->len, out, sizeof out);
 #else
     return castribba_len(map->bytes, map->len) >> 32;
 #endif
@@ -147,11 +163,23 @@ static uint64_t number_of(const image *map)
 /* An input that is refused where it should not be, or early, would measure less than the call needs. */
 static int inputs_are_images(void)
 {
-    static const uint64_t numbers[MAPS] = {[LATE_1] = 1, [LATE_2] = 2, [LATE_3] = 3, [TOO_LONG] = 2};
+#ifdef SALVAGE
+    /* how long their reports are; one number is refused */
+    static const uint64_t numbers[MAPS] = {
+        [LATE_1] = CASTRIBBA_TOLD,
+        [LATE_2] = CASTRIBBA_TOLD,
+        [LATE_3] = CASTRIBBA_TOLD * MOST_KEYS,
+        [UNITED] = CASTRIBBA_TOLD * (MOST_WAITING - 1) * (MOST_DOTS + MOST_KEYS),
+        [WORN] = CASTRIBBA_TOLD * CASTRIBBA_LONGEST_MAP / RECORD,
+        [TOO_LONG] = (uint64_t)2 << 32};
+#else
+    static const uint64_t numbers[MAPS] = {
+        [LATE_1] = 1, [LATE_2] = 2, [LATE_3] = 3, [UNITED] = 3, [WORN] = 1, [TOO_LONG] = 2};
+#endif
     int all = 1;
     for (int map = 0; map < MAPS; map++)
         all = all && number_of(&maps[map]) == numbers[map];
-#ifndef LOADER
+#if !defined LOADER && !defined SALVAGE
     uint64_t gap = (uint64_t)11 << 32;
     for (int op = 1; op < OPERATIONS; op++) {
         uint64_t answer = castribba_validate_op(maps[0].bytes, 0, operations[op].bytes,
@@ -170,7 +198,7 @@ static int inputs_are_images(void)
 static const image *first, *second;
 static uint64_t word;
 static castribba_clock lent;
-#ifndef LOADER
+#if !defined LOADER && !defined SALVAGE
 static castribba_pieces reader;
 #endif
 
@@ -192,9 +220,12 @@ static __attribute__((noinline)) uint64_t castribba_nothing(void)
 }
 
 CALL(nothing)
-#ifdef LOADER
+#if defined LOADER
 CALL(bay, FIRST, FIRST_KEY, OUT)
 CALL(bays, FIRST, OUT)
+#elif defined SALVAGE
+CALL(salvage, FIRST, OUT)
+CALL(salvage_report, FIRST, OUT)
 #else
 CALL(apply, FIRST, SECOND, OUT)
 CALL(apply_deleted, FIRST, SECOND, ROOM)
@@ -233,7 +264,7 @@ static void lend(void (*run)(void), int map)
     lent.len = (size_t)map;
     for (int dot = 0; dot < MOST_DOTS; dot++)
         lent.dots[dot] = (castribba_dot){.actor = (uint16_t)(2 * dot), .counter = 1};
-#ifndef LOADER
+#if !defined LOADER && !defined SALVAGE
     castribba_pieces_begin(&reader);
     if (run == run_pieces_end)
         castribba_pieces_take(&reader, FIRST);
@@ -297,9 +328,12 @@ int main(void)
         const image *seconds;
         int count;
     } calls[] = {
-#ifdef LOADER
+#if defined LOADER
         {"castribba_bay", run_bay, clocks, 1},
         {"castribba_bays", run_bays, clocks, 1},
+#elif defined SALVAGE
+        {"castribba_salvage", run_salvage, clocks, 1},
+        {"castribba_salvage_report", run_salvage_report, clocks, 1},
 #else
         {"castribba_apply", run_apply, operations, OPERATIONS},
         {"castribba_apply_deleted", run_apply_deleted, operations, OPERATIONS},

@@ -50,7 +50,7 @@ use Rattle.readbacklaws.proofs.Goods.{good-apply, good-merge, good-reset, good-
 use Rattle.demandlaws.specs.Rows.{Row, row, decided, hasNot}
 use Rattle.demandlaws.specs.Tables.{mapRows, opRows, clockRows, limitRows, madeRows, shortRows, missing, orderRows, spentRows}
 use Rattle.demandlaws.specs.Tables.{advanceRows, closedRows, endRows, applyRows, resetRows, applyResult, mergeResult, resetResult}
-use Rattle.demandlaws.specs.Demands.{numberIn, Writes, Tells, Carries, DemandOne}
+use Rattle.demandlaws.specs.Demands.{numberIn, Writes, TellsOnly, Carries, DemandOne}
 use Rattle.demandlaws.proofs.Tables.{part, by-table}
 use Rattle.demandlaws.proofs.Images.{map-number, op-number, clock-number, map-long, op-long, limit-number, reset-number, made-number}
 use Rattle.demandlaws.proofs.Words.{number-rows, writes-rows, tells-rows, carries-rows}
@@ -120,7 +120,7 @@ module _ (first second own : ℕ) (a b c : List Row) (p : first ≡ decided a) (
   bare-number =
       rw (p, q, s) (part a (b ++ c) _ h (λ y. part b c _ i (λ z. settled (decided c))))
 
-  bare-tells : {word : ℕ} → word ≡ wordOf (bareAnswer first second own) [] → Tells (a ++ (b ++ c)) word
+  bare-tells : {word : ℕ} → word ≡ wordOf (bareAnswer first second own) [] → TellsOnly (a ++ (b ++ c)) word
   bare-tells w = tells-rows (bareAnswer first second own) (a ++ (b ++ c)) bare-number refl w
 
 order-carries : (map op : List ℕ) (n : ℕ) {word : ℕ} → word ≡ carriedOf 11 (orderAnswer map op) n → Carries (orderRows map op) 11 n word
@@ -159,7 +159,7 @@ unfolding takesEffect
 advance-stays c actor counter z = rw (ne-eqb (numberOf (advanceAnswer c actor counter) []) 0 z)
 
 advanced : (c : Clock) (actor counter : ℕ) {exit : Clock} {word : ℕ} → word ≡ advancedOf c actor counter .word
-    → exit ≡ advancedOf c actor counter .clock → Tells (advanceRows c actor counter) word × ((numberIn word ≡ 0 → ⊥) → exit ≡ c)
+    → exit ≡ advancedOf c actor counter .clock → TellsOnly (advanceRows c actor counter) word × ((numberIn word ≡ 0 → ⊥) → exit ≡ c)
 advanced c actor counter {exit} {word} w e =
     let t = tells-rows (advanceAnswer c actor counter) (advanceRows c actor counter) (advance-number c actor counter) refl w in
     (t, λ z. e ∙ advance-stays c actor counter (λ y. z (t .number .first ∙ (sym (advance-number c actor counter) ∙ y))))
@@ -190,7 +190,7 @@ reset-number-of map clock out =
     (λ z. ap mapImage (judged-map (resetResult map clock) z))
 
 -- a map in pieces
-take-tells : (reader : List ℕ) {word : ℕ} → word ≡ takeWord reader → Tells (closedRows reader) word
+take-tells : (reader : List ℕ) {word : ℕ} → word ≡ takeWord reader → TellsOnly (closedRows reader) word
 unfolding decided
 take-tells reader {word} w =
     decide (isOpen reader)

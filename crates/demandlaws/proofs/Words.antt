@@ -11,7 +11,7 @@ use Rattle.scan.proofs.Eachs.{decide}
 use Rattle.answers.specs.Answer.{Answer, Answered, firstOf, numberOf, wordOf, outOf, shortOf, carriedOf}
 use Rattle.demandlaws.specs.Rows.{Row, row, decided, hasNot, ByTable}
 use Rattle.demandlaws.specs.Tables.{shortRows}
-use Rattle.demandlaws.specs.Demands.{numberIn, lengthIn, Writes, Tells, Carries}
+use Rattle.demandlaws.specs.Demands.{numberIn, lengthIn, Writes, TellsOnly, Carries}
 use Rattle.demandlaws.proofs.Tables.{part, by-table, decided-not}
 
 -- a table that has no row left
@@ -77,7 +77,7 @@ module _ (a : Answer) (entry exit : List ℕ) (word : ℕ) (rows : List Row) (by
 
 -- a call that only tells
 module _ (a : Answer) (rows : List Row) (n : numberOf a [] ≡ decided rows) (z : length (a .bytes) ≡ 0) where
-  pub tells-rows : {word : ℕ} → word ≡ wordOf a [] → Tells rows word
+  pub tells-rows : {word : ℕ} → word ≡ wordOf a [] → TellsOnly rows word
   unfolding wordOf
   tells-rows {word} w =
       let e : word ≡ numberOf a [] * 2 ^ 32 = w ∙ decide (eqb (numberOf a []) 0) (λ t. rw (t, z) (omega arith)) (λ f. rw f (omega arith)) in

@@ -42,7 +42,7 @@ pub record Writes (rows : List Row) (bytes entry exit : List ℕ) (word : ℕ) :
   pub done : numberIn word ≡ 0 → (lengthIn word ≡ length bytes) × (exit ≡ bytes ++ drop (length bytes) entry)
 
 -- a call that only tells: no length
-pub record Tells (rows : List Row) (word : ℕ) : Type 0 where
+pub record TellsOnly (rows : List Row) (word : ℕ) : Type 0 where
   pub number : ByTable rows (numberIn word)
   pub bare : lengthIn word ≡ 0
 
@@ -72,14 +72,14 @@ pub record DemandOne : Type 0 where
       → Writes (bayRows map key entry) (reportBytes (reportAt (readMap map .map) key)) entry exit word
   pub bays : (map entry exit : List ℕ) (word : ℕ) → BaysPromise map entry exit word
       → Writes (baysRows map entry) (reportsAfter (readMap map .map) 0 bayCount) entry exit word
-  pub len : (map : List ℕ) (word : ℕ) → LenPromise map word → Tells (mapRows map) word
+  pub len : (map : List ℕ) (word : ℕ) → LenPromise map word → TellsOnly (mapRows map) word
   pub len-count : (map : List ℕ) (word : ℕ) → LenCountPromise map word → Carries (mapRows map) 0 (count (readMap map .map)) word
-  pub validate-op : (map op : List ℕ) (word : ℕ) → ValidateOpPromise map op word → Tells (orderRows map op) word
+  pub validate-op : (map op : List ℕ) (word : ℕ) → ValidateOpPromise map op word → TellsOnly (orderRows map op) word
   pub validate-op-start : (map op : List ℕ) (word : ℕ) → ValidateOpStartPromise map op word
       → Carries (orderRows map op) 11 (orderStart (validateOp (readMap map .map) (readOp op .op))) word
   pub validate-op-end : (map op : List ℕ) (word : ℕ) → ValidateOpEndPromise map op word
       → Carries (orderRows map op) 11 (orderEnd (validateOp (readMap map .map) (readOp op .op))) word
-  pub validate-merge : (map other : List ℕ) (word : ℕ) → ValidateMergePromise map other word → Tells (spentRows map other) word
+  pub validate-merge : (map other : List ℕ) (word : ℕ) → ValidateMergePromise map other word → TellsOnly (spentRows map other) word
   pub validate-merge-actor : (map other : List ℕ) (word : ℕ) → ValidateMergeActorPromise map other word
       → Carries (spentRows map other) 12 (spentActor (validateMerge (readMap map .map) (readMap other .map))) word
   pub validate-merge-counter : (map other : List ℕ) (word : ℕ) → ValidateMergeCounterPromise map other word
@@ -90,16 +90,16 @@ pub record DemandOne : Type 0 where
       → Carries (spentRows map other) 12 (spentTheirs (validateMerge (readMap map .map) (readMap other .map))) word
   -- the lent clock: "clock unchanged in each" refusal
   pub clock-advance : (clock : Clock) (actor counter : ℕ) (exit : Clock) (word : ℕ) → ClockAdvancePromise clock actor counter exit word
-      → Tells (advanceRows clock actor counter) word × ((numberIn word ≡ 0 → ⊥) → exit ≡ clock)
+      → TellsOnly (advanceRows clock actor counter) word × ((numberIn word ≡ 0 → ⊥) → exit ≡ clock)
   -- how many dots a call deletes: counted where that call answers 0 with an output of so many bytes
   pub apply-deleted : (map op out : List ℕ) (word : ℕ) → ApplyDeletedPromise map op (length out) word
       → Carries (applyRows map op out) 0 (applyDeleted map op) word
   pub reset-remove-deleted : (map clock out : List ℕ) (word : ℕ) → ResetRemoveDeletedPromise map clock (length out) word
       → Carries (resetRows map clock out) 0 (resetDeleted map clock) word
   -- a map in pieces: a refusal leaves the lent memory, but for the mark that it has ended
-  pub pieces-begin : (reader left : List ℕ) (word : ℕ) → PiecesBeginPromise reader left word → Tells [] word
+  pub pieces-begin : (reader left : List ℕ) (word : ℕ) → PiecesBeginPromise reader left word → TellsOnly [] word
   pub pieces-take : (reader piece left : List ℕ) (word : ℕ) → PiecesTakePromise reader piece left word
-      → Tells (closedRows reader) word × ((numberIn word ≡ 0 → ⊥) → left ≡ reader)
+      → TellsOnly (closedRows reader) word × ((numberIn word ≡ 0 → ⊥) → left ≡ reader)
   pub pieces-end : (reader entry left exit : List ℕ) (word : ℕ) → length entry < 2 ^ 32 → PiecesEndPromise reader entry left exit word
       → Writes (endRows reader entry) (imageAt reader) entry exit word
       × ((left ≡ reader) ⊎ (left ≡ placed openPlace (numBytes 0 0) reader))

@@ -1,5 +1,5 @@
-//! castribba.h and loader.h, declared for Rust: what a pointer points to, and for how long, is the
-//! caller's to see to. [`slices`](crate::slices) and `loader` have the same calls, safe.
+//! castribba.h, loader.h and salvage.h, declared for Rust: what a pointer points to, and for how long, is the
+//! caller's to see to. [`slices`](crate::slices), `loader` and `salvage` have the same calls, safe.
 
 use crate::PIECES;
 
@@ -80,4 +80,11 @@ extern "C" {
 extern "C" {
     pub fn castribba_bay(map: *const u8, map_len: usize, bay: u32, out: *mut u8, out_len: usize) -> u64;
     pub fn castribba_bays(map: *const u8, map_len: usize, out: *mut u8, out_len: usize) -> u64;
+}
+
+#[cfg(feature = "salvage")]
+#[rustfmt::skip]
+extern "C" {
+    pub fn castribba_salvage(image: *const u8, image_len: usize, out: *mut u8, out_len: usize) -> u64;
+    pub fn castribba_salvage_report(image: *const u8, image_len: usize, out: *mut u8, out_len: usize) -> u64;
 }

@@ -160,8 +160,9 @@
 //!
 //! `CASTRIBBA_LIB_DIR` names the folder of `libcastribba.a` when the crate is built. The crate is
 //! `no_std`: [`Map`], [`Operation`] and [`Clock`] need `alloc` (the feature `alloc`, on by default),
-//! [`Pieces`], [`slices`] and `loader` need `core` alone. The feature `loader` links `libloader.a` too, from the same
-//! folder or from `CASTRIBBA_LOADER_DIR`. A program has both archives in it without a clash.
+//! [`Pieces`], [`slices`], `loader` and `salvage` need `core` alone. The feature `loader` links `libloader.a` too, from the
+//! same folder or from `CASTRIBBA_LOADER_DIR`; the feature `salvage` links `libsalvage.a`, from the same folder or from
+//! `CASTRIBBA_SALVAGE_DIR`. A program has all archives in it without a clash.
 
 #![no_std]
 
@@ -179,6 +180,8 @@ mod pieces;
 mod ready;
 mod record;
 mod refusal;
+#[cfg(feature = "salvage")]
+pub mod salvage;
 pub mod slices;
 
 #[cfg(feature = "alloc")]

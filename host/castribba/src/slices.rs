@@ -48,7 +48,7 @@ macro_rules! with_one {
         }
     };
 }
-#[cfg(feature = "loader")]
+#[cfg(any(feature = "loader", feature = "salvage"))]
 pub(crate) use with_one;
 
 /// A call on two images, with an output buffer or none.

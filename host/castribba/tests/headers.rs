@@ -5,6 +5,8 @@ use castribba::{kind, Ready, Refusal, LONGEST_CLOCK, LONGEST_MAP, LONGEST_OPERAT
 
 const COMMON: &str = include_str!("../../../include/castribba_common.h");
 const CALLS: &str = include_str!("../../../include/castribba.h");
+#[cfg(feature = "salvage")]
+const SALVAGE: &str = include_str!("../../../include/salvage.h");
 const TEXTS: &str = include_str!("../../../include/castribba_text.c");
 
 /// The number that a header gives to a name, by `#define` or in an enum.
@@ -46,6 +48,13 @@ fn the_longest_images_and_the_kinds() {
     for (name, kind) in kinds {
         assert_eq!(said(name), u64::from(kind), "{name}");
     }
+}
+
+#[cfg(feature = "salvage")]
+#[test]
+fn the_longest_report() {
+    let longest = castribba::salvage::LONGEST_REPORT;
+    assert!(SALVAGE.contains(&format!("#define CASTRIBBA_LONGEST_REPORT {longest}\n")));
 }
 
 #[test]

@@ -5,6 +5,7 @@ use crate::guard::{self, Place};
 use crate::image::{map_image, operation_image, read_clock, read_map, read_operation};
 use crate::model::{Map, Operation, ValueAndOrigin};
 use crate::published;
+use crate::salvage;
 
 #[derive(Clone, Debug, Default, PartialEq, Eq)]
 pub struct Answer {
@@ -213,6 +214,16 @@ pub fn bays(map: &[u8]) -> Answer {
         let map = read_map(map)?;
         Ok(written(None, BAYS.flat_map(|bay| report(&map, bay)).collect()))
     })
+}
+
+/// What comes back of a damaged image.
+pub fn salvaged(input: &[u8]) -> Answer {
+    after_reading(|| Ok(written(None, salvage::salvage(input)?.image)))
+}
+
+/// The report of what was removed or changed in it.
+pub fn salvage_report(input: &[u8]) -> Answer {
+    after_reading(|| Ok(written(None, salvage::salvage(input)?.report())))
 }
 
 /// The end of an image that came in pieces: what they are, joined.

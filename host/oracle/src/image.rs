@@ -11,12 +11,12 @@ pub const LONGEST_MAP: usize = 28_800;
 pub const LONGEST_OPERATION: usize = 400;
 pub const LONGEST_CLOCK: usize = 128;
 
-const MAP_CLOCK_DOT: u8 = 1;
-const ENTRY_DOT: u8 = 2;
-const VALUE: u8 = 3;
-const VALUE_DOT: u8 = 4;
-const WAITING_DOT: u8 = 5;
-const WAITING_KEY: u8 = 6;
+pub(crate) const MAP_CLOCK_DOT: u8 = 1;
+pub(crate) const ENTRY_DOT: u8 = 2;
+pub(crate) const VALUE: u8 = 3;
+pub(crate) const VALUE_DOT: u8 = 4;
+pub(crate) const WAITING_DOT: u8 = 5;
+pub(crate) const WAITING_KEY: u8 = 6;
 const REMOVAL_HEAD: u8 = 7;
 const REMOVAL_DOT: u8 = 8;
 const REMOVAL_KEY: u8 = 9;
@@ -62,7 +62,7 @@ impl Record {
         (self.kind, self.key, self.index, if self.holds_value() { 0 } else { self.actor })
     }
 
-    fn unused_fields_are_zero(&self) -> bool {
+    pub(crate) fn unused_fields_are_zero(&self) -> bool {
         let uses_index = matches!(self.kind, VALUE | VALUE_DOT | WAITING_DOT | WAITING_KEY);
         let uses_actor = !matches!(self.kind, WAITING_KEY | REMOVAL_HEAD | REMOVAL_KEY);
         let uses_key = matches!(
@@ -76,7 +76,7 @@ impl Record {
             && (uses_number || self.number == 0)
     }
 
-    fn counter_is_zero(&self) -> bool {
+    pub(crate) fn counter_is_zero(&self) -> bool {
         let holds_counter = matches!(
             self.kind,
             MAP_CLOCK_DOT

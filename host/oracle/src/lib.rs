@@ -8,4 +8,5 @@ pub mod image;
 pub mod model;
 pub mod nested;
 pub mod published;
+pub mod salvage;
 mod tree;

@@ -6,14 +6,14 @@ use crate::{
 };
 use core::ops::RangeInclusive;
 
-const RECORD_LENGTH: usize = 16;
+pub(crate) const RECORD_LENGTH: usize = 16;
 
-const MAP_CLOCK_DOT: u8 = 1;
-const ENTRY_DOT: u8 = 2;
-const VALUE: u8 = 3;
-const VALUE_DOT: u8 = 4;
-const WAITING_DOT: u8 = 5;
-const WAITING_KEY: u8 = 6;
+pub(crate) const MAP_CLOCK_DOT: u8 = 1;
+pub(crate) const ENTRY_DOT: u8 = 2;
+pub(crate) const VALUE: u8 = 3;
+pub(crate) const VALUE_DOT: u8 = 4;
+pub(crate) const WAITING_DOT: u8 = 5;
+pub(crate) const WAITING_KEY: u8 = 6;
 const REMOVAL_HEAD: u8 = 7;
 const REMOVAL_DOT: u8 = 8;
 const REMOVAL_KEY: u8 = 9;
@@ -30,16 +30,16 @@ const USES_NUMBER: u8 = 8;
 const FIELDS: [u8; 13] = [0, 10, 14, 15, 15, 11, 5, 0, 10, 4, 14, 10, 10];
 
 #[derive(Clone, Copy)]
-struct Record {
-    kind: u8,
-    index: u8,
-    actor: u16,
-    key: u32,
-    number: u64,
+pub(crate) struct Record {
+    pub(crate) kind: u8,
+    pub(crate) index: u8,
+    pub(crate) actor: u16,
+    pub(crate) key: u32,
+    pub(crate) number: u64,
 }
 
 impl Record {
-    fn read(bytes: &[u8; RECORD_LENGTH]) -> Record {
+    pub(crate) fn read(bytes: &[u8; RECORD_LENGTH]) -> Record {
         let [kind, index, a0, a1, k0, k1, k2, k3, number @ ..] = *bytes;
         Record {
             kind,
@@ -50,7 +50,7 @@ impl Record {
         }
     }
 
-    fn write(&self, bytes: &mut [u8]) {
+    pub(crate) fn write(&self, bytes: &mut [u8]) {
         bytes[0] = self.kind;
         bytes[1] = self.index;
         bytes[2..4].copy_from_slice(&self.actor.to_le_bytes());
@@ -64,7 +64,7 @@ impl Record {
     }
 
     /// Kind, key, index and actor in one number: what records ascend by. An origin has no part in it.
-    fn place(&self) -> u64 {
+    pub(crate) fn place(&self) -> u64 {
         let actor = if self.holds_value() { 0 } else { self.actor };
         u64::from(self.kind) << 56
             | u64::from(self.key) << 24
@@ -72,7 +72,7 @@ impl Record {
             | u64::from(actor)
     }
 
-    fn is_well_formed(&self) -> bool {
+    pub(crate) fn is_well_formed(&self) -> bool {
         let fields = FIELDS[usize::from(self.kind)];
         let is_counter = fields & USES_NUMBER != 0 && !self.holds_value();
         (fields & USES_INDEX != 0 || self.index == 0)
@@ -82,7 +82,7 @@ impl Record {
             && !(is_counter && self.number == 0)
     }
 
-    fn dot(&self) -> Dot {
+    pub(crate) fn dot(&self) -> Dot {
         Dot { actor: self.actor, counter: self.number }
     }
 
@@ -92,7 +92,7 @@ impl Record {
     }
 }
 
-fn records(bytes: &[u8]) -> impl Iterator<Item = Record> + '_ {
+pub(crate) fn records(bytes: &[u8]) -> impl Iterator<Item = Record> + '_ {
     bytes
         .chunks_exact(RECORD_LENGTH)
         .map(|record| Record::read(record.try_into().expect("a chunk is as long as a record")))

@@ -10,6 +10,7 @@ mod map;
 pub mod number;
 mod pieces;
 mod register;
+mod salvage;
 
 pub use calls::*;
 pub use catch_up::*;
@@ -19,6 +20,7 @@ pub use loader::*;
 pub use map::{DoubleSpent, Entry, Gap, Map, NotNext, Operation, Removal, Waiting};
 pub use pieces::*;
 pub use register::{Register, Value};
+pub use salvage::*;
 
 pub const MOST_DOTS: usize = 8;
 pub const MOST_ENTRIES: usize = 32;

@@ -34,6 +34,14 @@ pub fn bytes_of(file: &str) -> Result<Vec<u8>, Failure> {
     }
 }
 
+/// Whether two names are one file's.
+pub fn is_same_file(one: &str, other: &str) -> bool {
+    match (fs::canonicalize(one), fs::canonicalize(other)) {
+        (Ok(one), Ok(other)) => one == other,
+        _ => false,
+    }
+}
+
 /// Says of an image that is refused whether it is a good one with bytes of one kind behind it.
 fn padding(bytes: &[u8], accepted: impl Fn(&[u8]) -> bool) -> String {
     for fill in [0x00, 0xFF] {

@@ -1,12 +1,13 @@
-//! The tool `castribba`: maps looked at, edited, merged and compared.
+//! The tool `castribba`: maps looked at, edited, merged, compared and salvaged.
 
 mod failure;
 mod files;
+mod lost;
 mod words;
 
-use castribba::{loader, slices, Entry, Map, Operation, Ready, Refusal, Rejected};
+use castribba::{loader, salvage, slices, Entry, Map, Operation, Ready, Record, Refusal, Rejected};
 use failure::{trouble, Failure};
-use files::{bytes_of, map_in, named, operation_in, print, shown, write_all};
+use files::{bytes_of, is_same_file, map_in, named, operation_in, print, shown, write_all};
 use std::process::ExitCode;
 use words::Words;
 
@@ -48,7 +49,8 @@ fn run(given: Vec<String>) -> Result<u8, Failure> {
         "apply" => apply(&words),
         "merge" => merge(&words),
         "catch-up" => catch_up(&words),
-        _ => diff(&words),
+        "diff" => diff(&words),
+        _ => salvaged(&words),
     }
 }
 
@@ -230,4 +232,37 @@ fn diff(words: &Words) -> Result<u8, Failure> {
     }
     say(&text)?;
     Ok(if text.is_empty() { 0 } else { DIFFERENT })
+}
+
+/// What comes back of a damaged image: the map where it is asked for, and what was lost in words.
+fn salvaged(words: &Words) -> Result<u8, Failure> {
+    let file = &words.operands[0];
+    let bytes = bytes_of(file)?;
+    let answer = salvage::salvage(&bytes).map_err(|refusal| Failure::Refused {
+        what: named(file).to_string(),
+        refusal,
+        more: format!("\n  it has {} bytes: cut the part out that held the map", bytes.len()),
+    });
+    let (map, told) = answer?;
+    if let Some(output) = &words.output {
+        if !told.is_empty() && is_same_file(file, output) {
+            return trouble(format!(
+                "{file}: what came back is not what was there: name another file with -o"
+            ));
+        }
+        write_all(&[(output, map.as_image())])?;
+    }
+    let text = match (told.len(), bytes.len().div_ceil(Record::BYTES)) {
+        (0, _) => format!("{}: accepted as it is, there is nothing to mend\n", named(file)),
+        (several, all) => {
+            let lost = lost::in_words(&bytes, &map, &told);
+            format!("{}: {several} of {all} records are removed or changed\n{lost}", named(file))
+        }
+    };
+    if words.output.as_deref() == Some("-") {
+        eprint!("{text}");
+    } else {
+        print(text.as_bytes())?;
+    }
+    Ok(if told.is_empty() { 0 } else { DIFFERENT })
 }

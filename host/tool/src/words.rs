@@ -15,6 +15,7 @@ castribba: settings maps, looked at and edited
   castribba merge MAP OTHER                 the two maps merged
   castribba diff MAP OTHER                  keys only in one, and keys that differ
   castribba catch-up MAP THEIRS LIST        whether a list of operations brings the map to theirs
+  castribba salvage FILE                    what comes back of a damaged map, and what was lost
 
 A FILE, MAP, OTHER, THEIRS or OP is a file that holds an image and nothing else, or - for standard
 input; a LIST holds up to 32 operations one after another. The empty map is an empty file. KEY, ACTOR, VALUE and CODE are decimal numbers.
@@ -28,13 +29,15 @@ set, remove, apply and merge write a map:
   --anyway       apply: though something that the update's writer had seen is missing, which may lose
                  settings and part the drives
                  merge: though one dot stands under different keys, which loses both
+salvage writes a map only where -o says so, never over the damaged file, and says in words what was lost
+(on standard error for -o -).
 
 remove takes from the key all that the map has seen. merge brings old values back, overwritten and
 withdrawn ones, where both maps were in use: catch up by operations. diff compares settings: the clocks of
 values and their order are left aside, in which drives that agree may differ.
 
 Exit status: 0 done; 1 refused, with the number and its text; 2 a fault in the command or a file;
-3 diff found a difference. Unless it is 0 or 3, nothing was written.
+3 diff found a difference, or salvage something to tell. Unless it is 0 or 3, nothing was written.
 ";
 
 /// A command as it was given.
@@ -75,6 +78,7 @@ const FORMS: [Form; 9] = [
     form("merge", &["MAP", "OTHER"], true, &["--anyway"]),
     form("diff", &["MAP", "OTHER"], false, &[]),
     form("catch-up", &["MAP", "THEIRS", "LIST"], false, &[]),
+    form("salvage", &["FILE"], true, &[]),
 ];
 
 impl Words {

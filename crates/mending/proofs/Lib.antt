@@ -1,0 +1,5 @@
+pub mod Dots
+pub mod Leading
+pub mod Fourths
+pub mod Rooming
+pub mod Changing

@@ -1,0 +1,1 @@
+// Laws only: what salvage gives back of a damaged image.

@@ -1,0 +1,1 @@
+// Definitions only: salvage of a damaged image, step by step.
