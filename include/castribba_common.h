@@ -35,7 +35,7 @@
 #define CASTRIBBA_NUMBER(word) ((uint32_t)((word) >> 32))
 #define CASTRIBBA_LENGTH(word) ((uint32_t)(word))
 
-/* The numbers. 15 and 18 are kept for calls to come: a program should expect numbers that it does not
+/* The numbers. 15 is kept for calls to come: a program should expect numbers that it does not
  * know. */
 enum castribba_number {
     CASTRIBBA_DONE = 0,             /* done */
@@ -55,6 +55,7 @@ enum castribba_number {
     CASTRIBBA_NO_BAY = 14,          /* the loader's calls: there is no such bay */
     CASTRIBBA_ENDS_ELSEWHERE = 16,  /* catch_up: the operations end in another map's image than theirs */
     CASTRIBBA_TOO_MANY_OPERATIONS = 17, /* catch_up: more than 32 operations */
+    CASTRIBBA_TOO_MANY_PEERS = 18,  /* castribba_floor: more than 64 peers */
     CASTRIBBA_FOREIGN = 19,         /* ready: not castribba_update's: the put clock lacks its own dot */
     CASTRIBBA_SEEN = 20,            /* ready: the map has seen the update */
     CASTRIBBA_HOLD = 21             /* ready: something that the update's writer had seen is missing */
@@ -89,6 +90,10 @@ enum castribba_kind {
 #define CASTRIBBA_LONGEST_OPERATION 400
 #define CASTRIBBA_LONGEST_CLOCK 128
 
+/* Bytes of a record of castribba_differences, and its longest report: 64 keys. */
+#define CASTRIBBA_DIFFERENCE 5
+#define CASTRIBBA_LONGEST_DIFFERENCES 320
+
 /* The limits: dots in any clock, entries of a map, values of an entry, waiting removals, keys in each
  * of those or in a removal. */
 #define CASTRIBBA_MOST_DOTS 8
@@ -96,5 +101,8 @@ enum castribba_kind {
 #define CASTRIBBA_MOST_VALUES 4
 #define CASTRIBBA_MOST_WAITING 16
 #define CASTRIBBA_MOST_KEYS 16
+
+/* The most peers that castribba_floor takes. */
+#define CASTRIBBA_MOST_PEERS 64
 
 #endif

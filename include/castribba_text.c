@@ -39,6 +39,8 @@ const char *castribba_number_text(uint32_t number)
         return "the operations end in another map than theirs";
     case CASTRIBBA_TOO_MANY_OPERATIONS:
         return "the list has more than 32 operations";
+    case CASTRIBBA_TOO_MANY_PEERS:
+        return "more than 64 peers";
     case CASTRIBBA_FOREIGN:
         return "the update was not made by castribba_update";
     case CASTRIBBA_SEEN:

@@ -628,15 +628,58 @@ static void clocks_and_images(void)
     is("the empty clock", back.len, 0);
 }
 
+/* What differs between M, maps with another value or key, and the empty map; and what the report is refused with. */
+static void differing(void)
+{
+    static const uint8_t other[] = {ROW(1, 0, 1, 0, 1), ROW(2, 0, 1, 5, 1), ROW(3, 0, 0, 5, 41), ROW(4, 0, 1, 5, 1)};
+    static const uint8_t beside[] = {ROW(1, 0, 1, 0, 1), ROW(2, 0, 1, 0x0102, 1)};
+    static const uint8_t told[] = {1, 5, 0, 0, 0, 2, 2, 1, 0, 0};
+    uint8_t few[CASTRIBBA_LONGEST_DIFFERENCES];
+
+    is("a map does not differ from itself", castribba_differences(IMAGE(M), IMAGE(M), few, sizeof few), 0);
+    is("another value", castribba_differences(IMAGE(M), IMAGE(other), few, sizeof few), 5);
+    report(few[0] == CASTRIBBA_OTHER && few[1] == 5, "class 3 of key 5");
+    is("two keys", castribba_differences(IMAGE(M), IMAGE(beside), few, sizeof few), 10);
+    report(memcmp(few, told, sizeof told) == 0, "only in the first, only in the second");
+    is("no room", castribba_differences(IMAGE(M), NULL, 0, few, 4), (uint64_t)CASTRIBBA_SHORT_BUFFER << 32);
+    is("the first image first", castribba_differences(told, 1, NULL, 0, few, sizeof few),
+       (uint64_t)CASTRIBBA_MALFORMED << 32);
+}
+
+/* The floor of some clocks, of none and of too many; the first bad one decides, and a refusal stores nothing. */
+static void flooring(void)
+{
+    static castribba_clock peers[CASTRIBBA_MOST_PEERS + 1];
+    const castribba_clock three = {.dots = {{1, 3}, {4, 2}}, .len = 2};
+    const castribba_clock two = {.dots = {{1, 2}, {2, 9}, {4, 2}}, .len = 3};
+    const castribba_clock expected = {.dots = {{1, 2}, {4, 2}}, .len = 2};
+    castribba_clock floor = {.dots = {{7, 7}}, .len = 1}, before = floor;
+
+    peers[0] = three;
+    peers[1] = two;
+    is("a floor", castribba_floor(peers, 2, &floor), 0);
+    report(same_clock(&floor, &expected) && floor.dots[2].actor == 0, "the smaller counters");
+    is("a floor of none", castribba_floor(NULL, 0, &floor), 0);
+    is("is empty", floor.len, 0);
+    floor = before;
+    is("65 peers", castribba_floor(peers, CASTRIBBA_MOST_PEERS + 1, &floor),
+       (uint64_t)CASTRIBBA_TOO_MANY_PEERS << 32);
+    peers[1].dots[0].counter = 0;
+    peers[2].len = 9;
+    is("the first bad clock", castribba_floor(peers, 3, &floor), (uint64_t)CASTRIBBA_MALFORMED << 32);
+    peers[1].len = 9;
+    is("2 before 1 in one", castribba_floor(peers, 3, &floor), (uint64_t)CASTRIBBA_OVER_LIMIT << 32);
+    report(same_clock(&floor, &before), "a refusal stores nothing");
+}
+
 /* Each number that a call can answer has a text of its own, and every other one the same. */
 static void texts(void)
 {
     const char *unknown = castribba_number_text(UINT32_MAX);
     for (uint32_t number = 0; number <= 24; number++) {
         const char *text = castribba_number_text(number);
-        int known = number <= CASTRIBBA_NO_BAY || number == CASTRIBBA_ENDS_ELSEWHERE ||
-                    number == CASTRIBBA_TOO_MANY_OPERATIONS ||
-                    (number >= CASTRIBBA_FOREIGN && number <= CASTRIBBA_HOLD);
+        int known = number <= CASTRIBBA_NO_BAY ||
+                    (number >= CASTRIBBA_ENDS_ELSEWHERE && number <= CASTRIBBA_HOLD);
         report((strcmp(text, unknown) != 0) == known, "a number's text");
         for (uint32_t other = 0; known && other < number; other++)
             report(strcmp(text, castribba_number_text(other)) != 0, "two numbers with one text");
@@ -653,6 +696,8 @@ int main(void)
     validating();
     catching_up();
     advancing();
+    differing();
+    flooring();
     in_pieces();
     nothing_at_null();
     one_actor_in_order();
@@ -666,6 +711,6 @@ int main(void)
     bytes_of_the_page();
     clocks_and_images();
     texts();
-    printf("every: %d checks of the 28 calls and the rules, %d differences\n", checks, failures);
+    printf("every: %d checks of the 30 calls and the rules, %d differences\n", checks, failures);
     return failures != 0;
 }

@@ -199,6 +199,10 @@ static const image *first, *second;
 static uint64_t word;
 static castribba_clock lent;
 #if !defined LOADER && !defined SALVAGE
+/* peers whose floor is full */
+static castribba_clock peers[CASTRIBBA_MOST_PEERS];
+#endif
+#if !defined LOADER && !defined SALVAGE
 static castribba_pieces reader;
 #endif
 
@@ -252,6 +256,8 @@ CALL(validate_merge_their_key, FIRST, SECOND)
 CALL(catch_up, FIRST, FIRST, SECOND)
 CALL(catch_up_place, FIRST, FIRST, SECOND)
 CALL(clock_advance, &lent, 3, 5)
+CALL(differences, FIRST, SECOND, OUT)
+CALL(floor, peers, CASTRIBBA_MOST_PEERS, &lent)
 CALL(pieces_begin, &reader)
 CALL(pieces_take, &reader, FIRST)
 CALL(pieces_end, &reader, OUT)
@@ -265,6 +271,10 @@ static void lend(void (*run)(void), int map)
     for (int dot = 0; dot < MOST_DOTS; dot++)
         lent.dots[dot] = (castribba_dot){.actor = (uint16_t)(2 * dot), .counter = 1};
 #if !defined LOADER && !defined SALVAGE
+    for (int peer = 0; peer < CASTRIBBA_MOST_PEERS; peer++) {
+        peers[peer] = lent;
+        peers[peer].len = MOST_DOTS;
+    }
     castribba_pieces_begin(&reader);
     if (run == run_pieces_end)
         castribba_pieces_take(&reader, FIRST);
@@ -360,6 +370,8 @@ int main(void)
         {"castribba_catch_up", run_catch_up, operations, OPERATIONS},
         {"castribba_catch_up_place", run_catch_up_place, operations, OPERATIONS},
         {"castribba_clock_advance", run_clock_advance, clocks, 1},
+        {"castribba_differences", run_differences, maps, MAPS},
+        {"castribba_floor", run_floor, clocks, 1},
         {"castribba_pieces_begin", run_pieces_begin, clocks, 1},
         {"castribba_pieces_take", run_pieces_take, clocks, 1},
         {"castribba_pieces_end", run_pieces_end, clocks, 1},

@@ -34,7 +34,7 @@ fn rises(clock: Clock) -> bool
 }
 
 // What is wrong with a clock that was lent.
-fn lent_number(clock: Clock) -> u8
+pub fn lent_number(clock: Clock) -> u8
     ensures { λ r. ⌜ (r ≡ lentNumber clock) × (r ≤ 2) ⌝ }
 {
     if DOTS < clock.len {

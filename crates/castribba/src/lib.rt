@@ -3,7 +3,7 @@ ghost use Rattle.promises.specs.Promises.{ApplyPromise, ApplyDeletedPromise, Me
 ghost use Rattle.promises.specs.Promises.{UpdatePromise, RmGetPromise, RmReadCtxPromise, GetPromise, LenPromise, LenCountPromise, ValidateOpPromise};
 ghost use Rattle.promises.specs.Promises.{ValidateOpStartPromise, ValidateOpEndPromise, ValidateMergePromise, ValidateMergeActorPromise};
 ghost use Rattle.promises.specs.Promises.{ValidateMergeCounterPromise, ValidateMergeOurKeyPromise, ValidateMergeTheirKeyPromise, ClockAdvancePromise};
-ghost use Rattle.promises.specs.Promises.{CatchUpPromise, CatchUpPlacePromise};
+ghost use Rattle.promises.specs.Promises.{CatchUpPromise, CatchUpPlacePromise, DifferencesPromise, FloorPromise};
 ghost use Rattle.promises.specs.Promises.{PiecesBeginPromise, PiecesTakePromise, PiecesEndPromise};
 ghost use Rattle.promises.specs.Ready.{ReadyPromise, ReadyActorPromise, ReadyCounterPromise};
 use clock::Clock;
@@ -246,4 +246,31 @@ pub extern "C" fn castribba_pieces_end(reader: &mut [u8; READER], out: &mut [u8]
     ensures { λ r. ⌜ PiecesEndPromise (now (reader .entry)) (now (out .entry)) (now (reader .exit)) (now (out .exit)) r ⌝ }
 {
     delivery::end(reader, out)
+}
+
+// What differs between two maps, key by key.
+#[no_mangle]
+pub extern "C" fn castribba_differences(map: &[u8], other: &[u8], out: &mut [u8]) -> u64
+    ensures { λ r. ⌜ DifferencesPromise (now (map .entry)) (now (other .entry)) (now (out .entry)) (now (out .exit)) r ⌝ }
+{
+    differing::telling::differences(map, other, out)
+}
+
+// The floor of the lent peers' clocks, stored where none of them is bad.
+#[no_mangle]
+pub extern "C" fn castribba_floor(peers: &[Clock], floor: &mut Clock) -> u64
+    ensures { λ r. ⌜ FloorPromise (now (peers .entry)) (now (floor .entry)) (now (floor .exit)) r ⌝ }
+{
+    let mut f = flooring::begin(peers.len());
+    let n = f.many;
+    let mut i: usize = 0;
+    while i < n {
+        let peer = peers[i];
+        f = flooring::next(f, peer);
+        i += 1;
+    }
+    if f.word == 0 {
+        *floor = f.clock;
+    }
+    f.word
 }

@@ -9,7 +9,7 @@ use Rattle.promises.specs.Promises.{ApplyPromise, MergePromise, ResetRem
 use Rattle.promises.specs.Promises.{LenPromise, LenCountPromise, ValidateOpPromise, ValidateOpStartPromise, ValidateOpEndPromise}
 use Rattle.promises.specs.Promises.{ValidateMergePromise, ValidateMergeActorPromise, ValidateMergeCounterPromise, ValidateMergeOurKeyPromise}
 use Rattle.promises.specs.Promises.{ValidateMergeTheirKeyPromise, ApplyDeletedPromise, ResetRemoveDeletedPromise, ClockAdvancePromise}
-use Rattle.promises.specs.Promises.{CatchUpPromise, CatchUpPlacePromise}
+use Rattle.promises.specs.Promises.{CatchUpPromise, CatchUpPlacePromise, DifferencesPromise, FloorPromise}
 use Rattle.promises.specs.Promises.{PiecesBeginPromise, PiecesTakePromise, PiecesEndPromise}
 use Rattle.promises.specs.Ready.{ReadyPromise, ReadyActorPromise, ReadyCounterPromise}
 
@@ -50,6 +50,8 @@ pub record Determined : Type 0 where
   pub pieces-take : (reader piece : List ℕ) → Lent (PiecesTakePromise reader piece)
   pub pieces-end : (reader out v w d e : List ℕ) (r s : ℕ) → PiecesEndPromise reader out v d r → PiecesEndPromise reader out w e s
       → SameEnd v w d e r s
+  pub differences : (map other : List ℕ) → Written (DifferencesPromise map other)
+  pub floor : (peers : List Clock) (entry : Clock) → Lent (FloorPromise peers entry)
 
 -- the end theorem of every call
 pub determined : Determined
@@ -82,4 +84,6 @@ determined = record {
   pieces-begin = λ reader x y r s p q. (same (p .0) (q .0), same (p .1) (q .1));
   pieces-take = λ reader piece x y r s p q. (same (p .0) (q .0), same (p .1) (q .1));
   pieces-end = λ reader out v w d e r s p q. same-end p q;
+  differences = λ map other out d e r s p q. same-answer p q;
+  floor = λ peers entry x y r s p q. (same (p .0) (q .0), same (p .1) (q .1));
 }

@@ -1,13 +1,15 @@
 -- The contract of each call of castribba.h, but the guard's (Ready): the code cites it, and `Determined` takes it.
 use mathlib.Core.Path.{_≡_}
 use mathlib.Core.List.{List, []}
-use Prim.Native.Nat.{ℕ}
+use Prim.Native.Nat.{ℕ, _*_, _^_}
 use Rattle.clock.specs.declared.Clock.{Clock}
 use Rattle.asking.specs.Asking.{orderStart, orderEnd}
 use Rattle.answers.specs.Answer.{Answered, wordOf, carriedOf, Counted}
 use Rattle.advance.specs.Advancing.{advancedOf}
 use Rattle.mailbox.specs.Machine.{begun, takeWord, takeIn}
 use Rattle.delivery.specs.Delivery.{Ended}
+use Rattle.differences.specs.Differences.{differencesAnswer}
+use Rattle.flooring.specs.Floor.{floorNumber, flooredClock}
 use Rattle.promises.specs.CatchUp.{catchUpAnswer, catchUpPlace}
 use Rattle.promises.specs.Deleted.{applyDeleted, resetDeleted}
 use Rattle.promises.specs.Calls.{applyAnswer, mergeAnswer, resetAnswer, updateAnswer, rmGetAnswer, rmReadCtxAnswer, getAnswer, lenAnswer}
@@ -23,6 +25,9 @@ module _ (map other entry exit : List ℕ) (word : ℕ) where
 
   abbrev pub ResetRemovePromise : Type 0
   ResetRemovePromise = Answered (resetAnswer map other) entry exit word
+
+  abbrev pub DifferencesPromise : Type 0
+  DifferencesPromise = Answered (differencesAnswer map other) entry exit word
 
 abbrev pub UpdatePromise : List ℕ → ℕ → ℕ → ℕ → ℕ → List ℕ → List ℕ → ℕ → Type 0
 UpdatePromise map actor key value origin entry exit word = Answered (updateAnswer map actor key value origin) entry exit word
@@ -90,6 +95,10 @@ module _ (map other list : List ℕ) (word : ℕ) where
 -- the lent clock, at entry and at exit
 abbrev pub ClockAdvancePromise : Clock → ℕ → ℕ → Clock → ℕ → Type 0
 ClockAdvancePromise entry actor counter exit word = (word ≡ advancedOf entry actor counter .word) × (exit ≡ advancedOf entry actor counter .clock)
+
+-- the peers' clocks, and the clock lent for their floor, at entry and at exit: "2 ^ 32" as in every word, and a success is the word 0
+abbrev pub FloorPromise : List Clock → Clock → Clock → ℕ → Type 0
+FloorPromise peers entry exit word = (word ≡ floorNumber peers * 2 ^ 32) × (exit ≡ flooredClock peers entry)
 
 -- the lent reader of a map that comes in pieces, at entry and at exit
 abbrev pub PiecesBeginPromise : List ℕ → List ℕ → ℕ → Type 0

@@ -143,6 +143,14 @@ impl Calls for Archive {
         // SAFETY: a LentClock has the layout of castribba_clock.
         unsafe { declared::castribba_clock_advance(clock.cast(), actor, counter) }
     }
+    fn differences(&self, map: &[u8], other: &[u8], out: &mut [u8]) -> u64 {
+        from_two!(castribba_differences, map, other, out)
+    }
+    fn floor(&self, peers: &[LentClock], floor: &mut LentClock) -> u64 {
+        let floor: *mut LentClock = floor;
+        // SAFETY: a LentClock has the layout of castribba_clock, and the pointer goes with the slice's length.
+        unsafe { declared::castribba_floor(peers.as_ptr().cast(), peers.len(), floor.cast()) }
+    }
     fn pieces_len(&self) -> usize {
         castribba::PIECES
     }

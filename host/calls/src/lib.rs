@@ -66,6 +66,8 @@ pub trait Calls {
     fn bay(&self, map: &[u8], bay: u32, out: &mut [u8]) -> u64;
     fn bays(&self, map: &[u8], out: &mut [u8]) -> u64;
     fn clock_advance(&self, clock: &mut LentClock, actor: u16, counter: u64) -> u64;
+    fn differences(&self, map: &[u8], other: &[u8], out: &mut [u8]) -> u64;
+    fn floor(&self, peers: &[LentClock], floor: &mut LentClock) -> u64;
 
     /// The bytes of a reader of pieces, which the three calls below are lent. The first is its mark.
     fn pieces_len(&self) -> usize;

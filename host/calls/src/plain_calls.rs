@@ -95,11 +95,19 @@ impl Calls for Plain {
         plain::castribba_bays(map, out)
     }
     fn clock_advance(&self, clock: &mut LentClock, actor: u16, counter: u64) -> u64 {
-        let dots = clock.dots.map(|dot| plain::Dot { actor: dot.actor, counter: dot.counter });
-        let mut own = plain::Clock { dots, len: clock.len };
+        let mut own = own_clock(clock);
         let word = plain::castribba_clock_advance(&mut own, actor, counter);
-        clock.dots = own.dots.map(|dot| LentDot { actor: dot.actor, counter: dot.counter });
-        clock.len = own.len;
+        *clock = lent_clock(&own);
+        word
+    }
+    fn differences(&self, map: &[u8], other: &[u8], out: &mut [u8]) -> u64 {
+        plain::castribba_differences(map, other, out)
+    }
+    fn floor(&self, peers: &[LentClock], floor: &mut LentClock) -> u64 {
+        let peers: Vec<plain::Clock> = peers.iter().map(own_clock).collect();
+        let mut own = own_clock(floor);
+        let word = plain::castribba_floor(&peers, &mut own);
+        *floor = lent_clock(&own);
         word
     }
     fn pieces_len(&self) -> usize {
@@ -114,6 +122,16 @@ impl Calls for Plain {
     fn pieces_end(&self, reader: &mut [u8], out: &mut [u8]) -> u64 {
         plain::castribba_pieces_end(lent(reader), out)
     }
+}
+
+fn own_clock(clock: &LentClock) -> plain::Clock {
+    let dots = clock.dots.map(|dot| plain::Dot { actor: dot.actor, counter: dot.counter });
+    plain::Clock { dots, len: clock.len }
+}
+
+fn lent_clock(clock: &plain::Clock) -> LentClock {
+    let dots = clock.dots.map(|dot| LentDot { actor: dot.actor, counter: dot.counter });
+    LentClock { dots, len: clock.len }
 }
 
 fn lent(reader: &mut [u8]) -> &mut [u8; plain::PIECES] {

@@ -70,6 +70,8 @@ extern "C" {
         list_len: usize,
     ) -> u64;
     pub fn castribba_clock_advance(clock: *mut LentClock, actor: u16, counter: u64) -> u64;
+    pub fn castribba_differences(map: *const u8, map_len: usize, other: *const u8, other_len: usize, out: *mut u8, out_len: usize) -> u64;
+    pub fn castribba_floor(peers: *const LentClock, count: usize, floor: *mut LentClock) -> u64;
     pub fn castribba_pieces_begin(reader: *mut LentPieces) -> u64;
     pub fn castribba_pieces_take(reader: *mut LentPieces, piece: *const u8, piece_len: usize) -> u64;
     pub fn castribba_pieces_end(reader: *mut LentPieces, out: *mut u8, out_len: usize) -> u64;

@@ -5,7 +5,8 @@ use alloc::vec::Vec;
 use core::fmt;
 
 use crate::slices::{self, LentClock, LentDot};
-use crate::{kind, Ready, Record, Refusal, Rejected, LONGEST_MAP, LONGEST_OPERATION};
+use crate::{kind, Difference, Differences, Ready, Record, Refusal, Rejected};
+use crate::{LONGEST_DIFFERENCES, LONGEST_MAP, LONGEST_OPERATION};
 
 /// What a call writes, given a buffer in which its longest answer fits.
 fn written(
@@ -387,6 +388,24 @@ impl Map {
         Clock::of(self.of_kind(kind::CLOCK_DOT))
     }
 
+    /// What differs from another map, ascending by key: entries alone, whose values may stand in any order.
+    ///
+    /// ```
+    /// use castribba::{Class, Difference, Map};
+    ///
+    /// let mut map = Map::new();
+    /// map.apply(&map.update(1, 5, 40, 0)?)?;
+    /// assert!(map.differences(&Map::new()).eq([Difference { class: Class::OnlyFirst, key: 5 }]));
+    /// assert_eq!(map.differences(&map).next(), None);
+    /// # Ok::<(), castribba::Refusal>(())
+    /// ```
+    pub fn differences(&self, other: &Map) -> impl Iterator<Item = Difference> {
+        let report =
+            written(LONGEST_DIFFERENCES, |out| slices::differences(&self.0, &other.0, out))
+                .expect("both images were judged when the maps were made");
+        Differences::of(&report).collect::<Vec<Difference>>().into_iter()
+    }
+
     /// The number of entries.
     pub fn len(&self) -> usize {
         slices::len(&self.0).expect("the image was judged when the map was made")
@@ -517,20 +536,47 @@ impl Clock {
     /// # Ok::<(), castribba::Refusal>(())
     /// ```
     pub fn advance(&mut self, actor: u16, counter: u64) -> Result<(), Refusal> {
+        let mut lent = self.lent();
+        slices::clock_advance(&mut lent, actor, counter)?;
+        *self = Clock::of_lent(&lent);
+        Ok(())
+    }
+
+    /// What all of some clocks have seen: for each actor the smallest counter. No clock gives the empty one;
+    /// more than 64 are refused with 18.
+    ///
+    /// ```
+    /// use castribba::Clock;
+    ///
+    /// let (mut one, mut two) = (Clock::new(), Clock::new());
+    /// one.advance(1, 3)?;
+    /// two.advance(1, 2)?;
+    /// two.advance(2, 7)?;
+    /// assert!(Clock::floor(&[one, two])?.dots().eq([(1, 2)]));
+    /// # Ok::<(), castribba::Refusal>(())
+    /// ```
+    pub fn floor(peers: &[Clock]) -> Result<Clock, Refusal> {
+        let lent: Vec<LentClock> = peers.iter().map(Clock::lent).collect();
+        slices::floor(&lent).map(|floor| Clock::of_lent(&floor))
+    }
+
+    fn lent(&self) -> LentClock {
         let mut lent = LentClock::default();
         for (actor, counter) in self.dots() {
             lent.dots[lent.len] = LentDot { actor, counter };
             lent.len += 1;
         }
-        slices::clock_advance(&mut lent, actor, counter)?;
+        lent
+    }
+
+    fn of_lent(lent: &LentClock) -> Clock {
         let dots = lent.dots[..lent.len].iter();
-        *self = Clock::of(dots.map(|&LentDot { actor, counter }| Record {
+        Clock::of(dots.map(|&LentDot { actor, counter }| Record {
             kind: kind::CLOCK_DOT,
             index: 0,
             actor,
             key: 0,
             number: counter,
-        }));
-        Ok(())
+        }))
     }
 }

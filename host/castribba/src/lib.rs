@@ -170,6 +170,7 @@
 extern crate alloc;
 
 pub mod declared;
+mod differences;
 #[cfg(feature = "alloc")]
 mod image;
 #[cfg(feature = "loader")]
@@ -184,6 +185,7 @@ mod refusal;
 pub mod salvage;
 pub mod slices;
 
+pub use differences::{Class, Difference, Differences};
 #[cfg(feature = "alloc")]
 pub use image::{Clock, Kept, Map, Operation};
 #[cfg(feature = "alloc")]
@@ -199,5 +201,7 @@ pub const LONGEST_MAP: usize = 28_800;
 pub const LONGEST_OPERATION: usize = 400;
 /// The longest image of a clock, in bytes.
 pub const LONGEST_CLOCK: usize = 128;
+/// The longest report of what differs between two maps, in bytes.
+pub const LONGEST_DIFFERENCES: usize = 320;
 /// The bytes of a reader of pieces.
 pub const PIECES: usize = 17_121;

@@ -41,6 +41,8 @@ pub enum Refusal {
     EndsElsewhere,
     /// 17: a list has more than 32 operations.
     TooManyOperations,
+    /// 18: a floor of more than 64 peers.
+    TooManyPeers,
     /// A number that this version does not know: the archive is of a later one.
     Unknown(u32),
 }
@@ -69,6 +71,7 @@ impl Refusal {
             Refusal::NoBay => 14,
             Refusal::EndsElsewhere => 16,
             Refusal::TooManyOperations => 17,
+            Refusal::TooManyPeers => 18,
             Refusal::Unknown(number) => *number,
         }
     }
@@ -90,6 +93,7 @@ impl Refusal {
             14 => Refusal::NoBay,
             16 => Refusal::EndsElsewhere,
             17 => Refusal::TooManyOperations,
+            18 => Refusal::TooManyPeers,
             _ => Refusal::Unknown(number),
         }
     }
@@ -119,6 +123,7 @@ impl fmt::Display for Refusal {
             Refusal::NoBay => write!(f, "there is no such bay"),
             Refusal::EndsElsewhere => write!(f, "the operations end in another map than theirs"),
             Refusal::TooManyOperations => write!(f, "the list has more than 32 operations"),
+            Refusal::TooManyPeers => write!(f, "more than 64 peers"),
             Refusal::Unknown(_) => write!(f, "a number that this version does not know"),
         }
     }

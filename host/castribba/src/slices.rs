@@ -124,6 +124,24 @@ pub fn get(map: &[u8], key: u32, out: &mut [u8]) -> Result<usize, Refusal> {
     judged(with_one!(castribba_get, map, key; out))
 }
 
+/// What differs between two maps: a record of five bytes for each key, as [`Differences`](crate::Differences)
+/// reads them.
+///
+/// ```
+/// use castribba::{slices, Class, Difference, Differences, Refusal, LONGEST_DIFFERENCES};
+///
+/// let (mut op, mut map) = ([0; castribba::LONGEST_OPERATION], [0; 64]);
+/// let update = slices::update(&[], 1, 5, 40, 0, &mut op)?;
+/// let len = slices::apply(&[], &op[..update], &mut map)?;
+/// let mut out = [0; LONGEST_DIFFERENCES];
+/// let report = slices::differences(&map[..len], &[], &mut out)?;
+/// assert!(Differences::of(&out[..report]).eq([Difference { class: Class::OnlyFirst, key: 5 }]));
+/// # Ok::<(), Refusal>(())
+/// ```
+pub fn differences(map: &[u8], other: &[u8], out: &mut [u8]) -> Result<usize, Refusal> {
+    judged(with_two!(castribba_differences, map, other; out))
+}
+
 /// The number of entries.
 pub fn len(map: &[u8]) -> Result<usize, Refusal> {
     judged(with_one!(castribba_len, map))?;
@@ -248,6 +266,27 @@ pub fn clock_advance(clock: &mut LentClock, actor: u16, counter: u64) -> Result<
     // SAFETY: a LentClock has the layout of castribba_clock.
     let word = unsafe { declared::castribba_clock_advance(clock, actor, counter) };
     judged(word).map(|_| ())
+}
+
+/// The floor of some peers' clocks: for each actor the smallest counter over all of them.
+///
+/// ```
+/// use castribba::slices::{clock_advance, floor, LentClock};
+///
+/// let (mut one, mut two) = (LentClock::default(), LentClock::default());
+/// clock_advance(&mut one, 1, 3)?;
+/// clock_advance(&mut two, 1, 2)?;
+/// clock_advance(&mut two, 2, 7)?;
+/// let all_have_seen = floor(&[one, two])?;
+/// assert_eq!((all_have_seen.len, all_have_seen.dots[0].counter), (1, 2));
+/// # Ok::<(), castribba::Refusal>(())
+/// ```
+pub fn floor(peers: &[LentClock]) -> Result<LentClock, Refusal> {
+    let mut floor = LentClock::default();
+    // SAFETY: a LentClock has the layout of castribba_clock, the pointer goes with the slice's length, and
+    // `floor` overlaps no peer.
+    let word = unsafe { declared::castribba_floor(peers.as_ptr(), peers.len(), &mut floor) };
+    judged(word).map(|_| floor)
 }
 
 /// Begins a reader of pieces, whatever its memory held.

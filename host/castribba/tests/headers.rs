@@ -85,6 +85,7 @@ fn the_numbers_and_their_texts() {
         ("CASTRIBBA_NO_BAY", Refusal::NoBay),
         ("CASTRIBBA_ENDS_ELSEWHERE", Refusal::EndsElsewhere),
         ("CASTRIBBA_TOO_MANY_OPERATIONS", Refusal::TooManyOperations),
+        ("CASTRIBBA_TOO_MANY_PEERS", Refusal::TooManyPeers),
     ];
     for (name, refusal) in refusals {
         assert_eq!(said(name), u64::from(refusal.number()), "{name}");

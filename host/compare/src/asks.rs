@@ -11,6 +11,9 @@ pub trait Asks {
 
     fn clock_advance(&mut self, dots: &[(u16, u64); 8], len: usize, actor: u16, counter: u64);
 
+    /// The floor of lent clocks, each as all eight places and a length.
+    fn floor(&mut self, peers: &[([(u16, u64); 8], usize)]);
+
     fn apply(&mut self, map: &[u8], op: &[u8]) -> Option<Answer> {
         self.ask(Question::of_two(Call::Apply, map, op))
     }
@@ -61,6 +64,10 @@ pub trait Asks {
         self.ask(Question::of_three(Call::CatchUp, map, other, list))
     }
 
+    fn differences(&mut self, map: &[u8], other: &[u8]) -> Option<Answer> {
+        self.ask(Question::of_two(Call::Differences, map, other))
+    }
+
     /// Every call that takes a map, the second image as whatever the call takes.
     fn every_call(
         &mut self,
@@ -75,6 +82,7 @@ pub trait Asks {
         self.reset_remove(map, second);
         self.validate_op(map, second);
         self.validate_merge(map, second);
+        self.differences(map, second);
         self.update(map, actor, key, value);
         self.rm_get(map, key);
         self.rm_read_ctx(map, key);

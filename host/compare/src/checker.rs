@@ -303,6 +303,39 @@ impl Asks for Checker<'_> {
         Some(full)
     }
 
+    fn floor(&mut self, peers: &[([(u16, u64); 8], usize)]) {
+        let lent = |(dots, len): &([(u16, u64); 8], usize)| {
+            let dots = dots.map(|(actor, counter)| LentDot { actor, counter });
+            LentClock { dots, len: *len }
+        };
+        let clocks: Vec<LentClock> = peers.iter().map(lent).collect();
+        // a place with any content, which a refusal leaves
+        let before = LentClock { dots: [LentDot { actor: 7, counter: 9 }; 8], len: 77 };
+        let (number, expected) = match expected::floor(peers) {
+            Err(number) => (number, before),
+            Ok(dots) => {
+                let mut floor = LentClock { len: dots.len(), ..LentClock::default() };
+                for (place, (actor, counter)) in floor.dots.iter_mut().zip(dots) {
+                    *place = LentDot { actor, counter };
+                }
+                (0, floor)
+            }
+        };
+        let (given, mut floor) = (clocks.clone(), before);
+        let calls = self.calls;
+        let word = caught(|| calls.floor(&clocks, &mut floor));
+        self.count(Call::Floor, number);
+        if word != Some(u64::from(number) << 32) || floor != expected || clocks != given {
+            self.differences += 1;
+            if self.differences <= PRINTED {
+                println!(
+                    "DIFFERENCE in floor of {peers:?}\n  answers {word:?} and leaves {floor:?}, \
+                     for {number} and {expected:?}\n"
+                );
+            }
+        }
+    }
+
     fn clock_advance(&mut self, dots: &[(u16, u64); 8], len: usize, actor: u16, counter: u64) {
         let (number, after, after_len) = expected::clock_advance(dots, len, actor, counter);
         let lent_dots =

@@ -317,6 +317,32 @@ impl Taste {
         other
     }
 
+    /// A map that differs from another in little: values in another order, one twice or gone, another origin
+    /// or entry clock, an entry gone; or in nothing.
+    pub fn near_map(&self, random: &mut Random, map: &Map) -> Map {
+        let mut near = map.clone();
+        let keys: Vec<u32> = near.entries.keys().copied().collect();
+        let changes = if keys.is_empty() { 0 } else { random.below(4) };
+        for _ in 0..changes {
+            let key = *random.pick(&keys);
+            let Some(entry) = near.entries.get_mut(&key) else { continue };
+            let some = !entry.values.is_empty();
+            match random.below(6) {
+                0 => entry.values.reverse(),
+                1 if some && entry.values.len() < MOST_VALUES => {
+                    let again = random.pick(&entry.values).clone();
+                    entry.values.push(again);
+                }
+                2 => drop(entry.values.pop()),
+                3 if some => entry.values[0].1 .1 ^= 1,
+                4 if entry.clock.len() > 1 => drop(entry.clock.pop_first()),
+                5 => drop(near.entries.remove(&key)),
+                _ => {}
+            }
+        }
+        near
+    }
+
     fn grown(&self, random: &mut Random, map: &Map) -> Map {
         let mut grown = map.clone();
         for _ in 0..random.between(1, 4) {

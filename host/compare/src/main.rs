@@ -29,7 +29,7 @@ fn main() -> ExitCode {
     let failed = settled::failed_examples(&*calls);
     println!("settled examples: {failed} differences");
 
-    let mut random = Random::new(seed);
+    let (mut random, mut reports) = (Random::new(seed), Random::new(seed ^ 14));
     let mut checker = Checker::new(&*calls, seed);
     checker.feed_longest();
     rounds::every_short_input(&mut checker);
@@ -42,6 +42,7 @@ fn main() -> ExitCode {
         if random.one_in(3) {
             lists::list_round(&mut random, &mut checker);
         }
+        rounds::report_round(&mut reports, &mut checker);
     }
     let in_registers = registers::compare_equality(&mut random, 20_000);
 

@@ -25,10 +25,12 @@ pub enum Call {
     ClockAdvance,
     PiecesTake,
     PiecesEnd,
+    Differences,
+    Floor,
 }
 
 impl Call {
-    pub const ALL: [Call; 16] = [
+    pub const ALL: [Call; 19] = [
         Call::Apply,
         Call::Merge,
         Call::ResetRemove,
@@ -46,6 +48,8 @@ impl Call {
         Call::ClockAdvance,
         Call::PiecesTake,
         Call::PiecesEnd,
+        Call::Differences,
+        Call::Floor,
     ];
 
     /// The largest number that any of them can answer.
@@ -70,12 +74,14 @@ impl Call {
             Call::ClockAdvance => "clock_advance",
             Call::PiecesTake => "pieces_take",
             Call::PiecesEnd => "pieces_end",
+            Call::Differences => "differences",
+            Call::Floor => "floor",
         }
     }
 
     /// Whether the second image is a map's too.
     pub fn takes_two_maps(self) -> bool {
-        matches!(self, Call::Merge | Call::ValidateMerge | Call::CatchUp)
+        matches!(self, Call::Merge | Call::ValidateMerge | Call::CatchUp | Call::Differences)
     }
 
     /// The numbers that the call can answer: a run must meet each of them.
@@ -96,6 +102,8 @@ impl Call {
             Call::ClockAdvance => &[0, 1, 2, 4],
             Call::PiecesTake => &[0, 13],
             Call::PiecesEnd => &[0, 1, 2, 3, 10, 13],
+            Call::Differences => &[0, 1, 2, 3, 10],
+            Call::Floor => &[0, 1, 2, 18],
         }
     }
 }
@@ -144,7 +152,8 @@ impl Question {
             Call::CatchUp => expected::catch_up(first, &self.images[1], second),
             Call::Bay => expected::bay(first, self.key),
             Call::Bays => expected::bays(first),
-            Call::ClockAdvance => unreachable!("a lent clock is no image"),
+            Call::Differences => expected::differences(first, second),
+            Call::ClockAdvance | Call::Floor => unreachable!("a lent clock is no image"),
             Call::PiecesTake | Call::PiecesEnd => unreachable!("a reader is no image"),
         })
     }
@@ -196,7 +205,8 @@ impl Question {
             }
             Call::Bay => (calls.bay(first, self.key, out), vec![]),
             Call::Bays => (calls.bays(first, out), vec![]),
-            Call::ClockAdvance => unreachable!("a lent clock is no image"),
+            Call::Differences => (calls.differences(first, second, out), vec![]),
+            Call::ClockAdvance | Call::Floor => unreachable!("a lent clock is no image"),
             Call::PiecesTake | Call::PiecesEnd => unreachable!("a reader is no image"),
         }
     }
@@ -205,7 +215,12 @@ impl Question {
     pub fn is_blind_to_origins(&self) -> bool {
         !matches!(
             self.call,
-            Call::Apply | Call::Merge | Call::ResetRemove | Call::Get | Call::CatchUp
+            Call::Apply
+                | Call::Merge
+                | Call::ResetRemove
+                | Call::Get
+                | Call::CatchUp
+                | Call::Differences
         )
     }
 

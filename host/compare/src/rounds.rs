@@ -93,31 +93,89 @@ fn uniting_round(random: &mut Random, asks: &mut dyn Asks) {
     asks.reset_remove(&map_image(&map), &clock_image(&by));
 }
 
+/// A clock as it is lent: mostly one in order, with any content behind its length.
+fn lent_clock(random: &mut Random) -> ([(u16, u64); 8], usize) {
+    let mut dots = [(0, 0); 8];
+    let mut actor = 0;
+    for dot in &mut dots {
+        actor += random.between(1, 2) as u16;
+        *dot = (actor, random.between(1, 3) as u64);
+    }
+    match random.below(6) {
+        0 => dots[random.below(8)].1 = 0,
+        1 => {
+            let place = random.below(8);
+            dots[place].0 = random.below(12) as u16;
+        }
+        2 => dots[random.below(8)].1 = u64::MAX,
+        _ => {}
+    }
+    let len = match random.below(8) {
+        0 => 9,
+        1 => random.next() as usize,
+        2 | 3 => 8,
+        _ => random.below(9),
+    };
+    (dots, len)
+}
+
+/// What differs between two maps: strange to each other, apart, and near.
+fn difference_round(random: &mut Random, asks: &mut dyn Asks) {
+    let (ours, theirs) = match random.below(4) {
+        0 => Taste::brim_pair(random),
+        1 => Taste::pair_apart(random),
+        2 => (Taste::brim(random), Taste::random(random)),
+        _ => (Taste::random(random), Taste::random(random)),
+    };
+    let map = ours.map(random);
+    let other = map_image(&theirs.other_map(random, &map));
+    let near = map_image(&ours.near_map(random, &map));
+    let map = maybe_damaged(random, map_image(&map), LONGEST_MAP);
+    let other = maybe_damaged(random, other, LONGEST_MAP);
+    asks.differences(&map, &other);
+    asks.differences(&other, &map);
+    asks.differences(&map, &near);
+    asks.differences(&map, &map);
+}
+
+/// Some peers, mostly good ones, around the most that there may be, and none.
+fn floor_round(random: &mut Random, asks: &mut dyn Asks) {
+    for _ in 0..4 {
+        let count = match random.below(8) {
+            0 => *random.pick(&[63, 64, 65, 66]),
+            1 => 0,
+            _ => random.below(6),
+        };
+        let bad = random.one_in(3);
+        let mut peers = Vec::new();
+        while peers.len() < count {
+            let (dots, len) = lent_clock(random);
+            let held = &dots[..len.min(8)];
+            let good = len <= 8
+                && held.iter().all(|dot| dot.1 > 0)
+                && held.windows(2).all(|pair| pair[0].0 < pair[1].0);
+            if good || (bad && random.one_in(4)) {
+                peers.push((dots, len));
+            }
+        }
+        asks.floor(&peers);
+    }
+}
+
 fn lent_clock_round(random: &mut Random, asks: &mut dyn Asks) {
     for _ in 0..4 {
-        let mut dots = [(0, 0); 8];
-        let mut actor = 0;
-        for dot in &mut dots {
-            actor += random.between(1, 2) as u16;
-            *dot = (actor, random.between(1, 3) as u64);
-        }
-        match random.below(6) {
-            0 => dots[random.below(8)].1 = 0,
-            1 => {
-                let place = random.below(8);
-                dots[place].0 = random.below(12) as u16;
-            }
-            2 => dots[random.below(8)].1 = u64::MAX,
-            _ => {}
-        }
-        let len = match random.below(8) {
-            0 => 9,
-            1 => random.next() as usize,
-            2 | 3 => 8,
-            _ => random.below(9),
-        };
+        let (dots, len) = lent_clock(random);
         let counter = *random.pick(&[0, 1, 2, 4, u64::MAX]);
         asks.clock_advance(&dots, len, random.below(20) as u16, counter);
+    }
+}
+
+/// A round of CR 14's calls. It has random numbers of its own, so that crates/replay's file stays.
+pub fn report_round(random: &mut Random, asks: &mut dyn Asks) {
+    if random.one_in(3) {
+        floor_round(random, asks);
+    } else {
+        difference_round(random, asks);
     }
 }
 

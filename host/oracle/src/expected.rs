@@ -3,9 +3,10 @@
 use crate::bays::{report, BAYS};
 use crate::guard::{self, Place};
 use crate::image::{map_image, operation_image, read_clock, read_map, read_operation};
-use crate::model::{Map, Operation, ValueAndOrigin};
+use crate::model::{Entry, Map, Operation, ValueAndOrigin};
 use crate::published;
 use crate::salvage;
+use std::collections::BTreeSet;
 
 #[derive(Clone, Debug, Default, PartialEq, Eq)]
 pub struct Answer {
@@ -224,6 +225,73 @@ pub fn salvaged(input: &[u8]) -> Answer {
 /// The report of what was removed or changed in it.
 pub fn salvage_report(input: &[u8]) -> Answer {
     after_reading(|| Ok(written(None, salvage::salvage(input)?.report())))
+}
+
+/// A key's class: only in the first, only in the second, or in both with another clock or register, whose
+/// pairs are counted (CR 5).
+fn class_of(one: Option<&Entry>, other: Option<&Entry>) -> u8 {
+    let times = |entry: &Entry, pair| entry.values.iter().filter(|held| *held == pair).count();
+    match (one, other) {
+        (Some(_), None) => 1,
+        (None, Some(_)) => 2,
+        (Some(one), Some(other)) => {
+            let mut pairs = one.values.iter().chain(&other.values);
+            let same = one.clock == other.clock
+                && pairs.all(|pair| times(one, pair) == times(other, pair));
+            if same {
+                0
+            } else {
+                3
+            }
+        }
+        (None, None) => 0,
+    }
+}
+
+/// What differs between two maps, as the published crate holds them.
+pub fn differences(map: &[u8], other: &[u8]) -> Answer {
+    after_reading(|| {
+        let (map, other) = (read_map(map)?, read_map(other)?);
+        let (map, other) = (published::held(&map), published::held(&other));
+        let keys: BTreeSet<u32> = map.entries.keys().chain(other.entries.keys()).copied().collect();
+        let mut bytes = Vec::new();
+        for key in keys {
+            let class = class_of(map.entries.get(&key), other.entries.get(&key));
+            if class != 0 {
+                bytes.push(class);
+                bytes.extend(key.to_le_bytes());
+            }
+        }
+        Ok(written(None, bytes))
+    })
+}
+
+/// The floor of lent clocks, each with any content: the number, and the dots where that is 0. The published
+/// crate's `glb` keeps dots that only one clock has out, as the smallest counter does.
+pub fn floor(peers: &[([(u16, u64); 8], usize)]) -> Result<Vec<(u16, u64)>, u32> {
+    if peers.len() > 64 {
+        return Err(18);
+    }
+    let mut floor: Option<crdts::VClock<u16>> = None;
+    for (dots, len) in peers {
+        if *len > 8 {
+            return Err(2);
+        }
+        let held = &dots[..*len];
+        let ascends = held.windows(2).all(|pair| pair[0].0 < pair[1].0);
+        if !ascends || held.iter().any(|(_, counter)| *counter == 0) {
+            return Err(1);
+        }
+        let clock: crdts::VClock<u16> = held.iter().map(|dot| crdts::Dot::from(*dot)).collect();
+        floor = Some(match floor {
+            None => clock,
+            Some(mut before) => {
+                before.glb(&clock);
+                before
+            }
+        });
+    }
+    Ok(floor.map_or(vec![], |clock| clock.dots.into_iter().collect()))
 }
 
 /// The end of an image that came in pieces: what they are, joined.

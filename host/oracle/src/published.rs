@@ -114,6 +114,11 @@ pub fn map_out(map: &PublishedMap) -> Map {
     }
 }
 
+/// A map as the published crate holds it.
+pub fn held(map: &Map) -> Map {
+    map_out(&map_in(map))
+}
+
 pub fn operation_out(operation: &PublishedOperation) -> Operation {
     match operation {
         crdts::map::Op::Rm { clock, keyset } => {

@@ -1,7 +1,7 @@
 //! The calls of castribba.h over slices: same names, same arguments, same words.
 
 use crate::image::{fits, read_map_into};
-use crate::{number, read_clock, read_op, write_map, write_op};
+use crate::{number, read_clock, read_op, write_map, write_op, MOST_PEERS};
 use crate::{Clock, Dot, DoubleSpent, Gap, Map, NotNext, Operation};
 
 /// number * 2^32 + length
@@ -204,6 +204,45 @@ pub fn castribba_validate_merge_our_key(map: &[u8], other: &[u8]) -> u64 {
 
 pub fn castribba_validate_merge_their_key(map: &[u8], other: &[u8]) -> u64 {
     carried_by_12(map, other, |spent| spent.their_key.into())
+}
+
+/// A key's class and the key in five bytes, for each key that differs.
+pub fn castribba_differences(map: &[u8], other: &[u8], out: &mut [u8]) -> u64 {
+    word(|| {
+        let (mut ours, mut theirs) = (Map::EMPTY, Map::EMPTY);
+        read_map_into(map, &mut ours)?;
+        read_map_into(other, &mut theirs)?;
+        let length = ours.differences(&theirs, |_, _| ()) * 5;
+        let Some(out) = out.get_mut(..length) else { return Err(number::SHORT_BUFFER) };
+        let mut records = out.chunks_exact_mut(5);
+        ours.differences(&theirs, |class, key| {
+            let record = records.next().expect("as many as were counted");
+            record[0] = class;
+            record[1..].copy_from_slice(&key.to_le_bytes());
+        });
+        Ok(length)
+    })
+}
+
+/// The smallest counter of each actor over all peers.
+pub fn castribba_floor(peers: &[Clock], floor: &mut Clock) -> u64 {
+    word(|| {
+        if peers.len() > MOST_PEERS {
+            return Err(number::TOO_MANY_PEERS);
+        }
+        let mut least = Clock::EMPTY;
+        for (place, peer) in peers.iter().enumerate() {
+            peer.judge()?;
+            if place == 0 {
+                peer.dots().iter().for_each(|dot| least.push(*dot).expect("at most eight"));
+            } else {
+                least.lower(peer);
+            }
+        }
+        *floor = Clock::EMPTY;
+        least.dots().iter().for_each(|dot| floor.push(*dot).expect("at most eight"));
+        Ok(0)
+    })
 }
 
 pub fn castribba_clock_advance(clock: &mut Clock, actor: u16, counter: u64) -> u64 {

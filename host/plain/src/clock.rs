@@ -160,9 +160,22 @@ impl Clock {
         Some(())
     }
 
-    /// The controller's own clock, lent with any content, advanced by one dot; with effect, the
-    /// places behind `len` become zero.
-    pub fn advance(&mut self, dot: Dot) -> Result<(), u32> {
+    /// Deletes each dot whose actor `by` lacks, and lowers the others to its counters.
+    pub(crate) fn lower(&mut self, by: &Clock) {
+        let mut kept = 0;
+        for place in 0..self.len {
+            let Dot { actor, counter } = self.dots[place];
+            let counter = counter.min(by.counter(actor));
+            if counter > 0 {
+                self.dots[kept] = Dot { actor, counter };
+                kept += 1;
+            }
+        }
+        self.len = kept;
+    }
+
+    /// What is wrong with a clock that is lent with any content.
+    pub(crate) fn judge(&self) -> Result<(), u32> {
         if self.len > MOST_DOTS {
             return Err(number::IMAGE_OVER_LIMIT);
         }
@@ -170,6 +183,13 @@ impl Clock {
         if !ascends || self.dots().iter().any(|dot| dot.counter == 0) {
             return Err(number::BAD_FORM);
         }
+        Ok(())
+    }
+
+    /// The controller's own clock, lent with any content, advanced by one dot; with effect, the
+    /// places behind `len` become zero.
+    pub fn advance(&mut self, dot: Dot) -> Result<(), u32> {
+        self.judge()?;
         let before = *self;
         self.add(dot).ok_or(number::OVER_DOTS)?;
         if *self != before {

@@ -27,6 +27,7 @@ pub const MOST_ENTRIES: usize = 32;
 pub const MOST_VALUES: usize = 4;
 pub const MOST_WAITING: usize = 16;
 pub const MOST_KEYS: usize = 16;
+pub const MOST_PEERS: usize = 64;
 
 pub const LONGEST_MAP: usize = 28_800;
 pub const LONGEST_OPERATION: usize = 400;

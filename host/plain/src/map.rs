@@ -201,6 +201,34 @@ impl Map {
         waiting: Waiting::EMPTY,
     };
 
+    /// Tells each key that differs with its class, ascending, and answers how many there are.
+    pub fn differences(&self, other: &Map, mut tell: impl FnMut(u8, u32)) -> usize {
+        let (mut ours, mut theirs) = (self.entries(), other.entries());
+        let mut count = 0;
+        loop {
+            let (class, key) = match (ours.first(), theirs.first()) {
+                (None, None) => return count,
+                (Some(one), Some(two)) if one.key == two.key => {
+                    (ours, theirs) = (&ours[1..], &theirs[1..]);
+                    let same = one.clock == two.clock && one.register.equals(&two.register);
+                    (if same { 0 } else { 3 }, one.key)
+                }
+                (Some(one), two) if two.map_or(true, |two| one.key < two.key) => {
+                    ours = &ours[1..];
+                    (1, one.key)
+                }
+                (_, two) => {
+                    theirs = &theirs[1..];
+                    (2, two.expect("the other side has one").key)
+                }
+            };
+            if class != 0 {
+                tell(class, key);
+                count += 1;
+            }
+        }
+    }
+
     pub fn entries(&self) -> &[Entry] {
         &self.entries[..self.entries_len]
     }

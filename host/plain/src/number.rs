@@ -17,6 +17,7 @@ pub const ENDED: u32 = 13;
 pub const NO_BAY: u32 = 14;
 pub const ENDS_ELSEWHERE: u32 = 16;
 pub const TOO_MANY_OPERATIONS: u32 = 17;
+pub const TOO_MANY_PEERS: u32 = 18;
 pub const FOREIGN: u32 = 19;
 pub const SEEN: u32 = 20;
 pub const HOLD: u32 = 21;

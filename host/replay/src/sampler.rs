@@ -59,6 +59,7 @@ fn place_of(call: Call) -> usize {
         Call::Bay | Call::Bays => unreachable!("nothing asks the loader here"),
         Call::Ready => unreachable!("nothing asks the guard here"),
         Call::CatchUp => unreachable!("nothing asks for lists here"),
+        Call::Differences | Call::Floor => unreachable!("the file has no such call"),
         Call::PiecesTake | Call::PiecesEnd => unreachable!("nothing asks for pieces here"),
     }
 }
@@ -117,6 +118,9 @@ impl Sampler {
 impl Asks for Sampler {
     fn ask(&mut self, question: Question) -> Option<Answer> {
         let full = oracle_answer(&question).expect("the oracle answers");
+        if question.call == Call::Differences {
+            return Some(full);
+        }
         let room = if question.writes() { self.room(&full) } else { 0 };
         let answer = full.in_room(room);
         let bytes = question.images.iter().map(Vec::len).sum::<usize>() + answer.bytes.len();
@@ -145,6 +149,8 @@ impl Asks for Sampler {
         }
         Some(full)
     }
+
+    fn floor(&mut self, _peers: &[([(u16, u64); 8], usize)]) {}
 
     fn clock_advance(&mut self, dots: &[(u16, u64); 8], len: usize, actor: u16, counter: u64) {
         let (number, after, after_len) = expected::clock_advance(dots, len, actor, counter);

@@ -5,7 +5,10 @@ mod files;
 mod lost;
 mod words;
 
-use castribba::{loader, salvage, slices, Entry, Map, Operation, Ready, Record, Refusal, Rejected};
+use castribba::Rejected;
+use castribba::{
+    loader, salvage, slices, Class, Clock, Entry, Map, Operation, Ready, Record, Refusal,
+};
 use failure::{trouble, Failure};
 use files::{bytes_of, is_same_file, map_in, named, operation_in, print, shown, write_all};
 use std::process::ExitCode;
@@ -50,6 +53,7 @@ fn run(given: Vec<String>) -> Result<u8, Failure> {
         "merge" => merge(&words),
         "catch-up" => catch_up(&words),
         "diff" => diff(&words),
+        "floor" => floor(&words),
         _ => salvaged(&words),
     }
 }
@@ -198,14 +202,25 @@ fn catch_up(words: &Words) -> Result<u8, Failure> {
 
 /// Whether two entries of a key are the same setting, whatever the order of their values, and the clocks of
 /// these: drives that were given the same operations may differ in both.
-fn same(one: &Entry, other: &Entry) -> bool {
+fn same(map: &Map, other: &Map, key: u32) -> bool {
+    let (Some(one), Some(other)) = (map.entry(key), other.entry(key)) else {
+        return false;
+    };
     let values = |entry: &Entry| {
         let mut values: Vec<_> =
             entry.values.iter().map(|held| (held.value, held.origin)).collect();
         values.sort_unstable();
         values
     };
-    one.clock == other.clock && values(one) == values(other)
+    one.clock == other.clock && values(&one) == values(&other)
+}
+
+/// What all of the maps have seen.
+fn floor(words: &Words) -> Result<u8, Failure> {
+    let maps = words.operands.iter().map(|file| map_in(file));
+    let clocks = maps.map(|map| Ok(map?.clock())).collect::<Result<Vec<Clock>, Failure>>()?;
+    let floor = refused(words, Clock::floor(&clocks))?;
+    say(&format!("all have seen: {floor}\n"))
 }
 
 fn diff(words: &Words) -> Result<u8, Failure> {
@@ -213,16 +228,14 @@ fn diff(words: &Words) -> Result<u8, Failure> {
     let map = map_in(&words.operands[0])?;
     let other = map_in(&words.operands[1])?;
     let mut text = String::new();
-    let mut keys: Vec<u32> = map.keys().chain(other.keys()).collect();
-    keys.sort_unstable();
-    keys.dedup();
-    for key in keys {
-        match (map.entry(key), other.entry(key)) {
-            (Some(_), None) => text += &format!("only in {file}: key {key}\n"),
-            (None, Some(_)) => text += &format!("only in {other_file}: key {key}\n"),
-            (Some(one), Some(two)) if !same(&one, &two) => text += &format!("differs: key {key}\n"),
-            _ => {}
-        }
+    for difference in map.differences(&other) {
+        let key = difference.key;
+        text += &match difference.class {
+            Class::OnlyFirst => format!("only in {file}: key {key}\n"),
+            Class::OnlySecond => format!("only in {other_file}: key {key}\n"),
+            Class::Other if same(&map, &other, key) => continue,
+            Class::Other => format!("differs: key {key}\n"),
+        };
     }
     if map.clock() != other.clock() {
         text += &format!("seen: {} in {file}, {} in {other_file}\n", map.clock(), other.clock());

@@ -14,6 +14,7 @@ castribba: settings maps, looked at and edited
   castribba apply MAP OP                    the map after an operation that is the next
   castribba merge MAP OTHER                 the two maps merged
   castribba diff MAP OTHER                  keys only in one, and keys that differ
+  castribba floor MAP...                    what all of these maps have seen
   castribba catch-up MAP THEIRS LIST        whether a list of operations brings the map to theirs
   castribba salvage FILE                    what comes back of a damaged map, and what was lost
 
@@ -68,7 +69,7 @@ const fn form(
     Form { command, operands, writes, options }
 }
 
-const FORMS: [Form; 9] = [
+const FORMS: [Form; 11] = [
     form("show", &["FILE"], false, &[]),
     form("bays", &["MAP"], false, &[]),
     form("get", &["MAP", "KEY"], false, &[]),
@@ -77,6 +78,7 @@ const FORMS: [Form; 9] = [
     form("apply", &["MAP", "OP"], true, &["--anyway"]),
     form("merge", &["MAP", "OTHER"], true, &["--anyway"]),
     form("diff", &["MAP", "OTHER"], false, &[]),
+    form("floor", &["MAP..."], false, &[]),
     form("catch-up", &["MAP", "THEIRS", "LIST"], false, &[]),
     form("salvage", &["FILE"], true, &[]),
 ];
@@ -116,7 +118,8 @@ impl Words {
     }
 
     fn judged(self, form: &Form) -> Result<Words, Failure> {
-        if self.operands.len() != form.operands.len() {
+        let many = form.operands == ["MAP..."] && !self.operands.is_empty();
+        if self.operands.len() != form.operands.len() && !many {
             let wanted = form.operands.join(" ");
             let found = self.operands.len();
             return trouble(format!(

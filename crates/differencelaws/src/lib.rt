@@ -1,0 +1,1 @@
+// The report over two maps tells each key with its class exactly where the sentence holds, ascending, each once. Laws alone.

@@ -1,0 +1,3 @@
+pub mod Walks
+pub mod Lowering
+pub mod Greatest
