@@ -12,7 +12,7 @@
  *   `memcpy`, and castribba's `memset` too, from the program around them and nothing else: no heap, no
  *   other libc, no system call.
  *   docs/INTEGRATING.md says what that means for a kernel, a boot loader and another machine.
- * - The stack that each call uses is in docs/MEASURES.md; host/stack/run prints it for the archives at hand.
+ * - The stack that each call uses is in docs/MEASURES.md.
  */
 #ifndef CASTRIBBA_COMMON_H
 #define CASTRIBBA_COMMON_H
@@ -62,7 +62,8 @@ enum castribba_number {
 };
 
 /* The number in words, for a number that this version does not know too. It is no part of the
- * archives: compile castribba_text.c, which lies beside this header, into your program. */
+ * archives: compile castribba_text.c, which lies beside this header, into your program, or link
+ * libcastribba_text.a where it is installed (the .pc files name it). */
 #ifdef __cplusplus
 extern "C"
 #endif

@@ -3,7 +3,7 @@ use mathlib.Core.Path.{_≡_, refl, ap, sym, _∙_}
 use mathlib.Core.Bool.{Bool, true, false, not, cond, _&&_, _||_}
 use mathlib.Core.Logic.{_⊎_, inl, inr, ⊎-elim}
 use mathlib.Core.List.{List, [], _∷_, _++_}
-use Prim.Native.Nat.{ℕ, _*_, _%_, _^_, _<_, min}
+use Prim.Native.Nat.{ℕ, _*_, _%_, _^_, _≤_, _<_, min}
 use native.Mathlib.Omega.{arith}
 use lib.Dec.{eqb, ltb}
 use lib.ListN.{length}
@@ -43,13 +43,19 @@ use Rattle.loader.specs.Calls.{isBay, bayNumber, bayAnswer, baysAnswer, bayCoun
 use Rattle.loader.specs.Reports.{reportAt, reportBytes, reportsAfter}
 use Rattle.loader.proofs.Reporting.{length-reports}
 use Rattle.promises.specs.Deleted.{applyDeleted, resetDeleted}
+use Rattle.readiness.specs.declared.Readiness.{Readiness}
+use Rattle.readiness.specs.declared.Readiness.the-variants.{Next, Foreign, Seen, Hold}
+use Rattle.readiness.specs.Ready.{readyNumber}
+use Rattle.differences.specs.Differences.{differencesAnswer}
+use Rattle.promises.specs.Ready.{readinessOf, readyAnswer}
 use Rattle.promises.specs.Calls.{applyAnswer, resetAnswer}
 use Rattle.promises.specs.Calls.{given, mapAnswer, opAnswer, bareAnswer, getAnswer, lenAnswer, orderAnswer, opValidation, spentAnswer, spentOf}
 use Rattle.readbacklaws.proofs.Back.{zeros}
 use Rattle.readbacklaws.proofs.Goods.{good-apply, good-merge, good-reset, good-read, good-seen, good-at, good-removal, good-update}
 use Rattle.demandlaws.specs.Rows.{Row, row, decided, hasNot}
 use Rattle.demandlaws.specs.Tables.{mapRows, opRows, clockRows, limitRows, madeRows, shortRows, missing, orderRows, spentRows}
-use Rattle.demandlaws.specs.Tables.{advanceRows, closedRows, endRows, applyRows, resetRows, applyResult, mergeResult, resetResult}
+use Rattle.demandlaws.specs.Tables.{guardRows, readyRows, differencesRows, advanceRows, closedRows}
+use Rattle.demandlaws.specs.Tables.{endRows, applyRows, resetRows, applyResult, mergeResult, resetResult}
 use Rattle.demandlaws.specs.Demands.{numberIn, Writes, TellsOnly, Carries, DemandOne}
 use Rattle.demandlaws.proofs.Tables.{part, by-table}
 use Rattle.demandlaws.proofs.Images.{map-number, op-number, clock-number, map-long, op-long, limit-number, reset-number, made-number}
@@ -175,6 +181,35 @@ report-fits m key = omega arith
 reports-fit : (m : Map) → length (reportsAfter m 0 bayCount) < 2 ^ 32
 reports-fit m = omega (arith, length-reports m 0 bayCount)
 
+-- the guard
+guard-number : (r : Readiness) → readyNumber r ≡ decided (guardRows r)
+unfolding decided
+guard-number Next = refl
+guard-number Foreign = refl
+guard-number Seen = refl
+guard-number (Hold actor counter) = refl
+
+ready-carries : (map op : List ℕ) (n : ℕ) {word : ℕ} → word ≡ carriedOf 21 (readyAnswer map op) n → Carries (readyRows map op) 21 n word
+unfolding every
+ready-carries map op n w =
+    carries-rows (readyAnswer map op) 21 n (mapRows map) (opRows op) (guardRows (readinessOf map op)) (map-number map) (op-number op)
+    (guard-number (readinessOf map op)) refl refl refl refl refl w
+
+-- a report that is written is no longer than its output
+not-longer : (bytes entry : List ℕ) → shortOf bytes entry ≡ 0 → length bytes ≤ length entry
+not-longer bytes entry e =
+    decide (ltb (length entry) (length bytes)) (λ t. absurd (let q = rw t at e in omega arith)) (λ f. ltb-false (length entry) (length bytes) f)
+
+-- what differs
+differing-writes : (map other entry exit : List ℕ) (word : ℕ) → length entry < 2 ^ 32 → Answered (differencesAnswer map other) entry exit word
+    → Writes (differencesRows map other entry) (differencesAnswer map other .bytes) entry exit word
+unfolding every decided
+differing-writes map other entry exit word l w =
+    let a = differencesAnswer map other in
+    writes-rows a entry exit word (differencesRows map other entry) (a .bytes)
+    (number-rows a entry (a .bytes) (mapRows map) (mapRows other) [] (map-number map) (map-number other) refl refl refl refl (λ z. refl))
+    (λ z. (refl, omega (arith, l, not-longer (a .bytes) entry (zeros a entry z .short)))) w
+
 -- the counts
 apply-number : (map op out : List ℕ) → numberOf (applyAnswer map op) out ≡ decided (applyRows map op out)
 unfolding every
@@ -238,11 +273,7 @@ ended-writes : (reader entry left exit : List ℕ) (word : ℕ) → length entry
 ended-writes reader entry left exit word l w =
     writes-rows (endAnswer reader) entry exit word (endRows reader entry) (imageAt reader)
     (end-number reader entry)
-    (λ z. (refl, omega (arith, l, ltb-false (length entry) (length (imageAt reader)) (not-short (zeros (endAnswer reader) entry z .short)))))
-    (w .answered)
-  where
-    not-short : shortOf (imageAt reader) entry ≡ 0 → ltb (length entry) (length (imageAt reader)) ≡ false
-    not-short e = decide (ltb (length entry) (length (imageAt reader))) (λ t. absurd (let q = rw t at e in omega arith)) (λ f. f)
+    (λ z. (refl, omega (arith, l, not-longer (imageAt reader) entry (zeros (endAnswer reader) entry z .short)))) (w .answered)
 
 ended-left : (reader : List ℕ) (n : ℕ) → (endedBy n reader ≡ reader) ⊎ (endedBy n reader ≡ placed openPlace (numBytes 0 0) reader)
 unfolding endedBy
@@ -302,4 +333,9 @@ demand-one = record {
         ⊎-elim (λ e. inl (w .reader ∙ e)) (λ e. inr (w .reader ∙ e)) (ended-left reader (numberOf (endAnswer reader) entry)),
         λ h. w .reader ∙ ended-open reader (numberOf (endAnswer reader) entry) (⊎-elim (λ e. inl (sym same ∙ e)) (λ e. inr (sym same ∙ e)) h),
       );
+  ready = λ map op word w. bare-tells _ _ _ (mapRows map) (opRows op) (guardRows (readinessOf map op)) (map-number map) (op-number op)
+      (guard-number (readinessOf map op)) refl refl w;
+  ready-actor = λ map op word w. ready-carries map op _ w;
+  ready-counter = λ map op word w. ready-carries map op _ w;
+  differences = λ map other entry exit word l w. differing-writes map other entry exit word l w;
 }

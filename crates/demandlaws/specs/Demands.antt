@@ -23,10 +23,15 @@ use Rattle.promises.specs.Promises.{LenPromise, LenCountPromise, ValidateOpProm
 use Rattle.promises.specs.Promises.{ValidateMergePromise, ValidateMergeActorPromise, ValidateMergeCounterPromise, ValidateMergeOurKeyPromise}
 use Rattle.promises.specs.Promises.{ValidateMergeTheirKeyPromise, ClockAdvancePromise, ApplyDeletedPromise, ResetRemoveDeletedPromise}
 use Rattle.promises.specs.Promises.{PiecesBeginPromise, PiecesTakePromise, PiecesEndPromise}
+use Rattle.promises.specs.Promises.{DifferencesPromise}
+use Rattle.promises.specs.Ready.{readinessOf, ReadyPromise, ReadyActorPromise, ReadyCounterPromise}
+use Rattle.readiness.specs.Ready.{readyActor, readyCounter}
+use Rattle.differences.specs.Differences.{differencesAnswer}
 use Rattle.promises.specs.Deleted.{applyDeleted, resetDeleted}
 use Rattle.demandlaws.specs.Rows.{Row, row, decided, ByTable}
 use Rattle.demandlaws.specs.Tables.{mapRows, applyRows, mergeRows, resetRows, updateRows, removalRows, getRows, orderRows, spentRows}
-use Rattle.demandlaws.specs.Tables.{advanceRows, closedRows, endRows, bayRows, baysRows, applyResult, mergeResult, resetResult}
+use Rattle.demandlaws.specs.Tables.{readyRows, differencesRows, advanceRows, closedRows, endRows}
+use Rattle.demandlaws.specs.Tables.{bayRows, baysRows, applyResult, mergeResult, resetResult}
 
 -- "one 64-bit result holds number and length"
 abbrev pub numberIn : ℕ → ℕ
@@ -50,7 +55,7 @@ pub record TellsOnly (rows : List Row) (word : ℕ) : Type 0 where
 abbrev pub Carries : List Row → ℕ → ℕ → ℕ → Type 0
 Carries rows with n word = word ≡ cond (eqb (decided rows) with) n 0
 
--- of every call of castribba.h and loader.h, by its promise alone
+-- of the calls of castribba.h and loader.h, by their promises alone. (castribba_catch_up has its own law in catchuplaws, castribba_floor in flooring)
 pub record DemandOne : Type 0 where
   pub apply : (map op entry exit : List ℕ) (word : ℕ) → Bytes map → Bytes op → ApplyPromise map op entry exit word
       → Writes (applyRows map op entry) (mapImage (applyResult map op)) entry exit word
@@ -105,3 +110,12 @@ pub record DemandOne : Type 0 where
       × ((left ≡ reader) ⊎ (left ≡ placed openPlace (numBytes 0 0) reader))
       -- "10 leaves the reader open", and so does 13
       × (((numberIn word ≡ 13) ⊎ (numberIn word ≡ 10)) → left ≡ reader)
+  -- the guard, and what a held update waits for
+  pub ready : (map op : List ℕ) (word : ℕ) → ReadyPromise map op word → TellsOnly (readyRows map op) word
+  pub ready-actor : (map op : List ℕ) (word : ℕ) → ReadyActorPromise map op word
+      → Carries (readyRows map op) 21 (readyActor (readinessOf map op)) word
+  pub ready-counter : (map op : List ℕ) (word : ℕ) → ReadyCounterPromise map op word
+      → Carries (readyRows map op) 21 (readyCounter (readinessOf map op)) word
+  -- what differs between two maps
+  pub differences : (map other entry exit : List ℕ) (word : ℕ) → length entry < 2 ^ 32 → DifferencesPromise map other entry exit word
+      → Writes (differencesRows map other entry) (differencesAnswer map other .bytes) entry exit word

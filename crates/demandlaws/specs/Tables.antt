@@ -36,6 +36,10 @@ use Rattle.mailbox.specs.Machine.{isOpen}
 use Rattle.delivery.specs.Delivery.{scannedAt, relatedAt, imageAt}
 use Rattle.loader.specs.Calls.{isBay, bayCount}
 use Rattle.loader.specs.Reports.{reportAt, reportBytes, reportsAfter}
+use Rattle.readiness.specs.declared.Readiness.{Readiness}
+use Rattle.readiness.specs.Ready.{readyNumber}
+use Rattle.differences.specs.Differences.{differencesAnswer}
+use Rattle.promises.specs.Ready.{readinessOf}
 use Rattle.promises.specs.Calls.{given}
 use Rattle.demandlaws.specs.Rows.{Row, row}
 
@@ -142,3 +146,23 @@ endRows reader out =
     ++ ((row 2 (ltb mapLongest (numAt 2 lengthPlace reader)) ∷ row 1 (not (eqb (numAt 2 lengthPlace reader % 16) 0))
     ∷ row 1 (eqb (scannedAt reader) 1) ∷ row 2 (eqb (scannedAt reader) 2) ∷ row 3 (not (relatedAt reader)) ∷ [])
     ++ shortRows (imageAt reader) out)
+
+-- the guard: "an update whose put clock lacks its own dot 19; one that was seen 20; one that must be held 21"
+abbrev pub isForeign : Readiness → Bool
+isForeign r = eqb (readyNumber r) 19
+
+abbrev pub isSeen : Readiness → Bool
+isSeen r = eqb (readyNumber r) 20
+
+abbrev pub isHeld : Readiness → Bool
+isHeld r = eqb (readyNumber r) 21
+
+abbrev pub guardRows : Readiness → List Row
+guardRows r = row 19 (isForeign r) ∷ row 20 (isSeen r) ∷ row 21 (isHeld r) ∷ []
+
+abbrev pub readyRows : List ℕ → List ℕ → List Row
+readyRows map op = mapRows map ++ (opRows op ++ guardRows (readinessOf map op))
+
+-- what differs: "the images' numbers and 10"
+abbrev pub differencesRows : List ℕ → List ℕ → List ℕ → List Row
+differencesRows map other out = mapRows map ++ (mapRows other ++ shortRows (differencesAnswer map other .bytes) out)

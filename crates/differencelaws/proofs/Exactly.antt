@@ -22,31 +22,10 @@ use Rattle.entries.specs.declared.Entry.{Entry}
 use Rattle.differences.specs.declared.Difference.{Difference}
 use Rattle.differences.specs.Differences.{sameEntry, onlyFirst, onlySecond, inBoth, classed, differs, differencesOf}
 use Rattle.differences.proofs.Turned.{same-turned}
+use Rattle.differencelaws.specs.Reported.{HasKey, BothOther, SaysClass, SameEntries, turned}
 
 abbrev byKey : Entry → Entry → Bool
 byKey = by (λ e. e .key)
-
--- a map has a key, or has it not
-abbrev pub Has : List Entry → ℕ → Type 0
-Has l k = (e : Entry) × (e ∈ l) × (e .key ≡ k)
-
-abbrev pub Lacks : List Entry → ℕ → Type 0
-Lacks l k = (e : Entry) → e ∈ l → e .key ≡ k → ⊥
-
--- both have it, "with another clock or register"
-pub record Other (l m : List Entry) (k : ℕ) : Type 0 where
-  pub mine : Entry
-  pub yours : Entry
-  pub here : mine ∈ l
-  pub there : yours ∈ m
-  pub same : mine .key ≡ k
-  pub level : yours .key ≡ k
-  pub apart : sameEntry mine yours ≡ false
-
--- the sentence of each class
-abbrev pub Says : List Entry → List Entry → Difference → Type 0
-Says l m t = ((t .class ≡ 1) × Has l (t .key) × Lacks m (t .key))
-    ⊎ (((t .class ≡ 2) × Lacks l (t .key) × Has m (t .key)) ⊎ ((t .class ≡ 3) × Other l m (t .key)))
 
 both-class : (e f : Entry) (b : Bool) → sameEntry e f ≡ b → inBoth e f .class ≡ cond b 0 3
 both-class e f b h = rw h
@@ -60,11 +39,11 @@ cast t p q i = Memᴰ·cast (λ j. record { class = sym p j; key = sym q j }) i
 
 module _ {l m : List Entry} (a : Ascending byKey l) (b : Ascending byKey m) where
   -- what is told is so
-  pub told-says : (t : Difference) → t ∈ differencesOf l m → Says l m t
+  pub told-says : (t : Difference) → t ∈ differencesOf l m → SaysClass l m t
   unfolding differencesOf classed
   told-says t i =
       let r = those-means differs (weave byKey onlyFirst onlySecond inBoth l m) i in
-      weave-every byKey onlyFirst onlySecond inBoth (by-strict (λ e. e .key)) (by-steady (λ e. e .key)) (λ z. differs z ≡ true → Says l m z) a b
+      weave-every byKey onlyFirst onlySecond inBoth (by-strict (λ e. e .key)) (by-steady (λ e. e .key)) (λ z. differs z ≡ true → SaysClass l m z) a b
       (λ x j alone n. inl (refl, (x, j, refl), λ y k e. alone y k (level-by (λ e. e .key) x y (sym e))))
       (λ y j alone n. inr (inl (refl, (λ x k e. alone x k (level-by (λ e. e .key) x y e)), (y, j, refl))))
       (λ x y j k e n. let s = differs-both x y n in inr (inr (
@@ -82,7 +61,7 @@ module _ {l m : List Entry} (a : Ascending byKey l) (b : Ascending byKey m) wher
       t (r .0) (r .1)
 
   -- what is so is told
-  pub says-told : (t : Difference) → Says l m t → t ∈ differencesOf l m
+  pub says-told : (t : Difference) → SaysClass l m t → t ∈ differencesOf l m
   unfolding differencesOf classed
   says-told t (inl (c, (e, i, k), lacks)) =
       cast t (sym c) k (those-holds differs (weave-has-first byKey onlyFirst onlySecond inBoth i
@@ -114,15 +93,10 @@ module _ {l m : List Entry} (a : Ascending byKey l) (b : Ascending byKey m) wher
   pub told-once : (t u : Difference) → t ∈ differencesOf l m → u ∈ differencesOf l m → t .key ≡ u .key → t ≡ u
   told-once t u i j e = same-rank (λ t. t .key) told-ascends i j e
 
-  -- "empty exactly when both have the same entries, register order ignored as in CR 5"
-  pub record Alike : Type 0 where
-    pub ours : (e : Entry) → e ∈ l → (f : Entry) × (f ∈ m) × (f .key ≡ e .key) × (sameEntry e f ≡ true)
-    pub theirs : (f : Entry) → f ∈ m → Has l (f .key)
-
   none-in : {t : Difference} → differencesOf l m ≡ [] → t ∈ differencesOf l m → ⊥
   none-in e i = List·Memᴰ·not-nil (rw e at i)
 
-  pub empty-alike : differencesOf l m ≡ [] → Alike
+  pub empty-alike : differencesOf l m ≡ [] → SameEntries l m
   empty-alike n = record {
     ours = λ e i. ⊎-elim
         (λ (r : (f : Entry) × (f ∈ m) × Level byKey e f). let k = by-level (λ e. e .key) e (r .0) (r .2) in
@@ -138,7 +112,7 @@ module _ {l m : List Entry} (a : Ascending byKey l) (b : Ascending byKey m) wher
         (level-cases byKey f l);
   }
 
-  pub alike-empty : Alike → differencesOf l m ≡ []
+  pub alike-empty : SameEntries l m → differencesOf l m ≡ []
   unfolding differencesOf classed
   alike-empty h = those-none differs (weave byKey onlyFirst onlySecond inBoth l m)
       (weave-every byKey onlyFirst onlySecond inBoth (by-strict (λ e. e .key)) (by-steady (λ e. e .key)) (λ z. differs z ≡ false) a b
@@ -149,9 +123,6 @@ module _ {l m : List Entry} (a : Ascending byKey l) (b : Ascending byKey m) wher
       rw (sym (ap (sameEntry x) q) ∙ r .3)))
 
 -- with the maps exchanged
-abbrev pub turned : Difference → Difference
-turned t = record { class = cond (eqb (t .class) 1) 2 (cond (eqb (t .class) 2) 1 (t .class)); key = t .key }
-
 module _ {l m : List Entry} (a : Ascending byKey l) (b : Ascending byKey m) where
   back : (t : Difference) → t ∈ differencesOf m l → t ∈ map turned (differencesOf l m)
   back t i = go (told-says b a t i)
@@ -161,7 +132,7 @@ module _ {l m : List Entry} (a : Ascending byKey l) (b : Ascending byKey m) wher
           → t ∈ map turned (differencesOf l m)
       put c d p e j = cast t p refl (Memᴰ·cast (sym e) (Memᴰ·map turned j))
 
-      go : Says m l t → t ∈ map turned (differencesOf l m)
+      go : SaysClass m l t → t ∈ map turned (differencesOf l m)
       go (inl (c, has, lacks)) = put 1 2 (sym c) refl (says-told a b _ (inr (inl (refl, lacks, has))))
       go (inr (inl (c, lacks, has))) = put 2 1 (sym c) refl (says-told a b _ (inl (refl, has, lacks)))
       go (inr (inr (c, o))) = put 3 3 (sym c) refl (says-told a b _ (inr (inr (
@@ -185,7 +156,7 @@ module _ {l m : List Entry} (a : Ascending byKey l) (b : Ascending byKey m) wher
   forth : (t : Difference) → t ∈ map turned (differencesOf l m) → t ∈ differencesOf m l
   forth t i = let r = Memᴰ·of-map turned (differencesOf l m) i in Memᴰ·cast (sym (r .2)) (go (r .0) (told-says a b (r .0) (r .1)))
     where
-      go : (u : Difference) → Says l m u → turned u ∈ differencesOf m l
+      go : (u : Difference) → SaysClass l m u → turned u ∈ differencesOf m l
       go u (inl (c, has, lacks)) = says-told b a (turned u) (inr (inl (rw c refl, lacks, has)))
       go u (inr (inl (c, lacks, has))) = says-told b a (turned u) (inl (rw c refl, has, lacks))
       go u (inr (inr (c, o))) = says-told b a (turned u) (inr (inr (

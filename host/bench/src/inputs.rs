@@ -1,5 +1,7 @@
 //! Full maps, smaller ones, and what is done with them.
 
+use calls::{LentClock, LentDot};
+use oracle::expected;
 use oracle::full::{busy_map, full_clock, full_map, map_of, Sizes};
 use oracle::image::{clock_image, map_image, operation_image, LONGEST_MAP};
 use oracle::model::{Clock, Map, Operation};
@@ -29,6 +31,20 @@ pub enum Question {
     },
     ValidateMerge {
         other: Vec<u8>,
+    },
+    Ready {
+        op: Vec<u8>,
+    },
+    Differences {
+        other: Vec<u8>,
+    },
+    /// The floor of as many peers as may be lent, each with a full clock; no map is asked.
+    Floor {
+        peers: Vec<LentClock>,
+    },
+    CatchUp {
+        other: Vec<u8>,
+        list: Vec<u8>,
     },
     Bay,
     Bays,
@@ -63,6 +79,15 @@ fn next_update(map: &Map, actor: u16, key: u32) -> Vec<u8> {
     operation_image(&Operation::Update { actor, counter, key, put_clock, put_value: (5, 1) })
 }
 
+/// As many peers as may be lent, whose floor is full too.
+fn full_peers() -> Vec<LentClock> {
+    let peer = |of: u64| LentClock {
+        dots: std::array::from_fn(|place| LentDot { actor: place as u16 + 1, counter: 100 + of }),
+        len: 8,
+    };
+    (0..64).map(peer).collect()
+}
+
 pub fn tasks() -> Vec<Task> {
     let map = full_map(|_| false);
     let image = map_image(&map);
@@ -72,6 +97,10 @@ pub fn tasks() -> Vec<Task> {
     let update = next_update(&map, ACTOR, KEY);
     let removal = Operation::Removal { clock: map.clock.clone(), keys: [KEY].into() };
     let reset = full_clock(|actor| if actor % 2 == 1 { 90 } else { 1 });
+
+    let (next, list) = (update.clone(), update.clone());
+    let caught_up = expected::apply(&image, &update).bytes;
+    let newer = newer_half.clone();
 
     let none = clock_image(&Clock::new());
     let busy = map_image(&busy_map());
@@ -134,6 +163,14 @@ pub fn tasks() -> Vec<Task> {
             "validate_merge with an equal map",
             Work::Ask(Question::ValidateMerge { other: image.clone() }),
         ),
+        task("ready, of an update that is next", Work::Ask(Question::Ready { op: next })),
+        task(
+            "differences of an equal map",
+            Work::Ask(Question::Differences { other: image.clone() }),
+        ),
+        task("differences, half is newer", Work::Ask(Question::Differences { other: newer })),
+        task("floor of 64 full clocks", Work::Ask(Question::Floor { peers: full_peers() })),
+        task("catch_up by one update", Work::Ask(Question::CatchUp { other: caught_up, list })),
         task("the loader: bay", Work::Ask(Question::Bay)),
         task("the loader: bays", Work::Ask(Question::Bays)),
     ]

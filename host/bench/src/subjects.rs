@@ -51,6 +51,11 @@ fn expected_answer(task: &Task) -> expected::Answer {
         Work::Ask(Question::Get) => expected::get(&task.map, KEY),
         Work::Ask(Question::ValidateOp { op }) => expected::validate_op(&task.map, op),
         Work::Ask(Question::ValidateMerge { other }) => expected::validate_merge(&task.map, other),
+        Work::Ask(Question::Ready { op }) => expected::ready(&task.map, op),
+        Work::Ask(Question::Differences { other }) => expected::differences(&task.map, other),
+        // the floor is stored in a place lent for it: as of `len`, 0 and no bytes
+        Work::Ask(Question::Floor { .. }) => expected::len(&task.map),
+        Work::Ask(Question::CatchUp { other, list }) => expected::catch_up(&task.map, other, list),
         Work::Ask(Question::Bay) => expected::bay(&task.map, KEY),
         Work::Ask(Question::Bays) => expected::bays(&task.map),
         Work::Ask(Question::Pieces { .. }) => expected::delivered(&task.map),
@@ -87,6 +92,15 @@ impl<C: Calls> ByByte<C> {
             Work::Ask(Question::Get) => self.0.get(&task.map, KEY, out),
             Work::Ask(Question::ValidateOp { op }) => self.0.validate_op(&task.map, op),
             Work::Ask(Question::ValidateMerge { other }) => self.0.validate_merge(&task.map, other),
+            Work::Ask(Question::Ready { op }) => self.0.ready(&task.map, op),
+            Work::Ask(Question::Differences { other }) => self.0.differences(&task.map, other, out),
+            Work::Ask(Question::Floor { peers }) => {
+                let mut floor = peers[0];
+                let word = self.0.floor(peers, &mut floor);
+                black_box(floor);
+                word
+            }
+            Work::Ask(Question::CatchUp { other, list }) => self.0.catch_up(&task.map, other, list),
             Work::Ask(Question::Bay) => self.0.bay(&task.map, KEY, out),
             Work::Ask(Question::Bays) => self.0.bays(&task.map, out),
             Work::Ask(Question::Pieces { length }) => {
