@@ -13,14 +13,14 @@ use Rattle.listlaws.proofs.Orders.{head-before, tail-ascends}
 use Rattle.listlaws.proofs.Those.{those-means, those-ascends}
 use Rattle.clock.specs.Lawful.{Lawful}
 use Rattle.records.specs.declared.Record.{Record}
-use Rattle.records.specs.Kinds.{actorOf, recordOk, before}
-use Rattle.scan.specs.Numbers.{scanNumber}
+use Rattle.records.specs.Kinds.{actor_of, record_ok, before}
+use Rattle.scan.specs.Numbers.{scan_number}
 use Rattle.records.proofs.Rule.{is_value}
 use Rattle.scan.proofs.Befores.{before-fields, before-actor}
 use Rattle.scan.proofs.Builds.{formed-ascends}
 use Rattle.scan.proofs.Rooms.{good-at}
 use Rattle.scan.proofs.Scanning.{scan_good}
-use Rattle.clockimage.specs.Image.{dotOf, dotsFrom}
+use Rattle.clockimage.specs.Image.{dot_of, dots_from}
 
 strictly : (a b : ℕ) → a ≤ b → (a ≡ b → ⊥) → a < b
 strictly a b h n = omega arith
@@ -38,8 +38,8 @@ module _ {B : Type 0} (f : Record → B) (rank : B → ℕ) (Within : Record →
           rw (← y.2) (lt-ltb (rank (f x)) (rank (f y.0)) (apart x y.0 (h x (Memᴰ.head refl)) (h y.0 (Memᴰ.tail y.1))
           (head-before a y.0 y.1)))
 
-module _ (low high : ℕ) (l : List Record) (z : scanNumber low high l ≡ 0) where
-  pub fine : (x : Record) → x ∈ l → recordOk low high x ≡ true
+module _ (low high : ℕ) (l : List Record) (z : scan_number low high l ≡ 0) where
+  pub fine : (x : Record) → x ∈ l → record_ok low high x ≡ true
   fine x i = good-at low high l (scan_good low high l z).0 x i
 
   pub rises : Ascending before l
@@ -53,13 +53,13 @@ module _ (low high : ℕ) (l : List Record) (z : scanNumber low high l ≡ 0) wh
       pub index_is : x.index ≡ index
       pub counter : 0 < x.number
 
-    pub dots-lawful : is_value kind ≡ false → ((x : Record) → x ∈ l → test x ≡ true → Grouped x) → Lawful (dotsFrom test l)
+    pub dots-lawful : is_value kind ≡ false → ((x : Record) → x ∈ l → test x ≡ true → Grouped x) → Lawful (dots_from test l)
     dots-lawful plain g = record {
-      rising = ranks-rise dotOf (λ d. d.actor) Grouped
+      rising = ranks-rise dot_of (λ d. d.actor) Grouped
           (λ x y p q b. before-actor (before-fields b) (ap is_value p.kind-is ∙ plain) (p.kind-is ∙ sym q.kind-is) (p.key-is ∙ sym q.key-is)
           (p.index_is ∙ sym q.index_is))
           (those test l) in_group (those-ascends test rises);
-      positive = λ d i. let y = Memᴰ.of_map dotOf (those test l) i in rw (← y.2) (in_group y.0 y.1).counter;
+      positive = λ d i. let y = Memᴰ.of_map dot_of (those test l) i in rw (← y.2) (in_group y.0 y.1).counter;
     }
       where
         in_group : (x : Record) → x ∈ those test l → Grouped x
@@ -70,7 +70,7 @@ module _ (low high : ℕ) (l : List Record) (z : scanNumber low high l ≡ 0) wh
     pub record Listed (x : Record) : Type 0 where
       pub kind-is : x.kind ≡ kind
       pub index_is : x.index ≡ index
-      pub no-actor : actorOf x ≡ 0
+      pub no-actor : actor_of x ≡ 0
 
     pub keys-rise : ((x : Record) → x ∈ l → test x ≡ true → Listed x) → Ascending (by (λ k. k)) (map (λ x. x.key) (those test l))
     keys-rise g =

@@ -2,38 +2,38 @@
 use Rattle.std.specs.Prelude.{ℕ, ◌+◌, Bool, true, cond, ◌&&◌, List, [], ◌∷◌, eqb, ltb, leb, length}
 use Rattle.clock.specs.declared.Dot.{Dot}
 use Rattle.clock.specs.declared.Clock.{Clock}
-use Rattle.limits.specs.Limits.{dotLimit}
-use Rattle.clock.specs.Dots.{dotsOf, clockOf, beyond, addDot}
+use Rattle.limits.specs.Limits.{dot_limit}
+use Rattle.clock.specs.Dots.{dots_of, clock_of, beyond, add_dot}
 use Rattle.answers.specs.Answer.{Answer, number_of, word_of}
 use Rattle.advance.specs.declared.Advanced.{Advanced}
 
 -- actors strictly ascending, from `low` on, and no zero counter
-unfoldable pub risingDots : ℕ → List Dot → Bool
-risingDots low [] = true
-risingDots low (d ∷ l) = (leb low d.actor && ltb 0 d.counter) && risingDots (d.actor + 1) l
+unfoldable pub rising_dots : ℕ → List Dot → Bool
+rising_dots low [] = true
+rising_dots low (d ∷ l) = (leb low d.actor && ltb 0 d.counter) && rising_dots (d.actor + 1) l
 
 -- "a lent clock of more than 8 dots: 2; out of order or with a zero counter: 1"
-unfoldable pub lentNumber : Clock → ℕ
-lentNumber c = cond (ltb dotLimit c.len) 2 (cond (risingDots 0 (dotsOf c)) 0 1)
+unfoldable pub lent_number : Clock → ℕ
+lent_number c = cond (ltb dot_limit c.len) 2 (cond (rising_dots 0 (dots_of c)) 0 1)
 
 -- "a ninth dot: 4"
-abbrev pub grownNumber : List Dot → ℕ
-grownNumber l = cond (ltb dotLimit (length l)) 4 0
+abbrev pub grown_number : List Dot → ℕ
+grown_number l = cond (ltb dot_limit (length l)) 4 0
 
 module _ (c : Clock) (actor counter : ℕ) where
-  abbrev pub dotGiven : Dot
-  dotGiven = record { actor = actor; counter = counter }
+  abbrev pub dot_given : Dot
+  dot_given = record { actor = actor; counter = counter }
 
-  abbrev pub advanceAnswer : Answer
-  advanceAnswer = record { first = lentNumber c; second = 0; own = grownNumber (addDot (dotsOf c) dotGiven); bytes = [] }
+  abbrev pub advance_answer : Answer
+  advance_answer = record { first = lent_number c; second = 0; own = grown_number (add_dot (dots_of c) dot_given); bytes = [] }
 
   -- "Adding a dot takes effect only if its counter is larger"
-  unfoldable pub takesEffect : Bool
-  takesEffect = eqb (number_of advanceAnswer []) 0 && beyond (dotsOf c) dotGiven
+  unfoldable pub takes_effect : Bool
+  takes_effect = eqb (number_of advance_answer []) 0 && beyond (dots_of c) dot_given
 
   -- "clock unchanged in each" refusal
-  abbrev pub advancedClock : Clock
-  advancedClock = cond takesEffect (clockOf (addDot (dotsOf c) dotGiven)) c
+  abbrev pub advanced_clock : Clock
+  advanced_clock = cond takes_effect (clock_of (add_dot (dots_of c) dot_given)) c
 
-  abbrev pub advancedOf : Advanced
-  advancedOf = record { word = word_of advanceAnswer []; grew = takesEffect; clock = advancedClock }
+  abbrev pub advanced_of : Advanced
+  advanced_of = record { word = word_of advance_answer []; grew = takes_effect; clock = advanced_clock }

@@ -1,7 +1,7 @@
 // The controller's own clock, advanced by one dot: by value.
 ghost use Rattle.std.specs.Prelude.{◌≡◌, ◌≤◌};
-ghost use Rattle.clock.specs.Dots.{dotsOf};
-ghost use Rattle.advance.specs.Advancing.{risingDots, lentNumber, advancedOf};
+ghost use Rattle.clock.specs.Dots.{dots_of};
+ghost use Rattle.advance.specs.Advancing.{rising_dots, lent_number, advanced_of};
 
 use clock::{Clock, Dot};
 use limits::DOTS;
@@ -16,7 +16,7 @@ pub struct Advanced {
 
 // Whether actors ascend strictly and no counter is zero.
 fn rises(clock: Clock) -> bool
-    ensures { result ≡ risingDots 0 (dotsOf clock) }
+    ensures { result ≡ rising_dots 0 (dots_of clock) }
 {
     let n = clock.size();
     let mut low: u32 = 0;
@@ -35,7 +35,7 @@ fn rises(clock: Clock) -> bool
 
 // What is wrong with a clock that was lent.
 pub fn lent_number(clock: Clock) -> u8
-    ensures { (result ≡ lentNumber clock) × (result ≤ 2) }
+    ensures { (result ≡ lent_number clock) × (result ≤ 2) }
 {
     if DOTS < clock.len {
         return 2;
@@ -44,7 +44,7 @@ pub fn lent_number(clock: Clock) -> u8
 }
 
 pub fn advance(clock: Clock, actor: u16, counter: u64) -> Advanced
-    ensures { result ≡ advancedOf clock actor counter }
+    ensures { result ≡ advanced_of clock actor counter }
 {
     let number = lent_number(clock);
     if number != 0 {

@@ -9,10 +9,10 @@ use Rattle.map.specs.Removing.{remove}
 use Rattle.map.specs.Updating.{update}
 use Rattle.map.specs.Applying.{apply}
 use Rattle.map.specs.Valid.{ValidOp}
-use Rattle.maprecords.specs.Related.{readMap}
+use Rattle.maprecords.specs.Related.{read_map}
 use Rattle.acceptancelaws.proofs.Maps.{map-within}
 use Rattle.acceptancelaws.proofs.Ops.{op-within}
-use Rattle.anyorderlaws.specs.Calls.{AllDone, none, more, end, Called, MapImage, OpImages, RemovalImage, removalOf}
+use Rattle.anyorderlaws.specs.Calls.{AllDone, none, more, end, Called, MapImage, OpImages, RemovalImage, removal_of}
 use Rattle.anyorderlaws.proofs.Images.{ImageOf, reads, start, done-means, image-next, image-accepted}
 use Rattle.anyorderlaws.proofs.Leaves.{called-passed}
 use Rattle.alikelaws.specs.Runs.{op_of, ops_of, OwnDots}
@@ -35,13 +35,13 @@ valid-ops ops o i = let y = Memᴰ.of_map op_of ops i in rw (← y.2) (valid-op 
 
 module _ {s : List ℕ} {ops : List (List ℕ)} (h : MapImage s) (f : OpImages ops) where
   -- the map that calls end in
-  pub called-map : {last : List ℕ} → Called s ops last → (readMap last).map ≡ applied (readMap s).map (ops_of ops)
+  pub called-map : {last : List ℕ} → Called s ops last → (read_map last).map ≡ applied (read_map s).map (ops_of ops)
   called-map c =
-      let t = called-passed c in ap (λ x. (readMap x).map) t.1 ∙ ap (λ q. q.map) (reads (ends_as ops (start h) f t.0))
+      let t = called-passed c in ap (λ x. (read_map x).map) t.1 ∙ ap (λ q. q.map) (reads (ends_as ops (start h) f t.0))
 
 -- one call with a removal
 one-removed : {s o after : List ℕ} → MapImage s → RemovalImage o → Called s (o ∷ []) after
-    → (readMap after).map ≡ remove (readMap s).map (removalOf o)
+    → (read_map after).map ≡ remove (read_map s).map (removal_of o)
 unfolding fold apply
 one-removed {s} {o} h i c = called-map h (λ q j. let same : q ≡ o = Memᴰ.eq_of_singleton j in rw same i.image) c ∙ rw i.removes refl
 
@@ -53,6 +53,6 @@ stays-away-called {s} {ops} h f own = record {
   applied-again = λ {last} {after} {o} c r d.
       let t = called-passed c in
       let image : MapImage last = rw t.1 (image-accepted (ends_as ops (start h) f t.0)) in
-      rw (one-removed image r d) (removes-within (readMap s).map (ops_of ops) (map-within last).valid (op-within o).removal.valid
+      rw (one-removed image r d) (removes-within (read_map s).map (ops_of ops) (map-within last).valid (op-within o).removal.valid
       (rw (called-map h f c) (sourced (map-within s).valid (valid-ops ops) own)));
 }

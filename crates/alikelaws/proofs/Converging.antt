@@ -12,17 +12,17 @@ use lib.Seq.{append_snoc}
 use Rattle.listlaws.specs.Fold.{fold}
 use Rattle.listlaws.specs.Order.{◌∈◌, nil}
 use Rattle.listlaws.proofs.Orders.{apart}
-use Rattle.clock.specs.Dots.{counterIn}
+use Rattle.clock.specs.Dots.{counter_in}
 use Rattle.clock.proofs.Counters.{counter-nil}
 use Rattle.clock.proofs.Joins.{lawful-nil}
 use Rattle.removals.specs.declared.Removal.{Removal}
 use Rattle.entries.specs.declared.Update.{Update}
-use Rattle.entries.specs.Model.{entryAs}
+use Rattle.entries.specs.Model.{entry_as}
 use Rattle.removals.proofs.WaitingValid.{valid-none}
 use Rattle.entries.proofs.Packs.{dots-in, values-in}
 use Rattle.map.specs.declared.Map.{Map}
 use Rattle.map.specs.declared.Op.{Op}
-use Rattle.map.specs.Model.{seenBy, noMap}
+use Rattle.map.specs.Model.{seen_by, no_map}
 use Rattle.map.specs.Removing.{remove}
 use Rattle.map.specs.Updating.{update}
 use Rattle.map.specs.Applying.{apply}
@@ -31,17 +31,17 @@ use Rattle.map.proofs.Kept.{seen_of, valid-as}
 use Rattle.maplaws.specs.Among.{Exactly}
 use Rattle.alikelaws.specs.Among.{UpdateIn, RemovalIn}
 use Rattle.readiness.specs.declared.Readiness.TheVariants.{Next, Seen}
-use Rattle.readiness.specs.Ready.{readyUnder, ready}
+use Rattle.readiness.specs.Ready.{ready_under, ready}
 use Rattle.alikelaws.specs.Honest.{Honest}
 use Rattle.alikelaws.specs.Picture
-use Rattle.alikelaws.specs.Picture.{Matched, atKey}
+use Rattle.alikelaws.specs.Picture.{Matched, at_key}
 use Rattle.alikelaws.specs.Settings.{SameSettings}
 use Rattle.alikelaws.specs.OnMaps.{applied, ValidOps, Guarded, none, more}
 use Rattle.alikelaws.proofs.Guards.{next-means, seen-means}
 use Rattle.alikelaws.proofs.Entered.{at_none}
 use Rattle.alikelaws.proofs.Alike.{alike}
 use Rattle.alikelaws.proofs.Reports.{report-settings}
-use Rattle.loader.specs.Reports.{reportAt}
+use Rattle.loader.specs.Reports.{report_at}
 use Rattle.alikelaws.proofs.Worlds.{Right, right-same, right-removed, right-updated, seen-in}
 
 -- the operations of a run, one more at its end
@@ -73,10 +73,10 @@ module _ (done : List Op) (o : Op) where
   new-removal t = record { op = o; stands = Memᴰ.append_right done (Memᴰ.head refl); removes = t; is = refl }
 
 -- the empty map
-no-valid : Valid noMap
+no-valid : Valid no_map
 no-valid = valid-as lawful-nil (record { rising = nil; each = λ e i. absurd (Memᴰ.not-nil i) }) valid-none
 
-right-start : (h : List Op) → Right h (UpdateIn []) (RemovalIn []) noMap
+right-start : (h : List Op) → Right h (UpdateIn []) (RemovalIn []) no_map
 right-start h = record {
   valid = no-valid;
   pictures = record {
@@ -99,7 +99,7 @@ right-start h = record {
   removals = λ r i. absurd (Memᴰ.not-nil i.stands);
 }
   where
-    at : (k : ℕ) → atKey noMap k ≡ entryAs k [] []
+    at : (k : ℕ) → at_key no_map k ≡ entry_as k [] []
     at k = at_none [] k (λ e i. absurd (Memᴰ.not-nil i))
 
 right-cast : {h a b : List Op} {m : Map} → a ≡ b → Right h (UpdateIn a) (RemovalIn a) m → Right h (UpdateIn b) (RemovalIn b) m
@@ -126,7 +126,7 @@ module _ {h : List Op} (lawful : ValidOps h) (honest : Honest h) where
           (λ x. (old-removal done o x, λ q. ⊎_elim (λ z. z) (λ z. apart (sym t ∙ z.0)) (more-removals done o x q))) a
 
       go : (b : Bool) → o.up ≡ b
-          → (cond b (readyUnder (seenBy m) o.update) Next ≡ Next) ⊎ (cond b (readyUnder (seenBy m) o.update) Next ≡ Seen)
+          → (cond b (ready_under (seen_by m) o.update) Next ≡ Next) ⊎ (cond b (ready_under (seen_by m) o.update) Next ≡ Seen)
           → Right h (UpdateIn (done ++ (o ∷ []))) (RemovalIn (done ++ (o ∷ []))) (cond b (update m o.update) (remove m o.removal))
       go false t q = right-same
           (λ x. (old-update done o x, λ z. ⊎_elim (λ w. w) (λ w. apart (sym w.0 ∙ t)) (more-updates done o x z)))
@@ -144,14 +144,14 @@ module _ {h : List Op} (lawful : ValidOps h) (honest : Honest h) where
           ))
           (λ x. (old-removal done o x, λ z. ⊎_elim (λ w. w) (λ w. apart (sym t ∙ w.0)) (more-removals done o x z)))
           (right-updated h positive honest a k (record { op = o; stands = i; updates = t; is = refl })
-          (next-means (seenBy m) o.update q k.dot))
+          (next-means (seen_by m) o.update q k.dot))
       go true t (inr q) =
-          let s = seen-means (seenBy m) o.update q in
+          let s = seen-means (seen_by m) o.update q in
           let j : UpdateIn h o.update = record { op = o; stands = i; updates = t; is = refl } in
           rw (same s.1) (again t (seen-in h positive honest a o.update j s.1))
         where
-          same : o.update.dot.counter ≤ counterIn (seenBy m) o.update.dot.actor → update m o.update ≡ m
-          same n = unfold update in rw (le-leb o.update.dot.counter (counterIn (seenBy m) o.update.dot.actor) n)
+          same : o.update.dot.counter ≤ counter_in (seen_by m) o.update.dot.actor → update m o.update ≡ m
+          same n = unfold update in rw (le-leb o.update.dot.counter (counter_in (seen_by m) o.update.dot.actor) n)
 
   -- a run
   right-run : (done ops : List Op) {m : Map} → ((o : Op) → o ∈ ops → o ∈ h) → Guarded m ops → Right h (UpdateIn done) (RemovalIn done) m
@@ -163,12 +163,12 @@ module _ {h : List Op} (lawful : ValidOps h) (honest : Honest h) where
       (right-run (done ++ (o ∷ [])) ops (λ x j. f x (Memᴰ.tail j)) r (right-next (f o (Memᴰ.head refl)) g a))
 
   -- every map of a run by the guard is that of section 4
-  pub right_end : (ops : List Op) → ((o : Op) → o ∈ ops → o ∈ h) → Guarded noMap ops → Right h (UpdateIn ops) (RemovalIn ops) (applied noMap ops)
+  pub right_end : (ops : List Op) → ((o : Op) → o ∈ ops → o ∈ h) → Guarded no_map ops → Right h (UpdateIn ops) (RemovalIn ops) (applied no_map ops)
   right_end ops f g = right-run [] ops f g (right-start h)
 
   -- another run with the same operations
-  right-other : (ops others : List Op) → ((o : Op) → o ∈ ops → o ∈ h) → ((o : Op) → Exactly (o ∈ ops) (o ∈ others)) → Guarded noMap others
-      → Right h (UpdateIn ops) (RemovalIn ops) (applied noMap others)
+  right-other : (ops others : List Op) → ((o : Op) → o ∈ ops → o ∈ h) → ((o : Op) → Exactly (o ∈ ops) (o ∈ others)) → Guarded no_map others
+      → Right h (UpdateIn ops) (RemovalIn ops) (applied no_map others)
   right-other ops others f e k = right-same
       (λ x. (
         λ i. record { op = i.op; stands = (e i.op).1 i.stands; updates = i.updates; is = i.is },
@@ -182,15 +182,15 @@ module _ {h : List Op} (lawful : ValidOps h) (honest : Honest h) where
 
   -- T2 on maps: "two runs .. from the empty map, all operations in H, each update `next` or `seen` by the guard before its call. If the runs have the
   -- same operations, the last maps have the same settings", and every bay the same report
-  module _ (ops others : List Op) (f : (o : Op) → o ∈ ops → o ∈ h) (e : (o : Op) → Exactly (o ∈ ops) (o ∈ others)) (g : Guarded noMap ops)
-      (k : Guarded noMap others) where
-    pub converge : SameSettings (applied noMap ops) (applied noMap others)
+  module _ (ops others : List Op) (f : (o : Op) → o ∈ ops → o ∈ h) (e : (o : Op) → Exactly (o ∈ ops) (o ∈ others)) (g : Guarded no_map ops)
+      (k : Guarded no_map others) where
+    pub converge : SameSettings (applied no_map ops) (applied no_map others)
     converge =
         let a = right_end ops f g in
         let b = right-other ops others f e k in
         alike a.valid b.valid a.pictures b.pictures
 
-    pub converge-reports : (bay : ℕ) → reportAt (applied noMap ops) bay ≡ reportAt (applied noMap others) bay
-    unfolding reportAt
+    pub converge-reports : (bay : ℕ) → report_at (applied no_map ops) bay ≡ report_at (applied no_map others) bay
+    unfolding report_at
     converge-reports bay =
         report-settings ((right_end ops f g).pictures.keys bay) ((right-other ops others f e k).pictures.keys bay) (converge.values bay)

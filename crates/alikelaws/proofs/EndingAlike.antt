@@ -4,7 +4,7 @@ use mathlib.Core.Bool.{true}
 use mathlib.Core.List.Memᴰ
 use mathlib.Core.List.{List, []}
 use Prim.Native.Nat.{ℕ}
-use Rattle.maprecords.specs.Related.{readMap}
+use Rattle.maprecords.specs.Related.{read_map}
 use Rattle.anyorderlaws.specs.Calls.{OpImages}
 use Rattle.alikelaws.specs.Among.{UpdateIn, RemovalIn}
 use Rattle.alikelaws.specs.Honest.{Honest}
@@ -22,7 +22,7 @@ use Rattle.alikelaws.proofs.MakingCalls.{calls-honest, made-nowhere}
 
 -- section 4, of a map that was fed by the guard
 fed-pictured : {h ops : List (List ℕ)} {last : List ℕ} → OpImages h → Honest (ops_of h) → AllIn h ops → Fed [] ops last
-    → Pictures (UpdateIn (ops_of ops)) (RemovalIn (ops_of ops)) (readMap last).map
+    → Pictures (UpdateIn (ops_of ops)) (RemovalIn (ops_of ops)) (read_map last).map
 fed-pictured {h} {ops} i honest f c =
     let images : OpImages ops = λ o j. i o (f o j) in
     rw (fed-map images c) (right_end (valid-ops h) honest (ops_of ops) (same-ops ops h f) (fed-run images c)).pictures
@@ -33,7 +33,7 @@ own-dots {ops} f g u i =
     let y = Memᴰ.of_map op_of ops i.stands in
     let n = g y.0 y.1 in
     let up : (op_of y.0).up ≡ true = ap (λ o. o.up) y.2 ∙ i.updates in
-    let own = not-foreign (readMap n.map).map (op_of y.0) up (λ e. n.other
+    let own = not-foreign (read_map n.map).map (op_of y.0) up (λ e. n.other
     (n.asked ∙ foreign-word n.image.accepted (f y.0 y.1).accepted e)) in
     let same : (op_of y.0).update ≡ u = ap (λ o. o.update) y.2 ∙ i.is in
     rw same at own

@@ -6,29 +6,29 @@ use Prim.Native.Nat.{ℕ}
 use native.Mathlib.Omega.{arith}
 use Rattle.listlaws.specs.Pad.{pad}
 use Rattle.listlaws.specs.Sift.{sift}
-use Rattle.listlaws.specs.First.{firstIn}
+use Rattle.listlaws.specs.First.{first_in}
 use Rattle.listlaws.specs.Fold.{fold}
 use Rattle.listlaws.specs.Weave.{weave}
 use Rattle.clock.specs.declared.Dot.{Dot}
-use Rattle.clock.specs.Dots.{is_empty, counterIn, covers, order_of, cutDots, joinDots, addDot}
+use Rattle.clock.specs.Dots.{is_empty, counter_in, covers, order_of, cut_dots, join_dots, add_dot}
 use Rattle.clock.proofs.Examples.{dot, one}
-use Rattle.register.specs.Values.{yields, outdone, remaining, putValues, cutValues}
+use Rattle.register.specs.Values.{yields, outdone, remaining, put_values, cut_values}
 use Rattle.register.proofs.Examples.{value}
 use Rattle.entries.specs.declared.Entry.{Entry}
-use Rattle.entries.specs.Model.{entryAs}
-use Rattle.removals.specs.Model.{noRemoval}
-use Rattle.entries.specs.Entries.{cutEntry, removeFrom, removeEntries, putEntry, entry_at, putEntries}
-use Rattle.removals.specs.Waits.{listed, waits, clockBefore, unionKeys, uniteAll}
+use Rattle.entries.specs.Model.{entry_as}
+use Rattle.removals.specs.Model.{no_removal}
+use Rattle.entries.specs.Entries.{cut_entry, remove_from, remove_entries, put_entry, entry_at, put_entries}
+use Rattle.removals.specs.Waits.{listed, waits, clock_before, union_keys, unite_all}
 use Rattle.map.specs.declared.Op.{Op}
-use Rattle.map.specs.Model.{mapAs}
+use Rattle.map.specs.Model.{map_as}
 use Rattle.map.specs.Removing.{remove, afresh}
 use Rattle.map.specs.Updating.{update}
 use Rattle.map.specs.Applying.{apply}
-use Rattle.map.specs.Judging.{overDots, overEntries, overValues, overWaiting, overKeys, overNumber}
-use Rattle.asking.specs.Contexts.{addContext}
-use Rattle.asking.specs.Asking.{clockAt, updateUnder, makeUpdate, removalOp}
+use Rattle.map.specs.Judging.{over_dots, over_entries, over_values, over_waiting, over_keys, over_number}
+use Rattle.asking.specs.Contexts.{add_context}
+use Rattle.asking.specs.Asking.{clock_at, update_under, make_update, removal_op}
 use Rattle.readiness.specs.declared.Readiness.TheVariants.{Next, Hold}
-use Rattle.readiness.specs.Ready.{firstLacking, readyUnder, ready}
+use Rattle.readiness.specs.Ready.{first_lacking, ready_under, ready}
 use Rattle.answers.specs.Answer.{first_of, number_of, word_of, carried_of}
 use Rattle.oneimagelaws.specs.One.{GoodOp}
 use Rattle.alikelaws.proofs.Played.{Ends, Sets, Removes, RemovesEntry, Told, none, more, ends, sets-there, good-there}
@@ -36,11 +36,11 @@ use Rattle.alikelaws.proofs.Played.{removes-there, removes-entry-there, good-rem
 
 -- A, B and C write as actors 1, 2 and 3
 abbrev pub sets : ℕ → ℕ → List Dot → ℕ → Op
-sets a k put x = record { up = true; removal = noRemoval; update = record { dot = dot a 1; key = k; put = value put x } }
+sets a k put x = record { up = true; removal = no_removal; update = record { dot = dot a 1; key = k; put = value put x } }
 
 -- bay 5 removed
 abbrev pub without : List Dot → Op
-without c = removalOp c 5
+without c = removal_op c 5
 
 abbrev pub two : List Dot
 two = dot 1 1 ∷ dot 2 1 ∷ []
@@ -69,8 +69,8 @@ pub record E1 : Type 0 where
   pub next-at-A : Told (ten ∷ without (one 1 1) ∷ []) forty 0 0 0
   pub next-at-B : Told (ten ∷ []) forty 0 0 0
   -- at A it is gone; "B is given that removal: B boots 40"
-  pub at-A : Ends (ten ∷ without (one 1 1) ∷ forty ∷ without (one 2 1) ∷ []) (mapAs two [] [])
-  pub at-B : Ends (ten ∷ forty ∷ without (one 2 1) ∷ []) (mapAs two (entryAs 5 (one 1 1) (value (one 1 1) 40 ∷ []) ∷ []) [])
+  pub at-A : Ends (ten ∷ without (one 1 1) ∷ forty ∷ without (one 2 1) ∷ []) (map_as two [] [])
+  pub at-B : Ends (ten ∷ forty ∷ without (one 2 1) ∷ []) (map_as two (entry_as 5 (one 1 1) (value (one 1 1) 40 ∷ []) ∷ []) [])
 
 -- "E2, rm_get, all have all. C sets 6 (3:1). B is given it, sets 5 = 40 (2:1, put {2:1 3:1}), removes 5 by rm_get ({2:1}). A sets 5 = 41 (1:1)."
 abbrev six : Op
@@ -83,7 +83,7 @@ abbrev other : Op
 other = sets 1 5 (one 1 1) 41
 
 abbrev bay-six : Entry
-bay-six = entryAs 6 (one 3 1) (value (one 3 1) 9 ∷ [])
+bay-six = entry_as 6 (one 3 1) (value (one 3 1) 9 ∷ [])
 
 pub record E2 : Type 0 where
   pub sets-six : Sets [] 3 6 9 six
@@ -96,17 +96,17 @@ pub record E2 : Type 0 where
   pub next-after : Told (six ∷ after-six ∷ without (one 2 1) ∷ []) other 0 0 0
   -- "A drive that has 1:1 before the removal boots 40, one that has it after boots 41."
   pub before : Ends (six ∷ after-six ∷ other ∷ without (one 2 1) ∷ [])
-      (mapAs three (entryAs 5 (one 1 1) (value (one 3 1) 40 ∷ value (one 1 1) 41 ∷ []) ∷ bay-six ∷ []) [])
+      (map_as three (entry_as 5 (one 1 1) (value (one 3 1) 40 ∷ value (one 1 1) 41 ∷ []) ∷ bay-six ∷ []) [])
   pub after : Ends (six ∷ after-six ∷ without (one 2 1) ∷ other ∷ [])
-      (mapAs three (entryAs 5 (one 1 1) (value (one 1 1) 41 ∷ []) ∷ bay-six ∷ []) [])
+      (map_as three (entry_as 5 (one 1 1) (value (one 1 1) 41 ∷ []) ∷ bay-six ∷ []) [])
 
 -- "E3, actor's order alone. A sets 5 = 10 (1:1). B is given it, sets 5 = 40 (2:1). C is given 2:1 alone, removes 5 ({2:1})."
 pub record E3 : Type 0 where
   pub held : Told [] forty 21 1 1
   pub removes : Removes (forty ∷ []) 5 (one 2 1)
   -- "B is given the removal, C is given 1:1: B boots 40, C boots 10."
-  pub at-B : Ends (ten ∷ forty ∷ without (one 2 1) ∷ []) (mapAs two (entryAs 5 (one 1 1) (value (one 1 1) 40 ∷ []) ∷ []) [])
-  pub at-C : Ends (forty ∷ without (one 2 1) ∷ ten ∷ []) (mapAs two (entryAs 5 (one 1 1) (value (one 1 1) 10 ∷ []) ∷ []) [])
+  pub at-B : Ends (ten ∷ forty ∷ without (one 2 1) ∷ []) (map_as two (entry_as 5 (one 1 1) (value (one 1 1) 40 ∷ []) ∷ []) [])
+  pub at-C : Ends (forty ∷ without (one 2 1) ∷ ten ∷ []) (map_as two (entry_as 5 (one 1 1) (value (one 1 1) 10 ∷ []) ∷ []) [])
 
 -- "E4, only a reader out of order. 1:1 on 6; 2:1 on 5 after it; 3:1 on 5 after both; a removal of 5 under {1:1}."
 abbrev first : Op
@@ -116,7 +116,7 @@ abbrev third : Op
 third = sets 3 5 three 41
 
 abbrev first-bay : Entry
-first-bay = entryAs 6 (one 1 1) (value (one 1 1) 9 ∷ [])
+first-bay = entry_as 6 (one 1 1) (value (one 1 1) 9 ∷ [])
 
 pub record E4 : Type 0 where
   pub sets_first : Sets [] 1 6 9 first
@@ -124,10 +124,10 @@ pub record E4 : Type 0 where
   pub sets-third : Sets (first ∷ forty ∷ []) 3 5 41 third
   pub removes : Removes (first ∷ []) 5 (one 1 1)
   pub held : Told [] third 21 1 1
-  pub in_order : Ends (first ∷ forty ∷ third ∷ without (one 1 1) ∷ []) (mapAs three (entryAs 5 late (value late 41 ∷ []) ∷ first-bay ∷ []) [])
+  pub in_order : Ends (first ∷ forty ∷ third ∷ without (one 1 1) ∷ []) (map_as three (entry_as 5 late (value late 41 ∷ []) ∷ first-bay ∷ []) [])
   -- "The reader takes 3:1, the removal, 1:1, 2:1: two values under 5, the overwritten one too."
   pub reader : Ends (third ∷ without (one 1 1) ∷ first ∷ forty ∷ [])
-      (mapAs three (entryAs 5 late (value late 41 ∷ value two 40 ∷ []) ∷ first-bay ∷ []) [])
+      (map_as three (entry_as 5 late (value late 41 ∷ value two 40 ∷ []) ∷ first-bay ∷ []) [])
 
 -- "E5, other bytes. A sets 5 (1:1), removes 5 ({1:1}). B is given 1:1, sets 5 = 40 (2:1). Each is given the other's"
 pub record E5 : Type 0 where
@@ -138,8 +138,8 @@ pub record E5 : Type 0 where
   pub next-at-A : Told (ten ∷ without (one 1 1) ∷ []) forty 0 0 0
   pub next-at-B : Told (ten ∷ []) forty 0 0 0
   -- "at A 40 has the clock {1:1 2:1}, at B {2:1}"
-  pub at-A : Ends (ten ∷ without (one 1 1) ∷ forty ∷ []) (mapAs two (entryAs 5 (one 2 1) (value two 40 ∷ []) ∷ []) [])
-  pub at-B : Ends (ten ∷ forty ∷ without (one 1 1) ∷ []) (mapAs two (entryAs 5 (one 2 1) (value (one 2 1) 40 ∷ []) ∷ []) [])
+  pub at-A : Ends (ten ∷ without (one 1 1) ∷ forty ∷ []) (map_as two (entry_as 5 (one 2 1) (value two 40 ∷ []) ∷ []) [])
+  pub at-B : Ends (ten ∷ forty ∷ without (one 1 1) ∷ []) (map_as two (entry_as 5 (one 2 1) (value (one 2 1) 40 ∷ []) ∷ []) [])
 
 pub record Counterexamples : Type 0 where
   pub e1 : E1
@@ -161,9 +161,9 @@ pub record GoodOps : Type 0 where
   pub two_good : GoodOp (without (one 2 1))
 
 pub goods : GoodOps
-unfolding pad sift firstIn fold weave is_empty counterIn covers order_of cutDots joinDots addDot yields outdone remaining putValues cutValues cutEntry
-    listed removeFrom removeEntries waits clockBefore unionKeys uniteAll remove afresh putEntry entry_at putEntries update apply clockAt addContext
-    updateUnder makeUpdate overDots overEntries overValues overWaiting overKeys overNumber
+unfolding pad sift first_in fold weave is_empty counter_in covers order_of cut_dots join_dots add_dot yields outdone remaining put_values cut_values cut_entry
+    listed remove_from remove_entries waits clock_before union_keys unite_all remove afresh put_entry entry_at put_entries update apply clock_at add_context
+    update_under make_update over_dots over_entries over_values over_waiting over_keys over_number
 goods = record {
   ten-good = t;
   forty-good = f;
@@ -190,9 +190,9 @@ goods = record {
 
 -- the end theorem of this file
 pub counterexamples : Counterexamples
-unfolding pad sift firstIn fold weave is_empty counterIn covers order_of cutDots joinDots addDot yields outdone remaining putValues cutValues cutEntry
-    listed removeFrom removeEntries waits clockBefore unionKeys uniteAll remove afresh putEntry entry_at putEntries update apply clockAt addContext
-    updateUnder makeUpdate overDots overEntries overValues overWaiting overKeys overNumber firstLacking readyUnder ready first_of number_of word_of
+unfolding pad sift first_in fold weave is_empty counter_in covers order_of cut_dots join_dots add_dot yields outdone remaining put_values cut_values cut_entry
+    listed remove_from remove_entries waits clock_before union_keys unite_all remove afresh put_entry entry_at put_entries update apply clock_at add_context
+    update_under make_update over_dots over_entries over_values over_waiting over_keys over_number first_lacking ready_under ready first_of number_of word_of
     carried_of
 counterexamples = record {
   e1 = record {

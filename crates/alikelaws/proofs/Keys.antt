@@ -12,14 +12,14 @@ use Rattle.listlaws.specs.Sift.{sift, those}
 use Rattle.listlaws.specs.Order.{◌∈◌}
 use Rattle.listlaws.proofs.Those.{those-means, those-holds}
 use Rattle.clock.specs.declared.Dot.{Dot}
-use Rattle.clock.specs.Dots.{counterIn, covers, cutDots, addDot}
+use Rattle.clock.specs.Dots.{counter_in, covers, cut_dots, add_dot}
 use Rattle.clock.specs.Lawful.{Lawful}
 use Rattle.clock.proofs.Counters.{counter-nil}
 use Rattle.clock.proofs.Cuts.{counter-cut}
 use Rattle.clock.proofs.Joins.{counter-add}
 use Rattle.clock.proofs.Covers.{covers-means}
 use Rattle.register.specs.declared.Value.{Value}
-use Rattle.register.specs.Values.{cutValues, putValues}
+use Rattle.register.specs.Values.{cut_values, put_values}
 use Rattle.entries.specs.declared.Update.{Update}
 use Rattle.scan.proofs.Eachs.{decide}
 use Rattle.maplaws.specs.Among.{Exactly}
@@ -67,27 +67,27 @@ at_same e f a = record {
 
 -- a cut
 module _ {Up : Update → Type 0} {Sp Tp : Dot → Type 0} (by : List Dot)
-    (e : (d : Dot) → Exactly (Tp d) (Sp d × (counterIn by d.actor < d.counter)))
+    (e : (d : Dot) → Exactly (Tp d) (Sp d × (counter_in by d.actor < d.counter)))
     (closed : (u : Update) → Up u → Names by u → covers by (put_of u) ≡ true) {c : List Dot} (h : Lawful c) {l : List Value}
     (a : AtKey Up Sp c l) where
   less : {u : Update} → Standing Up Tp u → Standing Up Sp u
   less {u} s = record { among = s.among; spared = ((e u.dot).0 s.spared).0; unnamed = s.unnamed }
 
-  cut-above : (u : Update) → Up u → Tp u.dot → Names (cutDots by c) u
+  cut-above : (u : Update) → Up u → Tp u.dot → Names (cut_dots by c) u
   cut-above u i s =
       let r = (e u.dot).0 s in
       let n = a.above u i r.0 in
       let q = counter-cut by h u.dot.actor in
-      omega (arith, rw (lt-ltb (counterIn by u.dot.actor) (counterIn c u.dot.actor) (omega (arith, n, r.1))) at q, n)
+      omega (arith, rw (lt-ltb (counter_in by u.dot.actor) (counter_in c u.dot.actor) (omega (arith, n, r.1))) at q, n)
 
-  pub cut_at : AtKey Up Tp (cutDots by c) (cutValues by l)
+  pub cut_at : AtKey Up Tp (cut_dots by c) (cut_values by l)
   cut_at = record {
     above = cut-above;
-    reached = λ x p. decide (ltb (counterIn by x) (counterIn c x))
+    reached = λ x p. decide (ltb (counter_in by x) (counter_in c x))
         (λ t. let q = rw t at (counter-cut by h x) in
-        let b = ltb-true (counterIn by x) (counterIn c x) t in
+        let b = ltb-true (counter_in by x) (counter_in c x) t in
         let r = a.reached x (omega (arith, b)) in
-        (r.0, r.1, (e r.0.dot).1 (r.2, omega (arith, b, r.4, ap (counterIn by) r.3)), r.3, r.4 ∙ sym q))
+        (r.0, r.1, (e r.0.dot).1 (r.2, omega (arith, b, r.4, ap (counter_in by) r.3)), r.3, r.4 ∙ sym q))
         (λ t. absurd (omega (arith, rw t at (counter-cut by h x), p)));
     updates = those (past by) a.updates;
     matched = match-cut by a.matched (λ u i. closed u (a.stand u i).among);
@@ -96,21 +96,21 @@ module _ {Up : Update → Type 0} {Sp Tp : Dot → Type 0} (by : List Dot)
         let s = a.stand u r.0 in
         record {
           among = s.among;
-          spared = (e u.dot).1 (s.spared, ltb-true (counterIn by u.dot.actor) u.dot.counter r.1);
+          spared = (e u.dot).1 (s.spared, ltb-true (counter_in by u.dot.actor) u.dot.counter r.1);
           unnamed = s.unnamed;
         };
     every = λ u s. those-holds (past by) (a.every u (less s))
-        (lt-ltb (counterIn by u.dot.actor) u.dot.counter ((e u.dot).0 s.spared).1);
+        (lt-ltb (counter_in by u.dot.actor) u.dot.counter ((e u.dot).0 s.spared).1);
   }
 
   -- nothing is left of the entry's clock: it goes with all it holds
-  pub cut-gone : cutDots by c ≡ [] → AtKey Up Tp [] []
+  pub cut-gone : cut_dots by c ≡ [] → AtKey Up Tp [] []
   cut-gone z =
       let none : (u : Update) → Up u → Tp u.dot → ⊥ = λ u i s. omega (
         arith,
         ((e u.dot).0 s).1,
         cut-above u i s,
-        ap (λ x. counterIn x u.dot.actor) z,
+        ap (λ x. counter_in x u.dot.actor) z,
         counter-nil u.dot.actor,
       ) in
       record {
@@ -126,7 +126,7 @@ module _ {Up : Update → Type 0} {Sp Tp : Dot → Type 0} (by : List Dot)
 -- an update that was not seen, whose put clock is closed, and that nothing seen names
 module _ {Up : Update → Type 0} {Sp : Dot → Type 0} (u : Update) {c : List Dot} (h : Lawful c) {l : List Value} (a : AtKey Up Sp c l)
     (seen : List Dot) (names : (x : Update) → Up x → Names seen x) (known : (x : Update) → Up x → covers seen (put_of x) ≡ true)
-    (new : counterIn seen u.dot.actor < u.dot.counter) (within : covers seen c ≡ true)
+    (new : counter_in seen u.dot.actor < u.dot.counter) (within : covers seen c ≡ true)
     (closed : (x : Update) → Up x → Names (put_of u) x → covers (put_of u) (put_of x) ≡ true) (f : ValueOf u u.put) where
   -- with the update, and with its dot
   abbrev pub More : Update → Type 0
@@ -136,13 +136,13 @@ module _ {Up : Update → Type 0} {Sp : Dot → Type 0} (u : Update) {c : List D
   Also d = Sp d ⊎ (d ≡ u.dot)
 
   unseen : {x : Update} → Up x → x.dot ≡ u.dot → ⊥
-  unseen {x} i q = omega (arith, names x i, new, ap (λ d. counterIn seen d.actor) q, ap (λ d. d.counter) q)
+  unseen {x} i q = omega (arith, names x i, new, ap (λ d. counter_in seen d.actor) q, ap (λ d. d.counter) q)
 
-  not_named : (x : Update) → Up x → counterIn (put_of x) u.dot.actor < u.dot.counter
+  not_named : (x : Update) → Up x → counter_in (put_of x) u.dot.actor < u.dot.counter
   not_named x i = omega (arith, new, covers-means seen (put_of x) (known x i) u.dot.actor)
 
-  added : (x : ℕ) (b : Bool) → eqb u.dot.actor x ≡ b → 0 < counterIn (addDot c u.dot) x
-      → (v : Update) × More v × Also v.dot × (v.dot.actor ≡ x) × (v.dot.counter ≡ counterIn (addDot c u.dot) x)
+  added : (x : ℕ) (b : Bool) → eqb u.dot.actor x ≡ b → 0 < counter_in (add_dot c u.dot) x
+      → (v : Update) × More v × Also v.dot × (v.dot.actor ≡ x) × (v.dot.counter ≡ counter_in (add_dot c u.dot) x)
   added x true t p =
       let same = eqb-true u.dot.actor x t in (
         u,
@@ -154,7 +154,7 @@ module _ {Up : Update → Type 0} {Sp : Dot → Type 0} (u : Update) {c : List D
           rw t at (counter-add h u.dot x),
           covers-means seen c within x,
           new,
-          ap (counterIn seen) same,
+          ap (counter_in seen) same,
         ),
       )
   added x false t p =
@@ -162,14 +162,14 @@ module _ {Up : Update → Type 0} {Sp : Dot → Type 0} (u : Update) {c : List D
       let r = a.reached x (omega (arith, p, q)) in
       (r.0, inl r.1, inl r.2, r.3, r.4 ∙ sym q)
 
-  grows : (x : ℕ) → counterIn c x ≤ counterIn (addDot c u.dot) x
+  grows : (x : ℕ) → counter_in c x ≤ counter_in (add_dot c u.dot) x
   grows x = decide (eqb u.dot.actor x) (λ t. omega (arith, rw t at (counter-add h u.dot x)))
       (λ t. omega (arith, rw t at (counter-add h u.dot x)))
 
-  own-added : Names (addDot c u.dot) u
+  own-added : Names (add_dot c u.dot) u
   own-added = omega (arith, rw (eq-eqb u.dot.actor u.dot.actor refl) at (counter-add h u.dot u.dot.actor))
 
-  pub put-at : AtKey More Also (addDot c u.dot) (putValues l u.put)
+  pub put-at : AtKey More Also (add_dot c u.dot) (put_values l u.put)
   put-at = record {
     above = λ x i s. ⊎_elim
         (λ j. ⊎_elim (λ t. omega (arith, a.above x j t, grows x.dot.actor)) (λ q. absurd (unseen j q)) s)
@@ -187,7 +187,7 @@ module _ {Up : Update → Type 0} {Sp : Dot → Type 0} (u : Update) {c : List D
         (λ j. ⊎_elim
         (λ t. Memᴰ.append_left (u ∷ []) (those-holds (past (put_of u)) (a.every x (before x j t s))
         (decide (past (put_of u) x) (λ q. q) (λ q. absurd (s.unnamed u (inr refl) (λ z. unseen j (ap (λ y. y.dot) (sym z)))
-        (ltb-false (counterIn (put_of u) x.dot.actor) x.dot.counter q))))))
+        (ltb-false (counter_in (put_of u) x.dot.actor) x.dot.counter q))))))
         (λ q. absurd (unseen j q)) s.spared)
         (λ (q : x ≡ u). Memᴰ.append_right (those (past (put_of u)) a.updates) (Memᴰ.head q)) s.among;
   }
@@ -199,7 +199,7 @@ module _ {Up : Update → Type 0} {Sp : Dot → Type 0} (u : Update) {c : List D
         spared = inl s.spared;
         unnamed = λ y i n q. ⊎_elim (λ j. s.unnamed y j n q)
             (λ (z : y ≡ u). let w : Names (put_of u) x = rw z at q in
-            omega (arith, w, ltb-true (counterIn (put_of u) x.dot.actor) x.dot.counter t)) i;
+            omega (arith, w, ltb-true (counter_in (put_of u) x.dot.actor) x.dot.counter t)) i;
       }
 
       fresh : Standing More Also u

@@ -9,21 +9,21 @@ use Prim.Native.Nat.{ℕ, ◌^◌, ◌%◌, ◌<◌}
 use native.Mathlib.Omega.{arith}
 use lib.ListN.{take}
 use Rattle.listlaws.proofs.Orders.{apart}
-use Rattle.clock.specs.Dots.{clockOf, covers}
+use Rattle.clock.specs.Dots.{clock_of, covers}
 use Rattle.clock.proofs.Packs.{dots-of}
 use Rattle.entries.specs.declared.Update.{Update}
-use Rattle.removals.specs.Model.{underOf, listedIn}
+use Rattle.removals.specs.Model.{under_of, listed_in}
 use Rattle.removals.specs.Waits.{listed}
 use Rattle.removals.proofs.Packs.{keys-of}
 use Rattle.removals.proofs.Unions.{listed-holds}
-use Rattle.map.specs.Model.{seenBy, noMap}
-use Rattle.asking.specs.Asking.{makeUpdate, removalOp}
-use Rattle.maprecords.specs.Related.{readMap}
-use Rattle.promises.specs.Calls.{given, updateAnswer}
+use Rattle.map.specs.Model.{seen_by, no_map}
+use Rattle.asking.specs.Asking.{make_update, removal_op}
+use Rattle.maprecords.specs.Related.{read_map}
+use Rattle.promises.specs.Calls.{given, update_answer}
 use Rattle.promises.specs.Promises.{UpdatePromise, RmReadCtxPromise}
 use Rattle.readbacklaws.specs.Reads.{ReadsOp}
 use Rattle.readbacklaws.proofs.Back.{answers-read-back, zeros}
-use Rattle.anyorderlaws.specs.Calls.{MapImage, OpImage, OpImages, RemovalImage, removalOf}
+use Rattle.anyorderlaws.specs.Calls.{MapImage, OpImage, OpImages, RemovalImage, removal_of}
 use Rattle.anyorderlaws.proofs.Leaves.{answers-zero}
 use Rattle.alikelaws.specs.Among.{UpdateIn}
 use Rattle.alikelaws.specs.Runs.{op_of, ops_of}
@@ -55,7 +55,7 @@ module _ {h : List (List ℕ)} (b : Built h) {map : List ℕ} (d : Drive h map) 
   its-images : OpImages d.ops
   its-images o i = b.images o (d.among o i)
 
-  its_map : (readMap map).map ≡ applied noMap (ops_of d.ops)
+  its_map : (read_map map).map ≡ applied no_map (ops_of d.ops)
   its_map = fed-map its-images d.fed
 
   its-stage : Stage (ops_of h) (ops_of d.ops)
@@ -70,10 +70,10 @@ module _ {h : List (List ℕ)} (b : Built h) {map : List ℕ} (d : Drive h map) 
       → actor < 2 ^ 16 → key < 2 ^ 32 → value < 2 ^ 64 → origin < 2 ^ 16
       → UpdatePromise map actor key value origin entry exit word → word < 2 ^ 32 → Built (take word exit ∷ h)
   update-built {entry} {exit} {word} {actor} {key} {value} {origin} e a k v o p w =
-      let made = makeUpdate (readMap map).map actor key (given value origin) in
+      let made = make_update (read_map map).map actor key (given value origin) in
       let r = whole_word (ReadsOp made.op) exit w
       (answers-read-back.update map actor key value origin its-image.bytes a k v o entry exit word p (omega arith)) in
-      let z : made.number ≡ 0 = (zeros (updateAnswer map actor key value origin) entry (answers-zero p w)).own in
+      let z : made.number ≡ 0 = (zeros (update_answer map actor key value origin) entry (answers-zero p w)).own in
       let same : made ≡ record { number = 0; op = op_of (take word exit) } = λ i. record { number = z i; op = sym r.same i } in
       record {
         made = MadeOps.updated actor key (given value origin) b.made its-stage e (rw its_map at same);
@@ -82,9 +82,9 @@ module _ {h : List (List ℕ)} (b : Built h) {map : List ℕ} (d : Drive h map) 
 
   -- castribba_rm_read_ctx on it
   removal-reads : {entry exit : List ℕ} {word key : ℕ} → key < 2 ^ 32 → RmReadCtxPromise map key entry exit word → word < 2 ^ 32
-      → ReadsOp (removalOp (seenBy (readMap map).map) key) (take word exit)
+      → ReadsOp (removal_op (seen_by (read_map map).map) key) (take word exit)
   removal-reads {entry} {exit} {word} {key} k p w =
-      whole_word (ReadsOp (removalOp (seenBy (readMap map).map) key)) exit w
+      whole_word (ReadsOp (removal_op (seen_by (read_map map).map) key)) exit w
       (answers-read-back.rm-read-ctx map key its-image.bytes k entry exit word p (omega arith))
 
   removal-built : {entry exit : List ℕ} {word key : ℕ} → key < 2 ^ 32 → RmReadCtxPromise map key entry exit word → word < 2 ^ 32
@@ -92,7 +92,7 @@ module _ {h : List (List ℕ)} (b : Built h) {map : List ℕ} (d : Drive h map) 
   removal-built {key = key} k p w =
       let r = removal-reads k p w in
       record {
-        made = MadeOps.removed key b.made its-stage (ap (λ m. removalOp (seenBy m) key) (sym its_map) ∙ sym r.same);
+        made = MadeOps.removed key b.made its-stage (ap (λ m. removal_op (seen_by m) key) (sym its_map) ∙ sym r.same);
         images = images-more b.images (record { bytes = r.bytes; accepted = r.accepted });
       }
 
@@ -116,17 +116,17 @@ made-nowhere m {map} d {exit = exit} {word = word} {key = key} k p w = record {
         image = record { bytes = r.bytes; accepted = r.accepted };
         removes = ap (λ o. o.up) r.same;
       } in
-      let under : underOf (removalOf (take word exit)) ≡ seenBy (readMap map).map = ap (λ o. underOf o.removal) r.same
-      ∙ dots-of {c = clockOf (seenBy (readMap map).map)} (seenBy (readMap map).map) refl in
-      let lists : listedIn (removalOf (take word exit)) ≡ key ∷ [] = ap (λ o. listedIn o.removal) r.same ∙ keys-of (key ∷ []) in
-      let t : listed (listedIn (removalOf (take word exit))) e.key ≡ true = rw (lists, q) (listed-holds (Memᴰ.head refl)) in
+      let under : under_of (removal_of (take word exit)) ≡ seen_by (read_map map).map = ap (λ o. under_of o.removal) r.same
+      ∙ dots-of {c = clock_of (seen_by (read_map map).map)} (seen_by (read_map map).map) refl in
+      let lists : listed_in (removal_of (take word exit)) ≡ key ∷ [] = ap (λ o. listed_in o.removal) r.same ∙ keys-of (key ∷ []) in
+      let t : listed (listed_in (removal_of (take word exit))) e.key ≡ true = rw (lists, q) (listed-holds (Memᴰ.head refl)) in
       let a = (stays-away-called i f own).in-any-order c j image e x v y t in
       let known = (right_end (valid-made b.made) (honest-made b.made) (ops_of d.ops) (its-stage b d).among (its-stage b d).guarded).known in
       record {
         under = a.under;
         source = (
           a.source.0,
-          λ u z g. apart (sym (known u z) ∙ ap₂ covers (ap (λ n. seenBy n) (sym (its_map b d)) ∙ sym under) g ∙ a.source.1),
+          λ u z g. apart (sym (known u z) ∙ ap₂ covers (ap (λ n. seen_by n) (sym (its_map b d)) ∙ sym under) g ∙ a.source.1),
         );
         within = a.within;
       };

@@ -1,7 +1,7 @@
 -- When a withdrawn value stays away, and when drives end alike: the theorems over the calls, in the words of their users.
 use Rattle.std.specs.Prelude.{List, [], ℕ, ◌^◌, ◌<◌, take}
 use Rattle.listlaws.specs.Order.{◌∈◌}
-use Rattle.maprecords.specs.Related.{readMap}
+use Rattle.maprecords.specs.Related.{read_map}
 use Rattle.promises.specs.Promises.{RmReadCtxPromise}
 use Rattle.maplaws.specs.Among.{Exactly}
 use Rattle.anyorderlaws.specs.Calls.{MapImage, OpImages}
@@ -32,7 +32,7 @@ pub record EndingAlike : Type 0 where
       → RmReadCtxPromise map key entry exit word → word < 2 ^ 32 → StandsNowhere d.ops key (take word exit)
   -- section 4, "What every map is": a function of the operations that a drive has applied
   pub pictured : {h ops : List (List ℕ)} {last : List ℕ} → OpImages h → Honest (ops_of h) → AllIn h ops → Fed [] ops last
-      → Pictures (UpdateIn (ops_of ops)) (RemovalIn (ops_of ops)) (readMap last).map
+      → Pictures (UpdateIn (ops_of ops)) (RemovalIn (ops_of ops)) (read_map last).map
   -- T2: "Let H be honest, and two runs of accepted applies from the empty map, all operations in H, each update `next` or `seen` by the guard before
   -- its call. If the runs have the same operations, the last maps have the same settings, and `castribba_len` and `castribba_bays` answer the same
   -- bytes." Not the same images.

@@ -2,14 +2,14 @@
 use Rattle.std.specs.Prelude.{List, map, ℕ}
 use Rattle.entries.specs.declared.Update.{Update}
 use Rattle.map.specs.declared.Op.{Op}
-use Rattle.opimage.specs.OpImage.{readOp}
+use Rattle.opimage.specs.OpImage.{read_op}
 use Rattle.alikelaws.specs.Among.{UpdateIn}
 use Rattle.readiness.specs.Ready.{put_of}
 use Rattle.alikelaws.specs.Honest.{Names}
 
 -- the operations that images hold
 abbrev pub op_of : List ℕ → Op
-op_of o = (readOp o).op
+op_of o = (read_op o).op
 
 abbrev pub ops_of : List (List ℕ) → List Op
 ops_of ops = map op_of ops

@@ -2,19 +2,19 @@
 use Rattle.std.specs.Prelude.{◌≡◌, ℕ}
 use mathlib.Core.List.{List, map, Permᴰ}
 use Rattle.register.specs.declared.Content.{Content}
-use Rattle.entries.specs.Model.{dotsIn, valuesIn}
+use Rattle.entries.specs.Model.{dots_in, values_in}
 use Rattle.map.specs.declared.Map.{Map}
-use Rattle.map.specs.Model.{seenBy, waitingIn}
-use Rattle.alikelaws.specs.Picture.{atKey}
+use Rattle.map.specs.Model.{seen_by, waiting_in}
+use Rattle.alikelaws.specs.Picture.{at_key}
 
 -- a key's values without their clocks
-abbrev pub contentsAt : Map → ℕ → List Content
-contentsAt m k = map (λ v. v.value) (valuesIn (atKey m k))
+abbrev pub contents_at : Map → ℕ → List Content
+contents_at m k = map (λ v. v.value) (values_in (at_key m k))
 
 pub record SameSettings (m n : Map) : Type 0 where
   -- "The frame of a map is its clock, entry clocks and waiting removals (kinds 1, 2, 5, 6)."
-  pub clock : seenBy m ≡ seenBy n
-  pub entries : (k : ℕ) → dotsIn (atKey m k) ≡ dotsIn (atKey n k)
-  pub waiting : waitingIn m ≡ waitingIn n
+  pub clock : seen_by m ≡ seen_by n
+  pub entries : (k : ℕ) → dots_in (at_key m k) ≡ dots_in (at_key n k)
+  pub waiting : waiting_in m ≡ waiting_in n
   -- "kind 3 as a heap"
-  pub values : (k : ℕ) → Permᴰ (contentsAt m k) (contentsAt n k)
+  pub values : (k : ℕ) → Permᴰ (contents_at m k) (contents_at n k)

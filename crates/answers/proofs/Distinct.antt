@@ -13,9 +13,9 @@ use Rattle.listlaws.specs.Order.{◌∈◌, Ascending, next, by}
 use Rattle.listlaws.specs.Fold.{fold}
 use Rattle.scan.proofs.Eachs.{decide}
 use Rattle.removals.specs.declared.Removal.{Removal}
-use Rattle.removals.specs.Model.{listedIn}
-use Rattle.mapimage.specs.Sorted.{insert, inOrder}
-use Rattle.mapimage.specs.MapImage.{flatFrom, keyNumber, keyNumbers}
+use Rattle.removals.specs.Model.{listed_in}
+use Rattle.mapimage.specs.Sorted.{insert, in_order}
+use Rattle.mapimage.specs.MapImage.{flat_from, key_number, key_numbers}
 use Rattle.mapimage.proofs.Sorts.{inserted}
 
 pub data Distinct : List ℕ → Type 0 where
@@ -37,8 +37,8 @@ from s (x ∷ l) (one_more n d) h =
     let p = from (insert x s) l d (λ z i j. ⊎_elim (λ (q : z ≡ x). n (rw q at i)) (λ k. h z (Memᴰ.tail i) k) (inserted x s z j)) in
     omega arith
 
-pub length-order : (l : List ℕ) → Distinct l → length (inOrder l) ≡ length l
-unfolding inOrder
+pub length-order : (l : List ℕ) → Distinct l → length (in_order l) ≡ length l
+unfolding in_order
 length-order l d = from [] l d (λ x i j. absurd (Memᴰ.not-nil j)) ∙ zero-add (length l)
 
 append-distinct : (l : List ℕ) {m : List ℕ} → Distinct l → Distinct m → ((x : ℕ) → x ∈ l → x ∈ m → ⊥) → Distinct (l ++ m)
@@ -49,29 +49,29 @@ append-distinct (x ∷ l) (one_more n c) d h =
 
 -- a key's number tells its index
 module _ (index : ℕ) where
-  number-has : (keys : List ℕ) (z : ℕ) → z ∈ map (keyNumber index) keys → (k : ℕ) × (k ∈ keys) × (z ≡ k * 256 + index)
+  number-has : (keys : List ℕ) (z : ℕ) → z ∈ map (key_number index) keys → (k : ℕ) × (k ∈ keys) × (z ≡ k * 256 + index)
   number-has [] z i = absurd (Memᴰ.not-nil i)
   number-has (k ∷ l) z i =
       ⊎_elim (λ (q : z ≡ k * 256 + index). (k, Memᴰ.head refl, q)) (λ j. let (h, m, q) = number-has l z j in (h, Memᴰ.tail m, q))
       (Memᴰ.cases_cons i)
 
-  numbers-distinct : (keys : List ℕ) → Ascending (by (λ k. k)) keys → Distinct (map (keyNumber index) keys)
+  numbers-distinct : (keys : List ℕ) → Ascending (by (λ k. k)) keys → Distinct (map (key_number index) keys)
   numbers-distinct [] a = no_number
   numbers-distinct (k ∷ l) (next b a) =
       one_more (λ i. let (h, m, q) = number-has l (k * 256 + index) i in let t = ltb-true k h (b h m) in omega arith) (numbers-distinct l a)
 
-later-index : (i : ℕ) (l : List Removal) (z : ℕ) → i + length l ≤ 256 → z ∈ flatFrom keyNumbers i l → i ≤ z % 256
-unfolding flatFrom
+later-index : (i : ℕ) (l : List Removal) (z : ℕ) → i + length l ≤ 256 → z ∈ flat_from key_numbers i l → i ≤ z % 256
+unfolding flat_from
 later-index i [] z f m = absurd (Memᴰ.not-nil m)
 later-index i (r ∷ l) z f m =
-    ⊎_elim (λ j. let (k, n, q) = number-has i (listedIn r) z j in omega arith) (λ j. let h = later-index (i + 1) l z (omega arith) j in omega arith)
-    (Memᴰ.append_cases (keyNumbers i r) m)
+    ⊎_elim (λ j. let (k, n, q) = number-has i (listed_in r) z j in omega arith) (λ j. let h = later-index (i + 1) l z (omega arith) j in omega arith)
+    (Memᴰ.append_cases (key_numbers i r) m)
 
-pub keys-distinct : (i : ℕ) (l : List Removal) → i + length l ≤ 256 → ((r : Removal) → r ∈ l → Ascending (by (λ k. k)) (listedIn r))
-    → Distinct (flatFrom keyNumbers i l)
-unfolding flatFrom
+pub keys-distinct : (i : ℕ) (l : List Removal) → i + length l ≤ 256 → ((r : Removal) → r ∈ l → Ascending (by (λ k. k)) (listed_in r))
+    → Distinct (flat_from key_numbers i l)
+unfolding flat_from
 keys-distinct i [] f a = no_number
 keys-distinct i (r ∷ l) f a =
-    append-distinct (keyNumbers i r) (numbers-distinct i (listedIn r) (a r (Memᴰ.head refl)))
+    append-distinct (key_numbers i r) (numbers-distinct i (listed_in r) (a r (Memᴰ.head refl)))
     (keys-distinct (i + 1) l (omega arith) (λ w m. a w (Memᴰ.tail m)))
-    (λ z m n. let (k, j, q) = number-has i (listedIn r) z m in let h = later-index (i + 1) l z (omega arith) n in omega arith)
+    (λ z m n. let (k, j, q) = number-has i (listed_in r) z m in let h = later-index (i + 1) l z (omega arith) n in omega arith)

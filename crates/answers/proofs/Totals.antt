@@ -7,7 +7,7 @@ use native.Mathlib.Omega.{arith}
 use lib.ListN.{length, take, drop, get_or, length-append}
 use Rattle.listlaws.specs.Order.{◌∈◌}
 use Rattle.listlaws.proofs.Rests.{drop-step, drop-end}
-use Rattle.mapimage.specs.MapImage.{flatFrom}
+use Rattle.mapimage.specs.MapImage.{flat_from}
 use Rattle.listlaws.specs.Fold.{total_of}
 
 module _ {A : Type 0} (size : A → ℕ) where
@@ -22,10 +22,10 @@ module _ {A : Type 0} (size : A → ℕ) where
 
   -- how many each gives
   pub length-flat : {B : Type 0} (f : ℕ → A → List B) → ((i : ℕ) (x : A) → length (f i x) ≡ size x) → (i : ℕ) (l : List A)
-      → length (flatFrom f i l) ≡ total_of size l
-  unfolding flatFrom total_of
+      → length (flat_from f i l) ≡ total_of size l
+  unfolding flat_from total_of
   length-flat f e i [] = refl
-  length-flat f e i (x ∷ l) = length-append (f i x) (flatFrom f (i + 1) l) ∙ (let p = e i x in let q = length-flat f e (i + 1) l in omega arith)
+  length-flat f e i (x ∷ l) = length-append (f i x) (flat_from f (i + 1) l) ∙ (let p = e i x in let q = length-flat f e (i + 1) l in omega arith)
 
 pub total-sum : {A : Type 0} (f g : A → ℕ) (l : List A) → total_of f l + total_of g l ≡ total_of (λ x. f x + g x) l
 unfolding total_of

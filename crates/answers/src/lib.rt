@@ -1,16 +1,16 @@
 // What the calls of castribba.h share: refusing, and writing an image where it fits.
 ghost use Rattle.std.specs.Prelude.{◌≡◌, ◌+◌, ◌*◌, ◌^◌, ◌≤◌, length};
 ghost use Rattle.register.specs.Values.{values_of};
-ghost use Rattle.limits.specs.Limits.{waitingLimit};
-ghost use Rattle.removals.specs.Model.{waitingOf};
-ghost use Rattle.entries.specs.Model.{entriesOf};
-ghost use Rattle.map.specs.Model.{waitingIn};
+ghost use Rattle.limits.specs.Limits.{waiting_limit};
+ghost use Rattle.removals.specs.Model.{waiting_of};
+ghost use Rattle.entries.specs.Model.{entries_of};
+ghost use Rattle.map.specs.Model.{waiting_in};
 ghost use Rattle.map.specs.Valid.{Valid};
-ghost use Rattle.opimage.specs.OpImage.{opLongest, opImage};
-ghost use Rattle.mapimage.specs.MapImage.{mapLongest, mapImage};
+ghost use Rattle.opimage.specs.OpImage.{op_longest, op_image};
+ghost use Rattle.mapimage.specs.MapImage.{map_longest, map_image};
 ghost use Rattle.answers.specs.Answer.{Answered};
 ghost use Rattle.listlaws.specs.Fold.{total_of};
-ghost use Rattle.answers.specs.Sizes.{valueSize, entrySize, removalSize, registerMost, entriesMost, waitingMost, mapSize};
+ghost use Rattle.answers.specs.Sizes.{value_size, entry_size, removal_size, register_most, entries_most, waiting_most, map_size};
 
 use entries::Entries;
 use map::{Map, Op};
@@ -25,7 +25,7 @@ pub fn word(number: u8) -> u64
 }
 
 pub fn count_values(register: Register) -> usize
-    ensures { (result ≡ total_of valueSize (values_of register)) × (result ≤ registerMost) }
+    ensures { (result ≡ total_of value_size (values_of register)) × (result ≤ register_most) }
 {
     let n = register.size();
     let mut total: usize = 0;
@@ -40,7 +40,7 @@ pub fn count_values(register: Register) -> usize
 }
 
 fn count_entries(entries: Entries) -> usize
-    ensures { (result ≡ total_of entrySize (entriesOf entries)) × (result ≤ entriesMost) }
+    ensures { (result ≡ total_of entry_size (entries_of entries)) × (result ≤ entries_most) }
 {
     let n = entries.size();
     let mut total: usize = 0;
@@ -56,7 +56,7 @@ fn count_entries(entries: Entries) -> usize
 }
 
 fn count_waiting(waiting: Waiting) -> usize
-    ensures { (result ≡ total_of removalSize (waitingOf waiting)) × ((result ≤ waitingMost) × (length (waitingOf waiting) ≤ waitingLimit)) }
+    ensures { (result ≡ total_of removal_size (waiting_of waiting)) × ((result ≤ waiting_most) × (length (waiting_of waiting) ≤ waiting_limit)) }
 {
     let n = waiting.size();
     let mut total: usize = 0;
@@ -73,7 +73,7 @@ fn count_waiting(waiting: Waiting) -> usize
 
 // The length of a map's image.
 pub fn map_length(map: Map) -> usize
-    ensures { (result ≡ mapSize map * 16) × ((result ≤ mapLongest) × (length (waitingIn map) ≤ waitingLimit)) }
+    ensures { (result ≡ map_size map * 16) × ((result ≤ map_longest) × (length (waiting_in map) ≤ waiting_limit)) }
 {
     let clock = map.clock;
     let entries = map.entries;
@@ -83,7 +83,7 @@ pub fn map_length(map: Map) -> usize
 
 // The length of an operation's image.
 pub fn op_length(op: Op) -> usize
-    ensures { (result ≡ length (opImage op)) × (result ≤ opLongest) }
+    ensures { (result ≡ length (op_image op)) × (result ≤ op_longest) }
 {
     if op.up {
         let update = op.update;
@@ -100,7 +100,7 @@ pub fn op_length(op: Op) -> usize
 // Answers a map, or the number of what is wrong with it.
 pub fn give_map(number: u8, map: Map, out: &mut [u8]) -> u64
     requires { Valid map }
-    ensures { Answered (record { first = 0; second = 0; own = number; bytes = mapImage map }) out.old out.new result }
+    ensures { Answered (record { first = 0; second = 0; own = number; bytes = map_image map }) out.old out.new result }
 {
     if number != 0 {
         return word(number);
@@ -113,7 +113,7 @@ pub fn give_map(number: u8, map: Map, out: &mut [u8]) -> u64
 
 // Answers an operation, or the number of why it can't be made.
 pub fn give_op(number: u8, op: Op, out: &mut [u8]) -> u64
-    ensures { Answered (record { first = 0; second = 0; own = number; bytes = opImage op }) out.old out.new result }
+    ensures { Answered (record { first = 0; second = 0; own = number; bytes = op_image op }) out.old out.new result }
 {
     if number != 0 {
         return word(number);

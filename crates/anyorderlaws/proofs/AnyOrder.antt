@@ -8,12 +8,12 @@ use mathlib.Core.List.{List, [], ◌∷◌, ◌++◌, Permᴰ}
 use Prim.Native.Nat.{ℕ}
 use Rattle.listlaws.specs.Order.{◌∈◌}
 use Rattle.listlaws.proofs.Perms.{perm_in}
-use Rattle.removals.specs.Model.{listedIn}
+use Rattle.removals.specs.Model.{listed_in}
 use Rattle.removals.specs.Waits.{listed}
-use Rattle.maprecords.specs.Related.{readMap}
+use Rattle.maprecords.specs.Related.{read_map}
 use Rattle.selfmergelaws.specs.Pairs.{Independent}
 use Rattle.maplaws.specs.Among.{Exactly}
-use Rattle.anyorderlaws.specs.Calls.{AllDone, end, MapImage, OpImages, RemovalImage, RemovalImages, UpdateImage, removalOf, updateOf}
+use Rattle.anyorderlaws.specs.Calls.{AllDone, end, MapImage, OpImages, RemovalImage, RemovalImages, UpdateImage, removal_of, update_of}
 use Rattle.anyorderlaws.specs.AnyOrder.{RemovalsInAnyOrder}
 use Rattle.anyorderlaws.proofs.Images.{end-map, only-map, same_end, update-trades, two-updates}
 use Rattle.anyorderlaws.proofs.Composed.{passed-split, after, replaced, traded}
@@ -66,13 +66,13 @@ module _ {s : List ℕ} {before : List (List ℕ)} (h : MapImage s) (g : OpImage
         )
 
     -- an update and a removal that does not list its key
-    pub update-trades-within : {u r : List ℕ} → UpdateImage u → RemovalImage r → listed (listedIn (removalOf r)) (updateOf u).key ≡ false
+    pub update-trades-within : {u r : List ℕ} → UpdateImage u → RemovalImage r → listed (listed_in (removal_of r)) (update_of u).key ≡ false
         → AllDone s (before ++ (u ∷ r ∷ behind)) → AllDone s (before ++ (r ∷ u ∷ []))
         → AllDone s (before ++ (r ∷ u ∷ behind)) × (end s (before ++ (r ∷ u ∷ behind)) ≡ end s (before ++ (u ∷ r ∷ behind)))
     update-trades-within {u} {r} i j n p = traded before u r behind (update-trades (after h g (passed-split before p).0) i j n) p
 
     -- two unseen updates by different actors on different keys, where nothing is waiting
-    pub two-updates-within : {u v : List ℕ} → UpdateImage u → UpdateImage v → Independent (readMap (end s before)).map (updateOf u) (updateOf v)
+    pub two-updates-within : {u v : List ℕ} → UpdateImage u → UpdateImage v → Independent (read_map (end s before)).map (update_of u) (update_of v)
         → AllDone s (before ++ (u ∷ v ∷ behind)) → AllDone s (before ++ (v ∷ u ∷ []))
         → AllDone s (before ++ (v ∷ u ∷ behind)) × (end s (before ++ (v ∷ u ∷ behind)) ≡ end s (before ++ (u ∷ v ∷ behind)))
     two-updates-within {u} {v} i j a p = traded before u v behind (two-updates (after h g (passed-split before p).0) i j a) p

@@ -6,7 +6,7 @@ use Prim.Native.Nat.{ℕ}
 use Rattle.listlaws.specs.Fold.{fold}
 use Rattle.listlaws.proofs.Folds.{fold-append}
 use Rattle.map.specs.declared.Map.{Map}
-use Rattle.anyorderlaws.specs.Calls.{imageAfter, AllDone, none, more, end, Trade, MapImage, OpImages}
+use Rattle.anyorderlaws.specs.Calls.{image_after, AllDone, none, more, end, Trade, MapImage, OpImages}
 use Rattle.anyorderlaws.proofs.Images.{ImageOf, start, image-accepted, done-means, image-next}
 
 pub passed-split : {s : List ℕ} (a : List (List ℕ)) {b : List (List ℕ)} → AllDone s (a ++ b) → AllDone s a × AllDone (end s a) b
@@ -37,8 +37,8 @@ module _ {s : List ℕ} (before a b behind : List (List ℕ)) where
       let r = passed-split before p in
       let t = passed-split a r.1 in (
         passed-join r.0 (passed-join q.0 (rw (← q.1) at t.1)),
-        fold-append imageAfter s before (b ++ behind) ∙ fold-append imageAfter (end s before) b behind ∙ ap (λ x. end x behind) q.1
-            ∙ sym (fold-append imageAfter (end s before) a behind) ∙ sym (fold-append imageAfter s before (a ++ behind)),
+        fold-append image_after s before (b ++ behind) ∙ fold-append image_after (end s before) b behind ∙ ap (λ x. end x behind) q.1
+            ∙ sym (fold-append image_after (end s before) a behind) ∙ sym (fold-append image_after s before (a ++ behind)),
       )
 
 -- two neighbours of a run

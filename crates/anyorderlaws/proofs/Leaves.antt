@@ -10,11 +10,11 @@ use lib.Seq.{take-append_seam}
 use lib.ListN.{length, take, drop}
 use Rattle.listlaws.specs.Fold.{fold}
 use Rattle.scan.proofs.Eachs.{decide}
-use Rattle.mapimage.specs.MapImage.{mapLongest}
+use Rattle.mapimage.specs.MapImage.{map_longest}
 use Rattle.answers.specs.Answer.{Answer, short_of, number_of, word_of, out_of, Answered}
 use Rattle.answers.proofs.Answers.{number-done}
-use Rattle.promises.specs.Calls.{applyAnswer}
-use Rattle.anyorderlaws.specs.Calls.{Done, imageAfter, AllDone, none, more, end, Called, stop, call}
+use Rattle.promises.specs.Calls.{apply_answer}
+use Rattle.anyorderlaws.specs.Calls.{Done, image_after, AllDone, none, more, end, Called, stop, call}
 use Rattle.readbacklaws.proofs.Back.{zeros}
 
 pub record Left (bytes entry exit : List ℕ) (word : ℕ) : Type 0 where
@@ -42,8 +42,8 @@ module _ {a : Answer} {entry exit : List ℕ} {word : ℕ} (r : Answered a entry
       ap₂ take l.length-given l.image-first ∙ take-append_seam a.bytes (drop (length a.bytes) entry)
 
 -- the image that castribba_apply leaves
-step_is : (s o : List ℕ) → (applyAnswer s o).bytes ≡ imageAfter s o
-unfolding imageAfter
+step_is : (s o : List ℕ) → (apply_answer s o).bytes ≡ image_after s o
+unfolding image_after
 step_is s o = refl
 
 -- what fits an output
@@ -52,11 +52,11 @@ fits bytes out e = decide (ltb (length out) (length bytes)) (λ t. absurd (let z
     (λ f. ltb-false (length out) (length bytes) f)
 
 -- a call that was accepted once, with an output of the longest size or a shorter one, is accepted with every output of the longest size
-pub once-done : (s o out : List ℕ) → length out ≤ mapLongest → number_of (applyAnswer s o) out ≡ 0 → Done s o
+pub once-done : (s o out : List ℕ) → length out ≤ map_longest → number_of (apply_answer s o) out ≡ 0 → Done s o
 once-done s o out n e other m =
-    let z = zeros (applyAnswer s o) out e in
-    let d = fits (applyAnswer s o).bytes out z.short in
-    number-done (applyAnswer s o) other z.first z.second z.own (omega (arith, d))
+    let z = zeros (apply_answer s o) out e in
+    let d = fits (apply_answer s o).bytes out z.short in
+    number-done (apply_answer s o) other z.first z.second z.own (omega (arith, d))
 
 -- an end theorem: calls that a program made are a run, and its last map is the run's
 pub called-passed : {s last : List ℕ} {ops : List (List ℕ)} → Called s ops last → AllDone s ops × (last ≡ end s ops)

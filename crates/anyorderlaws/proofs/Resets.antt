@@ -4,16 +4,16 @@ use mathlib.Core.List.{List}
 use Prim.Native.Nat.{ℕ, ◌^◌, ◌<◌}
 use lib.ListN.{take}
 use Rattle.clock.specs.declared.Dot.{Dot}
-use Rattle.clock.specs.Dots.{dotsOf}
+use Rattle.clock.specs.Dots.{dots_of}
 use Rattle.map.specs.declared.Map.{Map}
-use Rattle.map.specs.Model.{waitingIn}
+use Rattle.map.specs.Model.{waiting_in}
 use Rattle.map.specs.Resetting.{reset}
-use Rattle.map.specs.Judging.{overNumber}
+use Rattle.map.specs.Judging.{over_number}
 use Rattle.map.proofs.Verdicts.{judged-number, judged-map}
-use Rattle.clockimage.specs.ClockImage.{readClock}
-use Rattle.mapimage.specs.MapImage.{mapImage}
-use Rattle.maprecords.specs.Related.{readMap}
-use Rattle.promises.specs.Calls.{resetAnswer}
+use Rattle.clockimage.specs.ClockImage.{read_clock}
+use Rattle.mapimage.specs.MapImage.{map_image}
+use Rattle.maprecords.specs.Related.{read_map}
+use Rattle.promises.specs.Calls.{reset_answer}
 use Rattle.promises.specs.Promises.{ResetRemovePromise}
 use Rattle.maplaws.specs.Ties.{TieBreak}
 use Rattle.maplaws.proofs.Ties.{reset-breaks-ties}
@@ -25,19 +25,19 @@ use Rattle.anyorderlaws.proofs.Leaves.{answers-zero, first-bytes}
 
 module _ (s c : List ℕ) {entry exit : List ℕ} {word : ℕ} (h : MapImage s) (r : ResetRemovePromise s c entry exit word) (w : word < 2 ^ 32) where
   abbrev by : List Dot
-  by = dotsOf (readClock c).clock
+  by = dots_of (read_clock c).clock
 
   abbrev left : Map
-  left = reset (readMap s).map by
+  left = reset (read_map s).map by
 
   -- within the limits, since the call was accepted
-  within : overNumber left ≡ 0
-  within = sym (judged-number left) ∙ (zeros (resetAnswer s c) entry (answers-zero r w)).own
+  within : over_number left ≡ 0
+  within = sym (judged-number left) ∙ (zeros (reset_answer s c) entry (answers-zero r w)).own
 
   -- what it leaves is the image of the map after the reset
   image-left : ImageOf (take word exit) left
   image-left = record {
-    image = first-bytes r w ∙ ap mapImage (judged-map left (judged-number left ∙ within));
+    image = first-bytes r w ∙ ap map_image (judged-map left (judged-number left ∙ within));
     good = good-reset
         (start h).good by within;
   }
@@ -46,5 +46,5 @@ module _ (s c : List ℕ) {entry exit : List ℕ} {word : ℕ} (h : MapImage s) 
   pub reset-call-image : MapImage (take word exit)
   reset-call-image = image-accepted image-left
 
-  pub reset-call-breaks-ties : TieBreak (dotsOf (readClock c).clock) (waitingIn (readMap s).map) (waitingIn (readMap (take word exit)).map)
+  pub reset-call-breaks-ties : TieBreak (dots_of (read_clock c).clock) (waiting_in (read_map s).map) (waiting_in (read_map (take word exit)).map)
   reset-call-breaks-ties = rw (reads image-left) (reset-breaks-ties (start h).good.within.valid by)

@@ -10,22 +10,22 @@ use Rattle.listlaws.specs.Order.{◌∈◌}
 use Rattle.listlaws.proofs.Orders.{apart}
 use Rattle.listlaws.proofs.Those.{Sifted, sift-means, sift-holds, those-means, those-holds}
 use Rattle.listlaws.proofs.Ranks.{same_rank}
-use Rattle.clock.specs.Dots.{is_empty, covers, cutDots}
+use Rattle.clock.specs.Dots.{is_empty, covers, cut_dots}
 use Rattle.entries.specs.declared.Entry.{Entry}
 use Rattle.removals.specs.declared.Removal.{Removal}
-use Rattle.entries.specs.Model.{dotsIn}
-use Rattle.removals.specs.Model.{underOf}
-use Rattle.entries.specs.Entries.{stays, cutEntry}
-use Rattle.removals.specs.Waits.{waits, uniteInto}
+use Rattle.entries.specs.Model.{dots_in}
+use Rattle.removals.specs.Model.{under_of}
+use Rattle.entries.specs.Entries.{stays, cut_entry}
+use Rattle.removals.specs.Waits.{waits, unite_into}
 use Rattle.removals.specs.Valid.{ValidRemoval}
 use Rattle.entries.proofs.Packs.{entries-of}
 use Rattle.removals.proofs.Packs.{waiting-of}
 use Rattle.entries.proofs.Cuts.{cut-key, cut-dots}
-use Rattle.removals.proofs.ListingClocks.{supOf, Clocked, sup-above, sup-reached}
+use Rattle.removals.proofs.ListingClocks.{sup_of, Clocked, sup-above, sup-reached}
 use Rattle.removals.proofs.Waits.{waits-covers}
 use Rattle.removals.proofs.WaitingValid.{ready-those}
 use Rattle.map.specs.declared.Map.{Map}
-use Rattle.map.specs.Model.{seenBy, entriesIn, waitingIn, mapAs}
+use Rattle.map.specs.Model.{seen_by, entries_in, waiting_in, map_as}
 use Rattle.map.specs.Removing.{remove}
 use Rattle.map.specs.Valid.{Valid}
 use Rattle.map.proofs.Kept.{seen_of, valid-removes}
@@ -39,57 +39,57 @@ Removals ws = (w : Removal) → w ∈ ws → ValidRemoval w
 
 module _ {m : Map} {ws : List Removal} (h : Valid m) (f : Removals ws) where
   abbrev left : Entry → Entry
-  left e = cutEntry (supOf ws e.key) e
+  left e = cut_entry (sup_of ws e.key) e
 
   clocked : Clocked ws
   clocked w i = (f w i).clock
 
   abbrev joining : List Removal
-  joining = those (waits (seenBy m)) ws
+  joining = those (waits (seen_by m)) ws
 
-  whole : fold remove m ws ≡ mapAs (seenBy m) (sift stays left (entriesIn m)) (fold uniteInto (waitingIn m) joining)
+  whole : fold remove m ws ≡ map_as (seen_by m) (sift stays left (entries_in m)) (fold unite_into (waiting_in m) joining)
   whole = removes-closed h clocked
 
-  entries-end : entriesIn (fold remove m ws) ≡ sift stays left (entriesIn m)
-  entries-end = ap (λ n. entriesIn n) whole ∙ entries-of (sift stays left (entriesIn m))
+  entries-end : entries_in (fold remove m ws) ≡ sift stays left (entries_in m)
+  entries-end = ap (λ n. entries_in n) whole ∙ entries-of (sift stays left (entries_in m))
 
-  waiting-end : waitingIn (fold remove m ws) ≡ fold uniteInto (waitingIn m) joining
-  waiting-end = ap (λ n. waitingIn n) whole ∙ waiting-of (fold uniteInto (waitingIn m) joining)
+  waiting-end : waiting_in (fold remove m ws) ≡ fold unite_into (waiting_in m) joining
+  waiting-end = ap (λ n. waiting_in n) whole ∙ waiting-of (fold unite_into (waiting_in m) joining)
 
   valid-end : Valid (fold remove m ws)
   valid-end = valid-removes h ws f
 
   -- an entry at the end, and where it is from
-  from : (e : Entry) → e ∈ entriesIn (fold remove m ws) → Sifted stays left (entriesIn m) e
-  from e i = sift-means stays left (entriesIn m) (rw entries-end at i)
+  from : (e : Entry) → e ∈ entries_in (fold remove m ws) → Sifted stays left (entries_in m) e
+  from e i = sift-means stays left (entries_in m) (rw entries-end at i)
 
   left_key : (e : Entry) → (left e).key ≡ e.key
-  left_key e = cut-key (supOf ws e.key) e
+  left_key e = cut-key (sup_of ws e.key) e
 
   -- an entry that was emptied
-  left-goes : (e : Entry) → is_empty (cutDots (supOf ws e.key) (dotsIn e)) ≡ true → stays (left e) ≡ false
-  left-goes e t = ap not (ap is_empty (cut-dots (supOf ws e.key) e) ∙ t)
+  left-goes : (e : Entry) → is_empty (cut_dots (sup_of ws e.key) (dots_in e)) ≡ true → stays (left e) ≡ false
+  left-goes e t = ap not (ap is_empty (cut-dots (sup_of ws e.key) e) ∙ t)
 
   -- one of those that wait, or one that the map's clock does not cover
   module _ {Such : Removal → Type 0} (s : Shared Such) where
-    joined : Exactly (OneOf (waitingIn (fold remove m ws)) Such) (OneOf (waitingIn m) Such ⊎ OneOf joining Such)
-    joined = rw waiting-end (united-exactly s joining h.waiting (ready-those (seenBy m) f))
+    joined : Exactly (OneOf (waiting_in (fold remove m ws)) Such) (OneOf (waiting_in m) Such ⊎ OneOf joining Such)
+    joined = rw waiting-end (united-exactly s joining h.waiting (ready-those (seen_by m) f))
 
-  joins : (w : Removal) → w ∈ joining → (w ∈ ws) × (covers (seenBy m) (underOf w) ≡ false)
-  joins w i = let r = those-means (waits (seenBy m)) ws i in (r.0, not-true (covers (seenBy m) (underOf w)) (sym (waits-covers (seenBy m) w) ∙ r.1))
+  joins : (w : Removal) → w ∈ joining → (w ∈ ws) × (covers (seen_by m) (under_of w) ≡ false)
+  joins w i = let r = those-means (waits (seen_by m)) ws i in (r.0, not-true (covers (seen_by m) (under_of w)) (sym (waits-covers (seen_by m) w) ∙ r.1))
 
-  joining-holds : (w : Removal) → w ∈ ws → covers (seenBy m) (underOf w) ≡ false → w ∈ joining
-  joining-holds w i t = those-holds (waits (seenBy m)) i (waits-covers (seenBy m) w ∙ ap not t)
+  joining-holds : (w : Removal) → w ∈ ws → covers (seen_by m) (under_of w) ≡ false → w ∈ joining
+  joining-holds w i t = those-holds (waits (seen_by m)) i (waits-covers (seen_by m) w ∙ ap not t)
 
   -- the end map
   pub maps-end : EndMap m ws (fold remove m ws)
-  unfolding cutEntry
+  unfolding cut_entry
   maps-end = record {
-    clock = ap (λ n. seenBy n) whole ∙ seen_of (seenBy m) (sift stays left (entriesIn m)) (fold uniteInto (waitingIn m) joining);
-    counters = supOf ws;
+    clock = ap (λ n. seen_by n) whole ∙ seen_of (seen_by m) (sift stays left (entries_in m)) (fold unite_into (waiting_in m) joining);
+    counters = sup_of ws;
     largest = λ k. record { above = sup-above clocked k; reached = sup-reached clocked k };
     loses = λ e i. let s = from e i in (s.source, s.stands, s.changed);
-    keeps = λ e i t. rw entries-end (sift-holds stays left i (ap not (ap is_empty (cut-dots (supOf ws e.key) e) ∙ t)));
+    keeps = λ e i t. rw entries-end (sift-holds stays left i (ap not (ap is_empty (cut-dots (sup_of ws e.key) e) ∙ t)));
     emptied-values = λ e i v j. ((valid-end.entries.each e i).values v j).some;
     emptied-entries = λ e i t g j q. let s = from g j in
         let same : s.source ≡ e = same_rank (λ x. x.key) h.entries.rising s.stands i

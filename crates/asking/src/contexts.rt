@@ -1,10 +1,10 @@
 // Contexts, as values: the Rust's ctx.rs, with `read_ctx` and the context that `get` gives.
 ghost use Rattle.std.specs.Prelude.{◌≡◌};
-ghost use Rattle.clock.specs.Dots.{dotsOf};
+ghost use Rattle.clock.specs.Dots.{dots_of};
 ghost use Rattle.entries.specs.Entries.{entry_at};
-ghost use Rattle.map.specs.Model.{entriesIn};
-ghost use Rattle.asking.specs.Asking.{updateUnder};
-ghost use Rattle.asking.specs.Contexts.{addContext, noAdd};
+ghost use Rattle.map.specs.Model.{entries_in};
+ghost use Rattle.asking.specs.Asking.{update_under};
+ghost use Rattle.asking.specs.Contexts.{add_context, no_add};
 
 use crate::{AddCtx, Made, ReadCtx};
 use clock::{Clock, Dot};
@@ -26,7 +26,7 @@ pub fn read_ctx(map: Map) -> ReadCtx
 
 // The map clock to add under, and the clock of a key's entry, empty if absent, to remove under.
 pub fn get_ctx(map: Map, key: u32) -> ReadCtx
-    ensures { result ≡ record { add_clock = map.clock; rm_clock = (entry_at key (entriesIn map)).clock } }
+    ensures { result ≡ record { add_clock = map.clock; rm_clock = (entry_at key (entries_in map)).clock } }
 {
     let clock = map.clock;
     let e = map.entries.at(key);
@@ -45,7 +45,7 @@ impl ReadCtx {
     }
 
     pub fn derive_add_ctx(self, actor: u16) -> AddCtx
-        ensures { result ≡ addContext (dotsOf self.add_clock) actor }
+        ensures { result ≡ add_context (dots_of self.add_clock) actor }
     {
         let c = self.add_clock.get(actor);
         if 0xffff_ffff_ffff_ffff <= c {
@@ -71,7 +71,7 @@ impl ReadCtx {
 impl AddCtx {
     // An update of a key under this context: the Rust's `update`.
     pub fn update(self, key: u32, value: Content) -> Made
-        ensures { result ≡ updateUnder self key value }
+        ensures { result ≡ update_under self key value }
     {
         let number = self.number;
         if number != 0 {
@@ -93,7 +93,7 @@ impl AddCtx {
     }
 
     fn refused(number: u8) -> AddCtx
-        ensures { result ≡ noAdd number }
+        ensures { result ≡ no_add number }
     {
         let clock = Clock::new();
         let dot = Dot {

@@ -2,13 +2,13 @@
 // The Rust's methods of a map are functions of a map here: an `impl` stands in its type's crate.
 ghost use Rattle.std.specs.Prelude.{◌≡◌, true, false, [], ◌∷◌, ◌≤◌, ◌<◌, ◌+◌, eqb, ltb};
 ghost use Rattle.asking.specs.declared.CmRDTValidation.TheVariants.{Fits, Missing};
-ghost use Rattle.clock.specs.Dots.{dotsOf};
-ghost use Rattle.limits.specs.Limits.{entryLimit};
-ghost use Rattle.entries.specs.Model.{entriesOf, noUpdate};
-ghost use Rattle.removals.specs.Model.{keysAs};
-ghost use Rattle.asking.specs.Asking.{following, validateUpdate, validateOp, spentUnder, spentBy, firstSpent, validateMerge, isTwice};
-ghost use Rattle.asking.specs.Asking.{makeUpdate, noOp, removalOp, clockAt, readKey, count};
-ghost use Rattle.map.specs.Model.{seenBy};
+ghost use Rattle.clock.specs.Dots.{dots_of};
+ghost use Rattle.limits.specs.Limits.{entry_limit};
+ghost use Rattle.entries.specs.Model.{entries_of, no_update};
+ghost use Rattle.removals.specs.Model.{keys_as};
+ghost use Rattle.asking.specs.Asking.{following, validate_update, validate_op, spent_under, spent_by, first_spent, validate_merge, is_twice};
+ghost use Rattle.asking.specs.Asking.{make_update, no_op, removal_op, clock_at, read_key, count};
+ghost use Rattle.map.specs.Model.{seen_by};
 ghost use Rattle.map.specs.Valid.{Within};
 
 pub mod contexts;
@@ -76,7 +76,7 @@ fn missing(counter: u64, above: u64) -> CmRDTValidation
 
 // A dot held against the map clock's counter, then the entry clock's: the first that it is more than one above.
 pub fn follow(seen: Clock, held: Clock, d: Dot) -> CmRDTValidation
-    ensures { result ≡ following (dotsOf seen) d (following (dotsOf held) d Fits) }
+    ensures { result ≡ following (dots_of seen) d (following (dots_of held) d Fits) }
 {
     let s = seen.get(d.actor);
     if too_high(d.counter, s) {
@@ -91,7 +91,7 @@ pub fn follow(seen: Clock, held: Clock, d: Dot) -> CmRDTValidation
 
 // Whether a dot was found.
 pub fn twice(s: CvRDTValidation) -> bool
-    ensures { result ≡ isTwice s }
+    ensures { result ≡ is_twice s }
 {
     match s {
         CvRDTValidation::Once => false,
@@ -101,7 +101,7 @@ pub fn twice(s: CvRDTValidation) -> bool
 
 // The first dot of ours, under our key, that theirs under a different key has at the same counter.
 pub fn spent_under(key: u32, ours: Clock, other: u32, theirs: Clock) -> CvRDTValidation
-    ensures { result ≡ spentUnder key (dotsOf ours) other (dotsOf theirs) }
+    ensures { result ≡ spent_under key (dots_of ours) other (dots_of theirs) }
 {
     if key == other {
         return CvRDTValidation::Once;
@@ -120,14 +120,14 @@ pub fn spent_under(key: u32, ours: Clock, other: u32, theirs: Clock) -> CvRDTVal
 
 // The same of two entries.
 fn spent_by(ours: Entry, theirs: Entry) -> CvRDTValidation
-    ensures { result ≡ spentBy ours theirs }
+    ensures { result ≡ spent_by ours theirs }
 {
     spent_under(ours.key, ours.clock, theirs.key, theirs.clock)
 }
 
 // The first of their entries, in the order of keys, that shares a dot with our entry.
 fn spent_among(ours: Entry, theirs: Entries) -> CvRDTValidation
-    ensures { result ≡ firstSpent (spentBy ours) (entriesOf theirs) }
+    ensures { result ≡ first_spent (spent_by ours) (entries_of theirs) }
 {
     let n = theirs.size();
     let mut i: usize = 0;
@@ -144,7 +144,7 @@ fn spent_among(ours: Entry, theirs: Entries) -> CvRDTValidation
 
 // The Rust's `validate_op`: a removal passes.
 pub fn validate_op(map: Map, op: Op) -> CmRDTValidation
-    ensures { result ≡ validateOp map op }
+    ensures { result ≡ validate_op map op }
 {
     if op.up {
         return validate_update(map, op.update);
@@ -154,7 +154,7 @@ pub fn validate_op(map: Map, op: Op) -> CmRDTValidation
 
 // An update held against the map clock and the clock of its key's entry.
 fn validate_update(map: Map, u: Update) -> CmRDTValidation
-    ensures { result ≡ validateUpdate map u }
+    ensures { result ≡ validate_update map u }
 {
     let e = map.entries.at(u.key);
     follow(map.clock, e.clock, u.dot)
@@ -162,7 +162,7 @@ fn validate_update(map: Map, u: Update) -> CmRDTValidation
 
 // The Rust's `validate_merge`: by our key, their key, then actor.
 pub fn validate_merge(map: Map, other: Map) -> CvRDTValidation
-    ensures { result ≡ validateMerge map other }
+    ensures { result ≡ validate_merge map other }
 {
     let ours = map.entries;
     let theirs = other.entries;
@@ -181,7 +181,7 @@ pub fn validate_merge(map: Map, other: Map) -> CvRDTValidation
 
 // The map clock and the entry of a key alone.
 pub fn get(map: Map, key: u32) -> Map
-    ensures { result ≡ readKey map key }
+    ensures { result ≡ read_key map key }
 {
     let clock = map.clock;
     let entries = map.entries.only(key);
@@ -195,7 +195,7 @@ pub fn get(map: Map, key: u32) -> Map
 
 // The number of entries.
 pub fn len(map: Map) -> usize
-    ensures { (result ≡ count map) × (result ≤ entryLimit) }
+    ensures { (result ≡ count map) × (result ≤ entry_limit) }
 {
     map.entries.size()
 }
@@ -208,7 +208,7 @@ pub fn is_empty(map: Map) -> bool
 
 // An update of a key by an actor, under the context that the map clock gives.
 pub fn update(map: Map, actor: u16, key: u32, value: Content) -> Made
-    ensures { result ≡ makeUpdate map actor key value }
+    ensures { result ≡ make_update map actor key value }
 {
     let ctx = contexts::read_ctx(map).derive_add_ctx(actor);
     ctx.update(key, value)
@@ -217,7 +217,7 @@ pub fn update(map: Map, actor: u16, key: u32, value: Content) -> Made
 // A removal of a key under its entry clock, the empty clock where there is no entry.
 pub fn rm_get(map: Map, key: u32) -> Op
     requires { Within map }
-    ensures { result ≡ removalOp (clockAt map key) key }
+    ensures { result ≡ removal_op (clock_at map key) key }
 {
     let e = map.entries.at(key);
     rm(e.clock, key)
@@ -226,14 +226,14 @@ pub fn rm_get(map: Map, key: u32) -> Op
 // A removal of a key under the map clock.
 pub fn rm_read_ctx(map: Map, key: u32) -> Op
     requires { Within map }
-    ensures { result ≡ removalOp (seenBy map) key }
+    ensures { result ≡ removal_op (seen_by map) key }
 {
     rm(map.clock, key)
 }
 
 // A removal of one key under a clock: the Rust's `rm`.
 pub fn rm(clock: Clock, key: u32) -> Op
-    ensures { result ≡ record { up = false; removal = record { clock = clock; keys = keysAs (key ∷ []) }; update = noUpdate } }
+    ensures { result ≡ record { up = false; removal = record { clock = clock; keys = keys_as (key ∷ []) }; update = no_update } }
 {
     let keys = Keys::new().push(key);
     let removal = Removal { clock, keys };
@@ -248,7 +248,7 @@ pub fn rm(clock: Clock, key: u32) -> Op
 
 // The operation of zeros.
 fn no_op() -> Op
-    ensures { result ≡ noOp }
+    ensures { result ≡ no_op }
 {
     let removal = Removal::new();
     let clock = Clock::new();
@@ -273,7 +273,7 @@ fn no_op() -> Op
 
 impl Made {
     fn refused(number: u8) -> Made
-        ensures { result ≡ record { number = number; op = noOp } }
+        ensures { result ≡ record { number = number; op = no_op } }
     {
         let op = no_op();
         Made { number, op }

@@ -4,32 +4,32 @@ use mathlib.Core.List.{List, []}
 use Prim.Native.Nat.{ℕ}
 use lib.ListN.{length}
 use Rattle.map.specs.declared.Map.{Map}
-use Rattle.map.specs.Model.{mapAs}
+use Rattle.map.specs.Model.{map_as}
 use Rattle.records.specs.Bytes.{Bytes}
 use Rattle.maprecords.specs.declared.ReadMap.{ReadMap}
-use Rattle.maprecords.specs.Related.{refusedMap, readMap}
+use Rattle.maprecords.specs.Related.{refused_map, read_map}
 use Rattle.maprecords.proofs.Readers.{read-refused}
-use Rattle.memory.specs.Memory.{readerRoom, clockPlace, dotsAt, entries_at, waitingAt}
-use Rattle.mailbox.specs.Machine.{takeIn, begun}
+use Rattle.memory.specs.Memory.{reader_room, clock_place, dots_at, entries_at, waiting_at}
+use Rattle.mailbox.specs.Machine.{take_in, begun}
 use Rattle.mailbox.specs.Held.{Came}
 use Rattle.mailbox.proofs.Begins.{came-none}
 use Rattle.mailbox.proofs.Coming.{came-piece}
 use Rattle.mailbox.proofs.Cuts.{takes_one}
-use Rattle.delivery.specs.Delivery.{endNumber}
+use Rattle.delivery.specs.Delivery.{end_number}
 use Rattle.delivery.proofs.Judged.{ends-as-read, holds-as-read}
 
 -- the image came whole to a reader that was begun
-pub came-whole : {s u v : List ℕ} (w : List ℕ) → Bytes s → length w ≡ readerRoom → Bytes w → u ≡ begun w → v ≡ takeIn u s → Came s v
+pub came-whole : {s u v : List ℕ} (w : List ℕ) → Bytes s → length w ≡ reader_room → Bytes w → u ≡ begun w → v ≡ take_in u s → Came s v
 came-whole {s} w small long bytes a b =
     let none = came-none w long bytes in
-    subst (Came s) (sym (b ∙ ap (λ m. takeIn m s) a ∙ (takes_one (begun w) s none.is_open).1)) (came-piece [] (begun w) s none small)
+    subst (Came s) (sym (b ∙ ap (λ m. take_in m s) a ∙ (takes_one (begun w) s none.is_open).1)) (came-piece [] (begun w) s none small)
 
-module _ {s v : List ℕ} (c : Came s v) {n : ℕ} (e : n ≡ endNumber v) where
-  number_read : n ≡ (readMap s).number
+module _ {s v : List ℕ} (c : Came s v) {n : ℕ} (e : n ≡ end_number v) where
+  number_read : n ≡ (read_map s).number
   number_read = e ∙ ends-as-read c
 
-  pub refused-read : (n ≡ 0 → ⊥) → {r : ReadMap} → r ≡ refusedMap n → r ≡ readMap s
-  refused-read z q = q ∙ ap refusedMap number_read ∙ sym (read-refused s (λ k. z (number_read ∙ k)))
+  pub refused-read : (n ≡ 0 → ⊥) → {r : ReadMap} → r ≡ refused_map n → r ≡ read_map s
+  refused-read z q = q ∙ ap refused_map number_read ∙ sym (read-refused s (λ k. z (number_read ∙ k)))
 
-  pub map_read : n ≡ 0 → {m : Map} → m ≡ mapAs (dotsAt v clockPlace) (entries_at v) (waitingAt v) → record { number = n; map = m } ≡ readMap s
+  pub map_read : n ≡ 0 → {m : Map} → m ≡ map_as (dots_at v clock_place) (entries_at v) (waiting_at v) → record { number = n; map = m } ≡ read_map s
   map_read z q = (λ i. record { number = z i; map = q i }) ∙ sym (holds-as-read c (sym number_read ∙ z))

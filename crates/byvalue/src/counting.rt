@@ -1,11 +1,11 @@
 // How many dots a removal and a reset delete from entry clocks, on maps by value.
 ghost use Rattle.std.specs.Prelude.{◌≡◌, ℕ, ◌+◌, ◌*◌, ◌≤◌};
-ghost use Rattle.limits.specs.Limits.{dotLimit, entryLimit};
-ghost use Rattle.entries.specs.Model.{entriesOf};
+ghost use Rattle.limits.specs.Limits.{dot_limit, entry_limit};
+ghost use Rattle.entries.specs.Model.{entries_of};
 ghost use Rattle.map.specs.Valid.{Valid};
 ghost use Rattle.answers.specs.Answer.{Counted};
-ghost use Rattle.promises.specs.Calls.{mapAnswer};
-ghost use Rattle.promises.specs.Deleted.{dotsAmong, entryDots};
+ghost use Rattle.promises.specs.Calls.{map_answer};
+ghost use Rattle.promises.specs.Deleted.{dots_among, entry_dots};
 ghost use Rattle.promises.specs.Promises.{ApplyDeletedPromise, ResetRemoveDeletedPromise};
 
 use entries::Entries;
@@ -13,7 +13,7 @@ use map::Judged;
 
 // The dots in all entry clocks.
 fn count_dots(entries: Entries) -> usize
-    ensures { (result ≡ dotsAmong (entriesOf entries)) × (result ≤ entryLimit * dotLimit) }
+    ensures { (result ≡ dots_among (entries_of entries)) × (result ≤ entry_limit * dot_limit) }
 {
     let n = entries.size();
     let mut total: usize = 0;
@@ -29,8 +29,8 @@ fn count_dots(entries: Entries) -> usize
 
 // How many dots a result has less than the entries before it, where it is none that is refused and has so much room.
 fn fewer(before: Entries, j: Judged, room: usize) -> u64
-    requires { Valid j.map × (j.number ≡ 0 → entryDots j.map ≤ dotsAmong (entriesOf before)) }
-    ensures { (n : ℕ) → (j.number ≡ 0 → entryDots j.map + n ≡ dotsAmong (entriesOf before)) → Counted (mapAnswer 0 0 j) room n result }
+    requires { Valid j.map × (j.number ≡ 0 → entry_dots j.map ≤ dots_among (entries_of before)) }
+    ensures { (n : ℕ) → (j.number ≡ 0 → entry_dots j.map + n ≡ dots_among (entries_of before)) → Counted (map_answer 0 0 j) room n result }
 {
     if j.number != 0 {
         return 0;

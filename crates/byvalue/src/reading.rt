@@ -1,11 +1,11 @@
 // A map by value, of its image: read by the reader of pieces, and taken out of the reader's memory at the end.
 ghost use Rattle.std.specs.Prelude.{◌≡◌, ◌<◌};
-ghost use Rattle.limits.specs.Limits.{waitingLimit};
-ghost use Rattle.removals.specs.Model.{keysAs, waitingAs};
-ghost use Rattle.entries.specs.Model.{entriesAs};
-ghost use Rattle.map.specs.Model.{mapAs};
-ghost use Rattle.maprecords.specs.Related.{refusedMap, readMap};
-ghost use Rattle.memory.specs.Memory.{clockPlace, dotsAt, entries_at, listed_at, removalAt, waitingAt};
+ghost use Rattle.limits.specs.Limits.{waiting_limit};
+ghost use Rattle.removals.specs.Model.{keys_as, waiting_as};
+ghost use Rattle.entries.specs.Model.{entries_as};
+ghost use Rattle.map.specs.Model.{map_as};
+ghost use Rattle.maprecords.specs.Related.{refused_map, read_map};
+ghost use Rattle.memory.specs.Memory.{clock_place, dots_at, entries_at, listed_at, removal_at, waiting_at};
 
 use entries::Entries;
 use limits::{ENTRIES, KEYS, WAITING};
@@ -15,7 +15,7 @@ use memory::{CLOCK, CLOCK_ROOM, ENTRY_COUNT, READER, REMOVAL_PLACE, REMOVAL_ROOM
 use removals::{Keys, Removal, Waiting};
 
 fn entries_of(mem: &[u8; READER]) -> Entries
-    ensures { result ≡ entriesAs (entries_at mem.now) }
+    ensures { result ≡ entries_as (entries_at mem.now) }
 {
     let n = memory::count(mem, ENTRY_COUNT, ENTRIES);
     let mut entries = Entries::new();
@@ -32,8 +32,8 @@ fn entries_of(mem: &[u8; READER]) -> Entries
 
 // The keys of a waiting removal, by its place among them.
 fn keys_at(mem: &[u8; READER], k: usize) -> Keys
-    requires { k < waitingLimit }
-    ensures { result ≡ keysAs (listed_at mem.now k) }
+    requires { k < waiting_limit }
+    ensures { result ≡ keys_as (listed_at mem.now k) }
 {
     let at = REMOVAL_PLACE + k * REMOVAL_ROOM + CLOCK_ROOM;
     let n = memory::count(mem, at, KEYS);
@@ -48,8 +48,8 @@ fn keys_at(mem: &[u8; READER], k: usize) -> Keys
 }
 
 fn removal_at(mem: &[u8; READER], k: usize) -> Removal
-    requires { k < waitingLimit }
-    ensures { result ≡ removalAt mem.now k }
+    requires { k < waiting_limit }
+    ensures { result ≡ removal_at mem.now k }
 {
     let clock = delivery::clock_at(mem, REMOVAL_PLACE + k * REMOVAL_ROOM);
     let keys = keys_at(mem, k);
@@ -57,7 +57,7 @@ fn removal_at(mem: &[u8; READER], k: usize) -> Removal
 }
 
 fn waiting_of(mem: &[u8; READER]) -> Waiting
-    ensures { result ≡ waitingAs (waitingAt mem.now) }
+    ensures { result ≡ waiting_as (waiting_at mem.now) }
 {
     let n = memory::count(mem, WAITING_COUNT, WAITING);
     let mut waiting = Waiting::new();
@@ -73,7 +73,7 @@ fn waiting_of(mem: &[u8; READER]) -> Waiting
 }
 
 fn map_of(mem: &[u8; READER]) -> Map
-    ensures { result ≡ mapAs (dotsAt mem.now clockPlace) (entries_at mem.now) (waitingAt mem.now) }
+    ensures { result ≡ map_as (dots_at mem.now clock_place) (entries_at mem.now) (waiting_at mem.now) }
 {
     let clock = delivery::clock_at(mem, CLOCK);
     let entries = entries_of(mem);
@@ -86,14 +86,14 @@ fn map_of(mem: &[u8; READER]) -> Map
 }
 
 fn refused(number: u8) -> ReadMap
-    ensures { result ≡ refusedMap number }
+    ensures { result ≡ refused_map number }
 {
     let map = Map::new();
     ReadMap { number, map }
 }
 
 pub fn read_map(bytes: &[u8]) -> ReadMap
-    ensures { result ≡ readMap bytes.now }
+    ensures { result ≡ read_map bytes.now }
 {
     let mut mem = [0u8; READER];
     mailbox::begin(&mut mem);

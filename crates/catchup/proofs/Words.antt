@@ -8,13 +8,13 @@ use lib.Dec.{eqb, ltb}
 use lib.ListN.{length, take, drop}
 use lib.Seq.{take_at}
 use Rattle.scan.proofs.Eachs.{decide}
-use Rattle.mapimage.specs.MapImage.{mapLongest}
+use Rattle.mapimage.specs.MapImage.{map_longest}
 use Rattle.records.specs.Bytes.{placed}
 use Rattle.records.specs.Writing.{Wrote}
 use Rattle.records.proofs.Placing.{placed_first}
 use Rattle.answers.specs.Answer.{Answer, Answered, first_of, number_of, word_of, out_of, short_of}
-use Rattle.promises.specs.Calls.{applyAnswer}
-use Rattle.promises.specs.CatchUp.{applyNumber}
+use Rattle.promises.specs.Calls.{apply_answer}
+use Rattle.promises.specs.CatchUp.{apply_number}
 use Rattle.promises.proofs.Outcomes.{apply-number}
 use Rattle.catchup.specs.Walking.{Stepped}
 
@@ -35,7 +35,7 @@ unfolding number_of
 done-fits a o e = not_short a.bytes o (last-zero _ (first-zero a.own _ (first-zero a.second _ (first-zero a.first _ e))))
 
 -- both kinds of word
-module _ (a : Answer) (o : List ℕ) (short : length o ≡ mapLongest) {w : ℕ} (e : w ≡ word_of a o) where
+module _ (a : Answer) (o : List ℕ) (short : length o ≡ map_longest) {w : ℕ} (e : w ≡ word_of a o) where
   done-word : number_of a o ≡ 0 → w ≡ length a.bytes
   unfolding word_of
   done-word z = let f = rw z at e in omega (arith, f)
@@ -57,7 +57,7 @@ module _ (a : Answer) (o : List ℕ) (short : length o ≡ mapLongest) {w : ℕ}
   pub low_word : w < 2 ^ 32 → w ≡ length a.bytes
   low_word l = done-word (low-done l)
 
-  pub low_fits : w < 2 ^ 32 → w ≤ mapLongest
+  pub low_fits : w < 2 ^ 32 → w ≤ map_longest
   low_fits l = let q = low_word l in let r = done-fits a o (low-done l) in omega (arith, q, r, short)
 
   pub low-image : {exit : List ℕ} → exit ≡ out_of a o → w < 2 ^ 32 → take w exit ≡ a.bytes
@@ -75,14 +75,14 @@ copied {b} {entry} {n = n} w =
     ap (take n) (w.left ∙ placed_first b entry) ∙ take_at b (drop (length b) entry) n (let e = w.ends in omega (arith, e))
 
 -- a step that is refused, and one whose image is copied back
-module _ (map op : List ℕ) {there left : List ℕ} {w : ℕ} (short : length there ≡ mapLongest) (p : Answered (applyAnswer map op) there left w) where
+module _ (map op : List ℕ) {there left : List ℕ} {w : ℕ} (short : length there ≡ map_longest) (p : Answered (apply_answer map op) there left w) where
   abbrev a : Answer
-  a = applyAnswer map op
+  a = apply_answer map op
 
-  same_number : number_of a there ≡ applyNumber map op
+  same_number : number_of a there ≡ apply_number map op
   same_number = apply-number map op there short
 
-  pub step_fits : w < 2 ^ 32 → w ≤ mapLongest
+  pub step_fits : w < 2 ^ 32 → w ≤ map_longest
   step_fits l = low_fits a there short p.packed l
 
   pub stepped : (entry : List ℕ) {exit : List ℕ} → (w < 2 ^ 32 → exit ≡ placed 0 (take w left) entry) → Stepped map op exit w

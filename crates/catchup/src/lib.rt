@@ -1,7 +1,7 @@
 // A list of operations that another maker proposes: whether it brings our map to theirs, and which operation is refused.
 ghost use Rattle.std.specs.Prelude.{◌≡◌, ◌*◌, ◌^◌, ◌≤◌, length, take};
-ghost use Rattle.mapimage.specs.MapImage.{mapLongest};
-ghost use Rattle.promises.specs.CatchUp.{outcomeOf, sameBytes};
+ghost use Rattle.mapimage.specs.MapImage.{map_longest};
+ghost use Rattle.promises.specs.CatchUp.{outcome_of, same_bytes};
 ghost use Rattle.promises.specs.Promises.{CatchUpPromise, CatchUpPlacePromise};
 ghost use Rattle.catchup.specs.Walking.{Stepped, RanAs, Arrived, Judges};
 // The bytes of the longest map.
@@ -27,7 +27,7 @@ pub struct Verdict {
 
 // One operation on the map whose image is the first `len` bytes of `here`, by way of `there`.
 fn step(here: &mut [u8], len: usize, op: &[u8], there: &mut [u8]) -> u64
-    requires { (len ≤ mapLongest) × ((length here.old ≡ mapLongest) × (length there.old ≡ mapLongest)) }
+    requires { (len ≤ map_longest) × ((length here.old ≡ map_longest) × (length there.old ≡ map_longest)) }
     ensures { Stepped (take len here.old) op.now here.new result }
 {
     let w = changing::apply(&here[0..len], op, there);
@@ -40,8 +40,8 @@ fn step(here: &mut [u8], len: usize, op: &[u8], there: &mut [u8]) -> u64
 
 // The operations of a list one after the other, on the map whose image is the first `len` bytes of `here`.
 fn run(here: &mut [u8], len: usize, list: &[u8], there: &mut [u8]) -> Ran
-    requires { (len ≤ mapLongest) × ((length here.old ≡ mapLongest) × (length there.old ≡ mapLongest)) }
-    ensures { RanAs (outcomeOf (take len here.old) list.now) here.new result }
+    requires { (len ≤ map_longest) × ((length here.old ≡ map_longest) × (length there.old ≡ map_longest)) }
+    ensures { RanAs (outcome_of (take len here.old) list.now) here.new result }
 {
     let n = list.len();
     let mut left = len;
@@ -69,7 +69,7 @@ fn run(here: &mut [u8], len: usize, list: &[u8], there: &mut [u8]) -> Ran
 }
 
 fn same_bytes(a: &[u8], b: &[u8]) -> bool
-    ensures { result ≡ sameBytes a.now b.now }
+    ensures { result ≡ same_bytes a.now b.now }
 {
     let n = a.len();
     if b.len() != n {
@@ -87,7 +87,7 @@ fn same_bytes(a: &[u8], b: &[u8]) -> bool
 
 // The operations on a copy of our map, and whether they end in theirs.
 fn arrive(map: &[u8], other: &[u8], list: &[u8]) -> Verdict
-    requires { length map.now ≤ mapLongest }
+    requires { length map.now ≤ map_longest }
     ensures { Arrived map.now other.now list.now result }
 {
     let mut here = [0u8; LONGEST];

@@ -1,6 +1,6 @@
 // The three calls that change a map, on images where they lie.
 ghost use Rattle.std.specs.Prelude.{◌≡◌, ◌≤◌, length};
-ghost use Rattle.clock.specs.Dots.{dotsOf};
+ghost use Rattle.clock.specs.Dots.{dots_of};
 ghost use Rattle.clock.specs.Lawful.{Lawful};
 ghost use Rattle.map.specs.Judging.{judged};
 ghost use Rattle.map.specs.Merging.{merge};
@@ -8,12 +8,12 @@ ghost use Rattle.map.specs.Removing.{remove};
 ghost use Rattle.map.specs.Resetting.{reset};
 ghost use Rattle.map.specs.Updating.{update};
 ghost use Rattle.map.specs.Valid.{RemovalWithin, UpdateWithin};
-ghost use Rattle.records.specs.Records.{recordsOf};
-ghost use Rattle.opimage.specs.OpImage.{removalRecords, updateRecords};
-ghost use Rattle.mapimage.specs.MapImage.{mapLongest};
-ghost use Rattle.maprecords.specs.Related.{readMap};
+ghost use Rattle.records.specs.Records.{records_of};
+ghost use Rattle.opimage.specs.OpImage.{removal_records, update_records};
+ghost use Rattle.mapimage.specs.MapImage.{map_longest};
+ghost use Rattle.maprecords.specs.Related.{read_map};
 ghost use Rattle.answers.specs.Answer.{Answered};
-ghost use Rattle.promises.specs.Calls.{mapAnswer};
+ghost use Rattle.promises.specs.Calls.{map_answer};
 ghost use Rattle.promises.specs.Promises.{ApplyPromise, MergePromise, ResetRemovePromise};
 ghost use Rattle.layout.specs.Whole.{LaidOut};
 
@@ -26,9 +26,9 @@ use walks::Span;
 
 // A map that was read, with a removal.
 fn remove_by(map: &[u8], a: Laid, r: Removal, op: &[u8], out: &mut [u8]) -> u64
-    requires { (LaidOut map.now (readMap map.now).map a × ((readMap map.now).number ≡ 0))
-        × (RemovalWithin r × (removalRecords r ≡ recordsOf op.now)) }
-    ensures { Answered (mapAnswer 0 0 (judged (remove (readMap map.now).map r))) out.old out.new result }
+    requires { (LaidOut map.now (read_map map.now).map a × ((read_map map.now).number ≡ 0))
+        × (RemovalWithin r × (removal_records r ≡ records_of op.now)) }
+    ensures { Answered (map_answer 0 0 (judged (remove (read_map map.now).map r))) out.old out.new result }
 {
     let clock = a.clock;
     let l = a.layout;
@@ -50,8 +50,8 @@ fn remove_by(map: &[u8], a: Laid, r: Removal, op: &[u8], out: &mut [u8]) -> u64
 
 // A map as it was read.
 fn same(map: &[u8], out: &mut [u8]) -> u64
-    requires { (readMap map.now).number ≡ 0 }
-    ensures { Answered (mapAnswer 0 0 (record { number = 0; map = (readMap map.now).map })) out.old
+    requires { (read_map map.now).number ≡ 0 }
+    ensures { Answered (map_answer 0 0 (record { number = 0; map = (read_map map.now).map })) out.old
         out.new result }
 {
     if out.len() < map.len() {
@@ -62,9 +62,9 @@ fn same(map: &[u8], out: &mut [u8]) -> u64
 
 // A map that was read, with an update.
 fn update_by(map: &[u8], a: Laid, u: Update, op: &[u8], out: &mut [u8]) -> u64
-    requires { (LaidOut map.now (readMap map.now).map a × ((readMap map.now).number ≡ 0))
-        × ((UpdateWithin u × (updateRecords u ≡ recordsOf op.now)) × (length op.now ≤ mapLongest)) }
-    ensures { Answered (mapAnswer 0 0 (judged (update (readMap map.now).map u))) out.old out.new result }
+    requires { (LaidOut map.now (read_map map.now).map a × ((read_map map.now).number ≡ 0))
+        × ((UpdateWithin u × (update_records u ≡ records_of op.now)) × (length op.now ≤ map_longest)) }
+    ensures { Answered (map_answer 0 0 (judged (update (read_map map.now).map u))) out.old out.new result }
 {
     let d = u.dot;
     let seen = a.clock;
@@ -109,9 +109,9 @@ pub fn apply(map: &[u8], op: &[u8], out: &mut [u8]) -> u64
 
 // Two maps that were read, merged.
 fn merge_with(map: &[u8], a: Laid, other: &[u8], b: Laid, out: &mut [u8]) -> u64
-    requires { (LaidOut map.now (readMap map.now).map a × LaidOut other.now (readMap other.now).map b)
-        × (((readMap map.now).number ≡ 0) × ((readMap other.now).number ≡ 0)) }
-    ensures { Answered (mapAnswer 0 0 (judged (merge (readMap map.now).map (readMap other.now).map)))
+    requires { (LaidOut map.now (read_map map.now).map a × LaidOut other.now (read_map other.now).map b)
+        × (((read_map map.now).number ≡ 0) × ((read_map other.now).number ≡ 0)) }
+    ensures { Answered (map_answer 0 0 (judged (merge (read_map map.now).map (read_map other.now).map)))
         out.old out.new result }
 {
     let mine = a.clock;
@@ -154,8 +154,8 @@ pub fn merge(map: &[u8], other: &[u8], out: &mut [u8]) -> u64
 
 // A map that was read, reset by a clock.
 fn reset_by(map: &[u8], a: Laid, by: Clock, out: &mut [u8]) -> u64
-    requires { (LaidOut map.now (readMap map.now).map a × ((readMap map.now).number ≡ 0)) × Lawful (dotsOf by) }
-    ensures { Answered (mapAnswer 0 0 (judged (reset (readMap map.now).map (dotsOf by)))) out.old
+    requires { (LaidOut map.now (read_map map.now).map a × ((read_map map.now).number ≡ 0)) × Lawful (dots_of by) }
+    ensures { Answered (map_answer 0 0 (judged (reset (read_map map.now).map (dots_of by)))) out.old
         out.new result }
 {
     let seen = a.clock;

@@ -14,9 +14,9 @@ use Rattle.listlaws.proofs.Those.{those-same, those-those}
 use Rattle.listlaws.proofs.Ranks.{by-steady, by_level, level_by}
 use Rattle.listlaws.proofs.Woven.{weave-ascends, weave-every, weave-has-first, weave-has-second, weave-has-both}
 use Rattle.clock.specs.declared.Dot.{Dot}
-use Rattle.clock.specs.Dots.{counterIn, beyond, cutDots, largerDot, joinDots, addDot}
+use Rattle.clock.specs.Dots.{counter_in, beyond, cut_dots, larger_dot, join_dots, add_dot}
 use Rattle.clock.specs.Lawful.{Lawful}
-use Rattle.clock.proofs.Counters.{dotIn, counter-member, counter-cases, counter-absent, counter-nil, counter-one, same-clock}
+use Rattle.clock.proofs.Counters.{dot_in, counter-member, counter-cases, counter-absent, counter-nil, counter-one, same-clock}
 
 pub lawful-nil : Lawful []
 lawful-nil = record { rising = nil; positive = λ d i. absurd (Memᴰ.not-nil i) }
@@ -28,14 +28,14 @@ lawful-one d h = record {
 }
 
 -- the larger of two dots: its actor, and its counter
-larger-actor : (x y : Dot) → x.actor ≡ y.actor → x.actor ≡ (largerDot x y).actor
+larger-actor : (x y : Dot) → x.actor ≡ y.actor → x.actor ≡ (larger_dot x y).actor
 larger-actor x y e = go (ltb x.counter y.counter)
   where
     go : (b : Bool) → x.actor ≡ (cond b y x).actor
     go true = e
     go false = refl
 
-larger-counter : (x y : Dot) → (largerDot x y).counter ≡ max x.counter y.counter
+larger-counter : (x y : Dot) → (larger_dot x y).counter ≡ max x.counter y.counter
 larger-counter x y = go (ltb x.counter y.counter) refl
   where
     go : (b : Bool) → ltb x.counter y.counter ≡ b → (cond b y x).counter ≡ max x.counter y.counter
@@ -58,53 +58,53 @@ whose d = d.actor
 module _ {a b : List Dot} (h : Lawful a) (k : Lawful b) where
   -- what holds of the dots of both clocks, and of the larger of two of one actor, holds of the joined clock's
   pub join-every : (P : Dot → Type 0) → ((x : Dot) → x ∈ a → P x) → ((y : Dot) → y ∈ b → P y)
-      → ((x y : Dot) → x ∈ a → y ∈ b → x.actor ≡ y.actor → P (largerDot x y)) → (z : Dot) → z ∈ joinDots a b → P z
-  unfolding joinDots
+      → ((x y : Dot) → x ∈ a → y ∈ b → x.actor ≡ y.actor → P (larger_dot x y)) → (z : Dot) → z ∈ join_dots a b → P z
+  unfolding join_dots
   join-every P f g e =
-      weave-every (by whose) (λ d. d) (λ d. d) largerDot (by-strict whose) (by-steady whose) P h.rising k.rising
+      weave-every (by whose) (λ d. d) (λ d. d) larger_dot (by-strict whose) (by-steady whose) P h.rising k.rising
       (λ x i s. f x i) (λ y i s. g y i) (λ x y i j s. e x y i j (by_level whose x y s))
 
-  pub lawful-join : Lawful (joinDots a b)
-  unfolding joinDots
+  pub lawful-join : Lawful (join_dots a b)
+  unfolding join_dots
   lawful-join = record {
     rising =
-        weave-ascends (by whose) (λ d. d) (λ d. d) largerDot (by-strict whose) (by-steady whose)
-        (λ d. level_by whose d d refl) (λ d. level_by whose d d refl) (λ x y e. level_by whose x (largerDot x y)
+        weave-ascends (by whose) (λ d. d) (λ d. d) larger_dot (by-strict whose) (by-steady whose)
+        (λ d. level_by whose d d refl) (λ d. level_by whose d d refl) (λ x y e. level_by whose x (larger_dot x y)
         (larger-actor x y (by_level whose x y e)))
         h.rising k.rising;
     positive = join-every (λ d. 0 < d.counter) h.positive k.positive (λ x y i j e. omega (arith, larger-counter x y, h.positive x i));
   }
 
   -- the joined clock has the larger counter
-  pub counter-join : (x : ℕ) → counterIn (joinDots a b) x ≡ max (counterIn a x) (counterIn b x)
-  unfolding joinDots
+  pub counter-join : (x : ℕ) → counter_in (join_dots a b) x ≡ max (counter_in a x) (counter_in b x)
+  unfolding join_dots
   counter-join x = go (counter-cases a x) (counter-cases b x)
     where
-      go : (dotIn a x ∈ a) ⊎ ((d : Dot) → d ∈ a → d.actor ≡ x → ⊥) → (dotIn b x ∈ b) ⊎ ((d : Dot) → d ∈ b → d.actor ≡ x → ⊥)
-          → counterIn (joinDots a b) x ≡ max (counterIn a x) (counterIn b x)
+      go : (dot_in a x ∈ a) ⊎ ((d : Dot) → d ∈ a → d.actor ≡ x → ⊥) → (dot_in b x ∈ b) ⊎ ((d : Dot) → d ∈ b → d.actor ≡ x → ⊥)
+          → counter_in (join_dots a b) x ≡ max (counter_in a x) (counter_in b x)
       go (inl i) (inl j) =
-          let p = dotIn a x in
-          let q = dotIn b x in
-          let r = weave-has-both (by whose) (λ d. d) (λ d. d) largerDot (by-strict whose) (by-steady whose) h.rising k.rising i j
+          let p = dot_in a x in
+          let q = dot_in b x in
+          let r = weave-has-both (by whose) (λ d. d) (λ d. d) larger_dot (by-strict whose) (by-steady whose) h.rising k.rising i j
           (level_by whose p q refl) in
-          ap (counterIn (joinDots a b)) (larger-actor p q refl) ∙ counter-member lawful-join r ∙ larger-counter p q
+          ap (counter_in (join_dots a b)) (larger-actor p q refl) ∙ counter-member lawful-join r ∙ larger-counter p q
       go (inl i) (inr g) =
-          let r = weave-has-first (by whose) (λ d. d) (λ d. d) largerDot i (λ y j e. g y j (sym (by_level whose (dotIn a x) y e))) in
+          let r = weave-has-first (by whose) (λ d. d) (λ d. d) larger_dot i (λ y j e. g y j (sym (by_level whose (dot_in a x) y e))) in
           omega (arith, counter-absent b x g, counter-member lawful-join r)
       go (inr f) (inl j) =
-          let r = weave-has-second (by whose) (λ d. d) (λ d. d) largerDot j (λ y i e. f y i (by_level whose y (dotIn b x) e)) in
+          let r = weave-has-second (by whose) (λ d. d) (λ d. d) larger_dot j (λ y i e. f y i (by_level whose y (dot_in b x) e)) in
           omega (arith, counter-absent a x f, counter-member lawful-join r)
       go (inr f) (inr g) =
           let r = join-every (λ d. d.actor ≡ x → ⊥) f g (λ p q i j e u. f p i (larger-actor p q e ∙ u)) in
-          omega (arith, counter-absent a x f, counter-absent b x g, counter-absent (joinDots a b) x r)
+          omega (arith, counter-absent a x f, counter-absent b x g, counter-absent (join_dots a b) x r)
 
   -- a cut by two clocks is a cut by both joined
-  pub cut-cut : (x : List Dot) → cutDots b (cutDots a x) ≡ cutDots (joinDots a b) x
-  unfolding cutDots
+  pub cut-cut : (x : List Dot) → cut_dots b (cut_dots a x) ≡ cut_dots (join_dots a b) x
+  unfolding cut_dots
   cut-cut x = those-those (beyond b) (beyond a) x ∙ those-same _ _ x (λ d i. rw (counter-join d.actor)
-      (ltb-max (counterIn a d.actor) (counterIn b d.actor) d.counter))
+      (ltb-max (counter_in a d.actor) (counter_in b d.actor) d.counter))
 
-pub join-again : {a : List Dot} → Lawful a → joinDots a a ≡ a
+pub join-again : {a : List Dot} → Lawful a → join_dots a a ≡ a
 join-again h = same-clock (lawful-join h h) h (λ x. omega (arith, counter-join h h x))
 
 -- what adding a dot joins is a clock
@@ -112,32 +112,32 @@ pub lawful-beyond : (l : List Dot) (d : Dot) → Lawful (cond (beyond l d) (d �
 lawful-beyond l d = go (beyond l d) refl
   where
     go : (b : Bool) → beyond l d ≡ b → Lawful (cond b (d ∷ []) [])
-    go true t = lawful-one d (omega (arith, ltb-true (counterIn l d.actor) d.counter t))
+    go true t = lawful-one d (omega (arith, ltb-true (counter_in l d.actor) d.counter t))
     go false t = lawful-nil
 
-pub lawful-add : {l : List Dot} → Lawful l → (d : Dot) → Lawful (addDot l d)
-unfolding addDot
+pub lawful-add : {l : List Dot} → Lawful l → (d : Dot) → Lawful (add_dot l d)
+unfolding add_dot
 lawful-add {l} h d = lawful-join h (lawful-beyond l d)
 
-pub counter-add : {l : List Dot} → Lawful l → (d : Dot) (x : ℕ) → counterIn (addDot l d) x ≡ cond (eqb d.actor x)
-    (max (counterIn l x) d.counter) (counterIn l x)
-unfolding addDot
+pub counter-add : {l : List Dot} → Lawful l → (d : Dot) (x : ℕ) → counter_in (add_dot l d) x ≡ cond (eqb d.actor x)
+    (max (counter_in l x) d.counter) (counter_in l x)
+unfolding add_dot
 counter-add {l} h d x = counter-join h (lawful-beyond l d) x ∙ go (beyond l d) (eqb d.actor x) refl refl
   where
-    go : (b c : Bool) → beyond l d ≡ b → eqb d.actor x ≡ c → max (counterIn l x) (counterIn (cond b (d ∷ []) []) x) ≡ cond c
-        (max (counterIn l x) d.counter) (counterIn l x)
-    go true true t u = ap (max (counterIn l x)) (rw u at (counter-one d x))
+    go : (b c : Bool) → beyond l d ≡ b → eqb d.actor x ≡ c → max (counter_in l x) (counter_in (cond b (d ∷ []) []) x) ≡ cond c
+        (max (counter_in l x) d.counter) (counter_in l x)
+    go true true t u = ap (max (counter_in l x)) (rw u at (counter-one d x))
     go true false t u = omega (arith, rw u at (counter-one d x))
     go false true t u =
-        omega (arith, counter-nil x, ltb-false (counterIn l d.actor) d.counter t, ap (counterIn l) (eqb-true d.actor x u))
+        omega (arith, counter-nil x, ltb-false (counter_in l d.actor) d.counter t, ap (counter_in l) (eqb-true d.actor x u))
     go false false t u = omega (arith, counter-nil x)
 
 -- an end theorem, which nothing here uses: adding a dot is joining its clock
-pub add-join : {l : List Dot} → Lawful l → (d : Dot) → 0 < d.counter → addDot l d ≡ joinDots l (d ∷ [])
+pub add-join : {l : List Dot} → Lawful l → (d : Dot) → 0 < d.counter → add_dot l d ≡ join_dots l (d ∷ [])
 add-join {l} h d p = same-clock (lawful-add h d) (lawful-join h (lawful-one d p))
     (λ x. counter-add h d x ∙ go x (eqb d.actor x) refl ∙ sym (counter-join h (lawful-one d p) x))
   where
-    go : (x : ℕ) (c : Bool) → eqb d.actor x ≡ c → cond c (max (counterIn l x) d.counter) (counterIn l x) ≡ max (counterIn l x)
-        (counterIn (d ∷ []) x)
-    go x true t = ap (max (counterIn l x)) (sym (rw t at (counter-one d x)))
+    go : (x : ℕ) (c : Bool) → eqb d.actor x ≡ c → cond c (max (counter_in l x) d.counter) (counter_in l x) ≡ max (counter_in l x)
+        (counter_in (d ∷ []) x)
+    go x true t = ap (max (counter_in l x)) (sym (rw t at (counter-one d x)))
     go x false t = omega (arith, rw t at (counter-one d x))

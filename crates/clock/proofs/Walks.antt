@@ -17,13 +17,13 @@ use Rattle.listlaws.proofs.Checking.{Checking, checking-start, checking-fails, c
 use Rattle.clock.specs.declared.Dot.{Dot}
 use Rattle.clock.specs.declared.Order.{Order}
 use Rattle.clock.specs.declared.Order.TheVariants.{Equal, Greater, Less, Concurrent}
-use Rattle.clock.specs.Dots.{noDot, counterIn, beyond, covers, outcome, order_of}
+use Rattle.clock.specs.Dots.{no_dot, counter_in, beyond, covers, outcome, order_of}
 use Rattle.clock.specs.Lawful.{Lawful}
-use Rattle.clock.specs.Walking.{isLawful}
+use Rattle.clock.specs.Walking.{is_lawful}
 
 -- what the test of a clock tells
-pub lawful-told : {l : List Dot} → isLawful l ≡ true → Lawful l
-unfolding isLawful
+pub lawful-told : {l : List Dot} → is_lawful l ≡ true → Lawful l
+unfolding is_lawful
 lawful-told {l} r = record {
   rising = rising-ascends (λ d. d.actor) (λ d. ltb 0 d.counter) 0 l r;
   positive = λ d i. ltb-true 0 d.counter (rising-good (λ e. e.actor) (λ e. ltb 0 e.counter) 0 l r d i);
@@ -36,18 +36,18 @@ Walk xs n i ys m j = Beside (λ d. d.actor) (λ d. d.counter) 0 xs n i ys m j
 module _ {xs : List Dot} {n : ℕ} {ys : List Dot} {m : ℕ} where
   module _ {i j : ℕ} (g : Walk xs n i ys m j) (k : j < length (take m ys)) where
     -- what the first clock has for the second's actor, where its own dot is of that actor, of a later one, or none is left
-    pub walk-found : i < length (take n xs) → (get_or xs i noDot).actor ≡ (get_or ys j noDot).actor
-        → counterIn (take n xs) (get_or ys j noDot).actor ≡ (get_or xs i noDot).counter
-    unfolding counterIn
-    walk-found h e = beside-found noDot g k h e
+    pub walk-found : i < length (take n xs) → (get_or xs i no_dot).actor ≡ (get_or ys j no_dot).actor
+        → counter_in (take n xs) (get_or ys j no_dot).actor ≡ (get_or xs i no_dot).counter
+    unfolding counter_in
+    walk-found h e = beside-found no_dot g k h e
 
-    pub walk-missed : (i < length (take n xs) → (get_or ys j noDot).actor < (get_or xs i noDot).actor) → counterIn (take n xs) (get_or ys j noDot).actor ≡ 0
-    unfolding counterIn
+    pub walk-missed : (i < length (take n xs) → (get_or ys j no_dot).actor < (get_or xs i no_dot).actor) → counter_in (take n xs) (get_or ys j no_dot).actor ≡ 0
+    unfolding counter_in
     walk-missed f = go (leb (length (take n xs)) i) refl
       where
-        go : (t : Bool) → leb (length (take n xs)) i ≡ t → counterIn (take n xs) (get_or ys j noDot).actor ≡ 0
-        go true e = beside_end noDot g k (leb-true _ _ e)
-        go false e = let h = leb-false (length (take n xs)) i e in beside-missed noDot g k h (f h)
+        go : (t : Bool) → leb (length (take n xs)) i ≡ t → counter_in (take n xs) (get_or ys j no_dot).actor ≡ 0
+        go true e = beside_end no_dot g k (leb-true _ _ e)
+        go false e = let h = leb-false (length (take n xs)) i e in beside-missed no_dot g k h (f h)
 
 -- the flag says whether the first clock covers those of the second's dots that are passed
 pub record Covering (xs : List Dot) (n i : ℕ) (ys : List Dot) (m j : ℕ) (flag : Bool) : Type 0 where
@@ -69,34 +69,34 @@ module _ {xs : List Dot} {n : ℕ} {ys : List Dot} {m : ℕ} where
   module _ {i j : ℕ} {flag : Bool} (g : Covering xs n i ys m j flag) where
     module _ (h : i < length (take n xs)) (k : j < length (take m ys)) where
       -- an actor that only the first clock has
-      pub covering-past : (get_or xs i noDot).actor < (get_or ys j noDot).actor → Covering xs n (i + 1) ys m j flag
-      covering-past e = record { walk = beside-past noDot g.walk k h e; checking = g.checking }
+      pub covering-past : (get_or xs i no_dot).actor < (get_or ys j no_dot).actor → Covering xs n (i + 1) ys m j flag
+      covering-past e = record { walk = beside-past no_dot g.walk k h e; checking = g.checking }
 
       -- an actor that both have
-      pub covering-both : (get_or xs i noDot).actor ≡ (get_or ys j noDot).actor
-          → Covering xs n (i + 1) ys m (j + 1) (flag && leb (get_or ys j noDot).counter (get_or xs i noDot).counter)
+      pub covering-both : (get_or xs i no_dot).actor ≡ (get_or ys j no_dot).actor
+          → Covering xs n (i + 1) ys m (j + 1) (flag && leb (get_or ys j no_dot).counter (get_or xs i no_dot).counter)
       covering-both e = record {
-        walk = beside-both noDot g.walk k h e;
+        walk = beside-both no_dot g.walk k h e;
         checking =
-            checking-on noDot g.checking k _
-            (rw (walk-found g.walk k h e) (not_beyond (get_or xs i noDot).counter (get_or ys j noDot).counter));
+            checking-on no_dot g.checking k _
+            (rw (walk-found g.walk k h e) (not_beyond (get_or xs i no_dot).counter (get_or ys j no_dot).counter));
       }
 
     module _ (p : Lawful (take m ys)) where
-      missed : (k : j < length (take m ys)) → (i < length (take n xs) → (get_or ys j noDot).actor < (get_or xs i noDot).actor)
-          → beyond (take n xs) (get_or ys j noDot) ≡ true
-      missed k f = rw (walk-missed g.walk k f) (lt-ltb 0 _ (p.positive (get_or ys j noDot) (in_list ys m j noDot k)))
+      missed : (k : j < length (take m ys)) → (i < length (take n xs) → (get_or ys j no_dot).actor < (get_or xs i no_dot).actor)
+          → beyond (take n xs) (get_or ys j no_dot) ≡ true
+      missed k f = rw (walk-missed g.walk k f) (lt-ltb 0 _ (p.positive (get_or ys j no_dot) (in_list ys m j no_dot k)))
 
       -- an actor that only the second clock has
-      pub covering-missed : (h : i < length (take n xs)) (k : j < length (take m ys)) → (get_or ys j noDot).actor < (get_or xs i noDot).actor
+      pub covering-missed : (h : i < length (take n xs)) (k : j < length (take m ys)) → (get_or ys j no_dot).actor < (get_or xs i no_dot).actor
           → Covering xs n i ys m (j + 1) false
-      covering-missed h k e = record { walk = beside-next noDot g.walk k; checking = checking-fails noDot g.checking k (missed k (λ q. e)) }
+      covering-missed h k e = record { walk = beside-next no_dot g.walk k; checking = checking-fails no_dot g.checking k (missed k (λ q. e)) }
 
       -- one of the two is used up
       pub covering-end : (length (take n xs) ≤ i) ⊎ (length (take m ys) ≤ j) → (flag && leb (length (take m ys)) j) ≡ covers (take n xs) (take m ys)
       unfolding covers
-      covering-end (inl q) = checking-end noDot g.checking (λ k. missed k (λ h. absurd (omega arith)))
-      covering-end (inr q) = checking-end noDot g.checking (λ k. absurd (omega arith))
+      covering-end (inl q) = checking-end no_dot g.checking (λ k. missed k (λ h. absurd (omega arith)))
+      covering-end (inr q) = checking-end no_dot g.checking (λ k. absurd (omega arith))
 
     -- all of the second's dots are passed
     pub covering-all : length (take m ys) ≤ j → flag ≡ covers (take n xs) (take m ys)

@@ -2,43 +2,43 @@
 use Rattle.std.specs.Prelude.{Bool, true, false, cond, List, [], ◌∷◌, ℕ, ◌-◌, ltb, eqb, length, take}
 use Rattle.listlaws.specs.Pad.{pad}
 use Rattle.listlaws.specs.Sift.{those}
-use Rattle.listlaws.specs.First.{firstIn, none}
+use Rattle.listlaws.specs.First.{first_in, none}
 use Rattle.listlaws.specs.Weave.{weave}
 use Rattle.listlaws.specs.Order.{by}
-use Rattle.listlaws.specs.Limit.{ifWithin}
+use Rattle.listlaws.specs.Limit.{if_within}
 use Rattle.clock.specs.declared.Dot.{Dot}
 use Rattle.clock.specs.declared.Clock.{Clock}
 use Rattle.clock.specs.declared.Cut.{Cut}
 use Rattle.clock.specs.declared.Joined.{Joined}
 use Rattle.clock.specs.declared.Order.{Order}
 use Rattle.clock.specs.declared.Order.TheVariants.{Equal, Greater, Less, Concurrent}
-use Rattle.limits.specs.Limits.{dotLimit}
+use Rattle.limits.specs.Limits.{dot_limit}
 
-abbrev pub noDot : Dot
-noDot = record { actor = 0; counter = 0 }
+abbrev pub no_dot : Dot
+no_dot = record { actor = 0; counter = 0 }
 
 -- the dots of a clock
-abbrev pub dotsOf : Clock → List Dot
-dotsOf c = take c.len c.dots
+abbrev pub dots_of : Clock → List Dot
+dots_of c = take c.len c.dots
 
 -- the clock of these dots: the places behind them hold zeros
-abbrev pub clockOf : List Dot → Clock
-clockOf l = record { dots = pad noDot dotLimit l; len = length l }
+abbrev pub clock_of : List Dot → Clock
+clock_of l = record { dots = pad no_dot dot_limit l; len = length l }
 
 -- the answer of an operation that can grow: the clock, or that it is over the limit
 abbrev pub fitted : List Dot → Joined
-fitted l = ifWithin dotLimit (λ d. record { over = false; clock = clockOf d }) (record { over = true; clock = clockOf [] }) l
+fitted l = if_within dot_limit (λ d. record { over = false; clock = clock_of d }) (record { over = true; clock = clock_of [] }) l
 
 unfoldable pub is_empty : List Dot → Bool
 is_empty l = eqb (length l) 0
 
 -- "A clock gives each actor a counter; an absent actor has 0."
-unfoldable pub counterIn : List Dot → ℕ → ℕ
-counterIn l a = firstIn (λ d. eqb d.actor a) (λ d. d.counter) 0 l
+unfoldable pub counter_in : List Dot → ℕ → ℕ
+counter_in l a = first_in (λ d. eqb d.actor a) (λ d. d.counter) 0 l
 
 -- a dot whose counter is larger than these dots' counter for its actor
 abbrev pub beyond : List Dot → Dot → Bool
-beyond l d = ltb (counterIn l d.actor) d.counter
+beyond l d = ltb (counter_in l d.actor) d.counter
 
 -- "A covers B when every counter of B is at most A's."
 unfoldable pub covers : List Dot → List Dot → Bool
@@ -55,29 +55,29 @@ unfoldable pub order_of : List Dot → List Dot → Order
 order_of a b = outcome (covers a b) (covers b a)
 
 -- "Cutting X by C deletes each dot of X whose counter is at most C's, and keeps other dots as they are."
-unfoldable pub cutDots : List Dot → List Dot → List Dot
-cutDots c x = those (beyond c) x
+unfoldable pub cut_dots : List Dot → List Dot → List Dot
+cut_dots c x = those (beyond c) x
 
 -- "A cut of a clock should return, besides the clock, how many dots it deleted": as many as it has less
 abbrev pub cut_of : List Dot → List Dot → Cut
-cut_of c x = record { clock = clockOf (cutDots c x); deleted = length x - length (cutDots c x) }
+cut_of c x = record { clock = clock_of (cut_dots c x); deleted = length x - length (cut_dots c x) }
 
 -- of two dots of one actor, the one with the larger counter
-abbrev pub largerDot : Dot → Dot → Dot
-largerDot x y = cond (ltb x.counter y.counter) y x
+abbrev pub larger_dot : Dot → Dot → Dot
+larger_dot x y = cond (ltb x.counter y.counter) y x
 
 -- "Joining takes the larger counter per actor."
-unfoldable pub joinDots : List Dot → List Dot → List Dot
-joinDots a b = weave (by (λ d. d.actor)) (λ d. d) (λ d. d) largerDot a b
+unfoldable pub join_dots : List Dot → List Dot → List Dot
+join_dots a b = weave (by (λ d. d.actor)) (λ d. d) (λ d. d) larger_dot a b
 
 -- a dot at the counter that these dots have for its actor
 abbrev pub shared : List Dot → Dot → Bool
-shared l d = eqb (counterIn l d.actor) d.counter
+shared l d = eqb (counter_in l d.actor) d.counter
 
 -- "Common dots are those with equal counters in both."
-unfoldable pub commonDots : List Dot → List Dot → List Dot
-commonDots a b = those (shared b) a
+unfoldable pub common_dots : List Dot → List Dot → List Dot
+common_dots a b = those (shared b) a
 
 -- "Adding a dot takes effect only if its counter is larger."
-unfoldable pub addDot : List Dot → Dot → List Dot
-addDot l d = joinDots l (cond (beyond l d) (d ∷ []) [])
+unfoldable pub add_dot : List Dot → Dot → List Dot
+add_dot l d = join_dots l (cond (beyond l d) (d ∷ []) [])

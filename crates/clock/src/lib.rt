@@ -2,10 +2,10 @@
 ghost use Rattle.std.specs.Prelude.{◌≡◌, true, List, [], ◌∷◌, ◌++◌, map, ◌≤◌, ◌<◌, length, drop};
 ghost use Rattle.clock.specs.declared.Dot.{Dot};
 ghost use Rattle.listlaws.specs.Sift.{those};
-ghost use Rattle.limits.specs.Limits.{dotLimit};
-ghost use Rattle.clock.specs.Dots.{dotsOf, clockOf, fitted, counterIn, is_empty, covers, outcome, order_of, cutDots, cut_of, commonDots};
-ghost use Rattle.clock.specs.Dots.{largerDot, joinDots, addDot};
-ghost use Rattle.clock.specs.Walking.{staysAt, kept, isLawful, sameActors};
+ghost use Rattle.limits.specs.Limits.{dot_limit};
+ghost use Rattle.clock.specs.Dots.{dots_of, clock_of, fitted, counter_in, is_empty, covers, outcome, order_of, cut_dots, cut_of, common_dots};
+ghost use Rattle.clock.specs.Dots.{larger_dot, join_dots, add_dot};
+ghost use Rattle.clock.specs.Walking.{stays_at, kept, is_lawful, same_actors};
 ghost use Rattle.clock.specs.Lawful.{Lawful};
 
 use limits::DOTS;
@@ -63,7 +63,7 @@ pub fn outcome(over: bool, under: bool) -> Order
 impl Dot {
     // Whether a dot stays where its actor was seen at this counter: at the same one, if `same` is set, and else at a larger one.
     fn stays(self, seen: u64, same: bool) -> bool
-        ensures { result ≡ staysAt same seen self.counter }
+        ensures { result ≡ stays_at same seen self.counter }
     {
         if same {
             seen == self.counter
@@ -74,7 +74,7 @@ impl Dot {
 
     // Of two dots of one actor, the one with the larger counter.
     fn larger(self, other: Dot) -> Dot
-        ensures { result ≡ largerDot self other }
+        ensures { result ≡ larger_dot self other }
     {
         if self.counter < other.counter {
             other
@@ -86,7 +86,7 @@ impl Dot {
 
 impl Clock {
     pub fn new() -> Clock
-        ensures { result ≡ clockOf [] }
+        ensures { result ≡ clock_of [] }
     {
         let none = Dot {
             actor: 0,
@@ -99,21 +99,21 @@ impl Clock {
     }
 
     pub fn size(self) -> usize
-        ensures { (result ≡ length (dotsOf self)) × (result ≤ dotLimit) }
+        ensures { (result ≡ length (dots_of self)) × (result ≤ dot_limit) }
     {
         let n = self.len;
         if n < DOTS { n } else { DOTS }
     }
 
     pub fn is_empty(self) -> bool
-        ensures { result ≡ is_empty (dotsOf self) }
+        ensures { result ≡ is_empty (dots_of self) }
     {
         self.size() == 0
     }
 
     // The counter of an actor.
     pub fn get(self, actor: u16) -> u64
-        ensures { result ≡ counterIn (dotsOf self) actor }
+        ensures { result ≡ counter_in (dots_of self) actor }
     {
         let n = self.size();
         let mut i: usize = 0;
@@ -129,8 +129,8 @@ impl Clock {
 
     // The clock with a dot behind its last.
     pub fn push(self, d: Dot) -> Clock
-        requires { self.len < dotLimit }
-        ensures { (l : List Dot) → self ≡ clockOf l → result ≡ clockOf (l ++ (d ∷ [])) }
+        requires { self.len < dot_limit }
+        ensures { (l : List Dot) → self ≡ clock_of l → result ≡ clock_of (l ++ (d ∷ [])) }
     {
         let mut out = self;
         let k = out.len;
@@ -141,7 +141,7 @@ impl Clock {
 
     // Whether it is a clock in order: actors strictly ascending, counters from 1.
     fn is_lawful(self) -> bool
-        ensures { result ≡ isLawful (dotsOf self) }
+        ensures { result ≡ is_lawful (dots_of self) }
     {
         let n = self.size();
         let mut low: u32 = 0;
@@ -160,7 +160,7 @@ impl Clock {
 
     // Without the dots that `by` has seen: the Rust's `reset_remove` and `clone_without`. The sizes say how many those were.
     pub fn cut(self, by: Clock) -> Cut
-        ensures { result ≡ cut_of (dotsOf by) (dotsOf self) }
+        ensures { result ≡ cut_of (dots_of by) (dots_of self) }
     {
         let left = self.sift(by, false);
         let deleted = self.size() - left.len;
@@ -172,14 +172,14 @@ impl Clock {
 
     // The dots that both have, at equal counters: the Rust's `intersection`.
     pub fn common(self, other: Clock) -> Clock
-        ensures { result ≡ clockOf (commonDots (dotsOf self) (dotsOf other)) }
+        ensures { result ≡ clock_of (common_dots (dots_of self) (dots_of other)) }
     {
         self.sift(other, true)
     }
 
     // The dots that `by` has at the same counter, where `same` is set, and else those beyond it.
     fn sift(self, by: Clock, same: bool) -> Clock
-        ensures { result ≡ clockOf (those (kept same (dotsOf by)) (dotsOf self)) }
+        ensures { result ≡ clock_of (those (kept same (dots_of by)) (dots_of self)) }
     {
         if self.is_lawful() {
             if by.is_lawful() {
@@ -191,8 +191,8 @@ impl Clock {
 
     // The same for clocks in order, by one walk over both.
     fn sift_beside(self, by: Clock, same: bool) -> Clock
-        requires { Lawful (dotsOf self) × Lawful (dotsOf by) }
-        ensures { result ≡ clockOf (those (kept same (dotsOf by)) (dotsOf self)) }
+        requires { Lawful (dots_of self) × Lawful (dots_of by) }
+        ensures { result ≡ clock_of (those (kept same (dots_of by)) (dots_of self)) }
     {
         let n = self.size();
         let m = by.size();
@@ -225,7 +225,7 @@ impl Clock {
 
     // The same for any two, each dot looked up.
     fn sift_by_look(self, by: Clock, same: bool) -> Clock
-        ensures { result ≡ clockOf (those (kept same (dotsOf by)) (dotsOf self)) }
+        ensures { result ≡ clock_of (those (kept same (dots_of by)) (dots_of self)) }
     {
         let n = self.size();
         let mut out = Clock::new();
@@ -245,7 +245,7 @@ impl Clock {
 
     // Whether every counter of `other` is at most this clock's.
     pub fn covers(self, other: Clock) -> bool
-        ensures { result ≡ covers (dotsOf self) (dotsOf other) }
+        ensures { result ≡ covers (dots_of self) (dots_of other) }
     {
         let o = self.compare(other);
         match o {
@@ -258,7 +258,7 @@ impl Clock {
 
     // The Rust's `partial_cmp`.
     pub fn compare(self, other: Clock) -> Order
-        ensures { result ≡ order_of (dotsOf self) (dotsOf other) }
+        ensures { result ≡ order_of (dots_of self) (dots_of other) }
     {
         if self.same_actors(other) {
             return self.compare_level(other);
@@ -275,7 +275,7 @@ impl Clock {
 
     // Whether both have the same actors, strictly ascending.
     fn same_actors(self, other: Clock) -> bool
-        ensures { result ≡ sameActors (dotsOf self) (dotsOf other) }
+        ensures { result ≡ same_actors (dots_of self) (dots_of other) }
     {
         let n = self.size();
         if n != other.size() {
@@ -298,8 +298,8 @@ impl Clock {
 
     // The comparison of clocks with the same actors: place by place.
     fn compare_level(self, other: Clock) -> Order
-        requires { sameActors (dotsOf self) (dotsOf other) ≡ true }
-        ensures { result ≡ order_of (dotsOf self) (dotsOf other) }
+        requires { same_actors (dots_of self) (dots_of other) ≡ true }
+        ensures { result ≡ order_of (dots_of self) (dots_of other) }
     {
         let n = self.size();
         let mut over = true;
@@ -320,8 +320,8 @@ impl Clock {
 
     // The same for clocks in order, by one walk over both: a dot that one of them has alone settles one side.
     fn compare_beside(self, other: Clock) -> Order
-        requires { Lawful (dotsOf self) × Lawful (dotsOf other) }
-        ensures { result ≡ order_of (dotsOf self) (dotsOf other) }
+        requires { Lawful (dots_of self) × Lawful (dots_of other) }
+        ensures { result ≡ order_of (dots_of self) (dots_of other) }
     {
         let n = self.size();
         let m = other.size();
@@ -353,7 +353,7 @@ impl Clock {
 
     // Whether it covers any other, each dot looked up.
     fn covers_by_look(self, other: Clock) -> bool
-        ensures { result ≡ covers (dotsOf self) (dotsOf other) }
+        ensures { result ≡ covers (dots_of self) (dots_of other) }
     {
         let n = other.size();
         let mut i: usize = 0;
@@ -369,7 +369,7 @@ impl Clock {
 
     // The larger counter of each actor: the Rust's `merge`.
     pub fn join(self, other: Clock) -> Joined
-        ensures { result ≡ fitted (joinDots (dotsOf self) (dotsOf other)) }
+        ensures { result ≡ fitted (join_dots (dots_of self) (dots_of other)) }
     {
         let n = self.size();
         let m = other.size();
@@ -396,7 +396,7 @@ impl Clock {
 
     // The clock with a dot, where its counter is larger: the Rust's `apply`.
     pub fn add(self, d: Dot) -> Joined
-        ensures { result ≡ fitted (addDot (dotsOf self) d) }
+        ensures { result ≡ fitted (add_dot (dots_of self) d) }
     {
         let none = Clock::new();
         if self.get(d.actor) < d.counter {
@@ -410,7 +410,7 @@ impl Clock {
 impl Joined {
     // A clock joined to what was joined before.
     pub fn join(self, other: Clock) -> Joined
-        ensures { (l : List Dot) → self ≡ fitted l → result ≡ fitted (joinDots l (dotsOf other)) }
+        ensures { (l : List Dot) → self ≡ fitted l → result ≡ fitted (join_dots l (dots_of other)) }
     {
         if self.over {
             return self;
@@ -452,7 +452,7 @@ impl Joined {
 
     // The dots of `from` from place `at` on, behind the last.
     fn trail(self, from: Clock, at: usize) -> Joined
-        ensures { (l : List Dot) → self ≡ fitted l → result ≡ fitted (l ++ map (λ d. d) (drop at (dotsOf from))) }
+        ensures { (l : List Dot) → self ≡ fitted l → result ≡ fitted (l ++ map (λ d. d) (drop at (dots_of from))) }
     {
         let n = from.size();
         let mut out = self;

@@ -2,13 +2,13 @@
 use mathlib.Core.Path.{◌≡◌, refl}
 use Prim.Native.Nat.{◌*◌}
 use lib.ListN.{length, replicate}
-use Rattle.limits.specs.Limits.{dotLimit}
-use Rattle.clock.specs.Dots.{noDot}
-use Rattle.clockimage.specs.ClockImage.{clockLongest, clockRecords}
+use Rattle.limits.specs.Limits.{dot_limit}
+use Rattle.clock.specs.Dots.{no_dot}
+use Rattle.clockimage.specs.ClockImage.{clock_longest, clock_records}
 
 -- end theorems, both
-full-longest : length (clockRecords (replicate dotLimit noDot)) * 16 ≡ clockLongest
+full-longest : length (clock_records (replicate dot_limit no_dot)) * 16 ≡ clock_longest
 full-longest = refl
 
-longest : clockLongest ≡ 128
+longest : clock_longest ≡ 128
 longest = refl

@@ -2,38 +2,38 @@
 use Rattle.std.specs.Prelude.{ℕ, ◌*◌, cond, List, [], eqb}
 use Rattle.clock.specs.declared.Clock.{Clock}
 use Rattle.clock.specs.declared.Dot.{Dot}
-use Rattle.limits.specs.Limits.{dotLimit}
-use Rattle.clock.specs.Dots.{dotsOf, clockOf}
+use Rattle.limits.specs.Limits.{dot_limit}
+use Rattle.clock.specs.Dots.{dots_of, clock_of}
 use Rattle.records.specs.declared.Record.{Record}
 use Rattle.records.specs.Records.{bytes_of}
-use Rattle.records.specs.Kinds.{clockDotKind}
-use Rattle.scan.specs.Numbers.{scanNumber}
-use Rattle.clockimage.specs.Image.{isKind, dotRecords, dotsFrom, image_of}
+use Rattle.records.specs.Kinds.{clock_dot_kind}
+use Rattle.scan.specs.Numbers.{scan_number}
+use Rattle.clockimage.specs.Image.{is_kind, dot_records, dots_from, image_of}
 use Rattle.clockimage.specs.declared.ReadClock.{ReadClock}
 
-abbrev pub clockLongest : ℕ
-clockLongest = dotLimit * 16
+abbrev pub clock_longest : ℕ
+clock_longest = dot_limit * 16
 
-abbrev pub clockRecords : List Dot → List Record
-clockRecords l = dotRecords clockDotKind 0 0 l
+abbrev pub clock_records : List Dot → List Record
+clock_records l = dot_records clock_dot_kind 0 0 l
 
 -- the image of a clock
-abbrev pub clockImage : Clock → List ℕ
-clockImage c = bytes_of (clockRecords (dotsOf c))
+abbrev pub clock_image : Clock → List ℕ
+clock_image c = bytes_of (clock_records (dots_of c))
 
 -- the dots that the records of a clock's image stand for
-abbrev pub clockIn : List Record → List Dot
-clockIn l = dotsFrom (isKind clockDotKind) l
+abbrev pub clock_in : List Record → List Dot
+clock_in l = dots_from (is_kind clock_dot_kind) l
 
-abbrev pub refusedClock : ℕ → ReadClock
-refusedClock n = record { number = n; clock = clockOf [] }
+abbrev pub refused_clock : ℕ → ReadClock
+refused_clock n = record { number = n; clock = clock_of [] }
 
 -- the records of a clock's image: 1, 2, or the clock
-abbrev pub judgedClock : List Record → ReadClock
-judgedClock l =
-    cond (eqb (scanNumber clockDotKind clockDotKind l) 0) (record { number = 0; clock = clockOf (clockIn l) })
-    (refusedClock (scanNumber clockDotKind clockDotKind l))
+abbrev pub judged_clock : List Record → ReadClock
+judged_clock l =
+    cond (eqb (scan_number clock_dot_kind clock_dot_kind l) 0) (record { number = 0; clock = clock_of (clock_in l) })
+    (refused_clock (scan_number clock_dot_kind clock_dot_kind l))
 
 -- what a list of bytes is as a clock's image
-unfoldable pub readClock : List ℕ → ReadClock
-readClock s = image_of clockLongest refusedClock judgedClock s
+unfoldable pub read_clock : List ℕ → ReadClock
+read_clock s = image_of clock_longest refused_clock judged_clock s

@@ -1,13 +1,13 @@
 // Images of clocks: read and written.
 ghost use Rattle.std.specs.Prelude.{◌≡◌, List, [], ◌∷◌, ◌++◌, true, cond, ◌+◌, ◌*◌, ◌≤◌, ◌<◌, length};
 ghost use Rattle.clock.specs.declared.Dot.{Dot};
-ghost use Rattle.limits.specs.Limits.{dotLimit};
-ghost use Rattle.clock.specs.Dots.{dotsOf, clockOf};
+ghost use Rattle.limits.specs.Limits.{dot_limit};
+ghost use Rattle.clock.specs.Dots.{dots_of, clock_of};
 ghost use Rattle.records.specs.declared.Record.{Record};
 ghost use Rattle.records.specs.Records.{bytes_of};
 ghost use Rattle.records.specs.Writing.{Wrote};
-ghost use Rattle.clockimage.specs.Image.{dotRecords, dotOf};
-ghost use Rattle.clockimage.specs.ClockImage.{clockImage, judgedClock, refusedClock, readClock};
+ghost use Rattle.clockimage.specs.Image.{dot_records, dot_of};
+ghost use Rattle.clockimage.specs.ClockImage.{clock_image, judged_clock, refused_clock, read_clock};
 ghost use Rattle.clockimage.specs.SoFar.{ClockSoFar};
 
 use clock::{Clock, Dot};
@@ -34,8 +34,8 @@ pub struct ClockReader {
 
 // Writes the dots of a clock as records of a kind, index and key; answers the place behind them.
 pub fn write_dots(out: &mut [u8], at: usize, kind: u8, index: u8, key: u32, clock: Clock) -> usize
-    requires { at + length (dotsOf clock) * 16 ≤ length out.old }
-    ensures { Wrote at (bytes_of (dotRecords kind index key (dotsOf clock))) out.old out.new result }
+    requires { at + length (dots_of clock) * 16 ≤ length out.old }
+    ensures { Wrote at (bytes_of (dot_records kind index key (dots_of clock))) out.old out.new result }
 {
     let n = clock.size();
     let mut next = at;
@@ -57,14 +57,14 @@ pub fn write_dots(out: &mut [u8], at: usize, kind: u8, index: u8, key: u32, cloc
 
 // Writes the image of a clock at the start of `out`; answers its length.
 pub fn write_clock(clock: Clock, out: &mut [u8]) -> usize
-    requires { length (clockImage clock) ≤ length out.old }
-    ensures { Wrote 0 (clockImage clock) out.old out.new result }
+    requires { length (clock_image clock) ≤ length out.old }
+    ensures { Wrote 0 (clock_image clock) out.old out.new result }
 {
     write_dots(out, 0, CLOCK_DOT, 0, 0, clock)
 }
 
 fn refused(number: u8) -> ReadClock
-    ensures { result ≡ refusedClock number }
+    ensures { result ≡ refused_clock number }
 {
     let none = Clock::new();
     ReadClock {
@@ -95,7 +95,7 @@ impl ClockReader {
 
     // What the records are as a whole.
     pub fn verdict(self) -> ReadClock
-        ensures { (l : List Record) → ClockSoFar l self → result ≡ judgedClock l }
+        ensures { (l : List Record) → ClockSoFar l self → result ≡ judged_clock l }
     {
         let scan = self.scan;
         if scan.number == 0 {
@@ -107,7 +107,7 @@ impl ClockReader {
 }
 
 pub fn read_clock(bytes: &[u8]) -> ReadClock
-    ensures { result ≡ readClock bytes.now }
+    ensures { result ≡ read_clock bytes.now }
 {
     let len = bytes.len();
     if CLOCK_LONGEST < len {
@@ -129,7 +129,7 @@ pub fn read_clock(bytes: &[u8]) -> ReadClock
 
 // The clock with the dot of a record behind its last, where `more` is set and there is room.
 pub fn clock_with(clock: Clock, more: bool, r: Record) -> Clock
-    ensures { (l : List Dot) → clock ≡ clockOf l → (more ≡ true → length l < dotLimit) → result ≡ clockOf (cond more (l ++ (dotOf r ∷ [])) l) }
+    ensures { (l : List Dot) → clock ≡ clock_of l → (more ≡ true → length l < dot_limit) → result ≡ clock_of (cond more (l ++ (dot_of r ∷ [])) l) }
 {
     if more & (clock.len < DOTS) {
         let d = Dot {

@@ -2,14 +2,14 @@
 ghost use Rattle.std.specs.Prelude.{◌≡◌};
 ghost use Rattle.clock.specs.Dots.{order_of};
 ghost use Rattle.clock.specs.Lawful.{Lawful};
-ghost use Rattle.runs.specs.Run.{runDots};
+ghost use Rattle.runs.specs.Run.{run_dots};
 
 use clock::Order;
 
 // How the clocks of two runs of dots stand to each other: one walk along both.
 pub fn compare_runs(x: &[u8], y: &[u8]) -> Order
-    requires { Lawful (runDots x.now) × Lawful (runDots y.now) }
-    ensures { result ≡ order_of (runDots x.now) (runDots y.now) }
+    requires { Lawful (run_dots x.now) × Lawful (run_dots y.now) }
+    ensures { result ≡ order_of (run_dots x.now) (run_dots y.now) }
 {
     let n = x.len() / 16;
     let m = y.len() / 16;

@@ -1,11 +1,11 @@
 // Steps 2 to 4 of a salvage: a mark for each record of a damaged image, which says whether it stays, or the step at which it goes.
 ghost use Rattle.std.specs.Prelude.{◌≡◌, not, cond, ◌||◌, true, false, ◌*◌, ◌/◌, ◌≤◌, length, take};
 ghost use Rattle.listlaws.specs.First.{some};
-ghost use Rattle.records.specs.Kinds.{recordOk, before};
-ghost use Rattle.records.specs.Records.{recordsOf};
-ghost use Rattle.salvagerules.specs.Needs.{needMet};
-ghost use Rattle.culling.specs.Marks.{isLeft, leftItems, markedOf, Says, afterTwo, afterThree, afterFour};
-ghost use Rattle.culling.specs.Looking.{isWanted, wantIndex, wantKey, wantBoth, wantDot};
+ghost use Rattle.records.specs.Kinds.{record_ok, before};
+ghost use Rattle.records.specs.Records.{records_of};
+ghost use Rattle.salvagerules.specs.Needs.{need_met};
+ghost use Rattle.culling.specs.Marks.{is_left, left_items, marked_of, Says, after_two, after_three, after_four};
+ghost use Rattle.culling.specs.Looking.{is_wanted, want_index, want_key, want_both, want_dot};
 
 use records::{CLOCK_DOT, ENTRY_DOT, Record, VALUE, VALUE_DOT, WAITING_DOT, WAITING_KEY};
 use scan::Scan;
@@ -28,7 +28,7 @@ pub struct Wanted {
 
 // Whether a mark says that its record is left: it stays, or goes at the step `from` or later, where that is not 0.
 pub fn is_left(from: u16, mark: u16) -> bool
-    ensures { result ≡ isLeft from mark }
+    ensures { result ≡ is_left from mark }
 {
     (mark == 0) | ((0 < from) & (from <= mark))
 }
@@ -36,7 +36,7 @@ pub fn is_left(from: u16, mark: u16) -> bool
 // Step 2: records bad by themselves go.
 pub fn mark_bad(image: &[u8], marks: &mut [u16])
     requires { length image.now / 16 ≤ length marks.old }
-    ensures { Says marks.new image.now (afterTwo (recordsOf image.now)) }
+    ensures { Says marks.new image.now (after_two (records_of image.now)) }
 {
     let n = image.len() / 16;
     let mut i: usize = 0;
@@ -54,8 +54,8 @@ pub fn mark_bad(image: &[u8], marks: &mut [u16])
 
 // Step 3: records that are not above the last one kept go.
 pub fn mark_order(image: &[u8], marks: &mut [u16])
-    requires { (length image.now / 16 ≤ length marks.old) × Says marks.old image.now (afterTwo (recordsOf image.now)) }
-    ensures { Says marks.new image.now (afterThree (recordsOf image.now)) }
+    requires { (length image.now / 16 ≤ length marks.old) × Says marks.old image.now (after_two (records_of image.now)) }
+    ensures { Says marks.new image.now (after_three (records_of image.now)) }
 {
     let n = image.len() / 16;
     let mut any = false;
@@ -83,7 +83,7 @@ pub fn mark_order(image: &[u8], marks: &mut [u16])
 }
 
 pub fn is_wanted(w: Wanted, r: Record) -> bool
-    ensures { result ≡ isWanted w r }
+    ensures { result ≡ is_wanted w r }
 {
     (r.kind == w.kind)
         & ((!w.keyed | (r.key == w.key))
@@ -92,7 +92,7 @@ pub fn is_wanted(w: Wanted, r: Record) -> bool
 }
 
 pub fn of_index(kind: u8, index: u8) -> Wanted
-    ensures { result ≡ wantIndex kind index }
+    ensures { result ≡ want_index kind index }
 {
     Wanted {
         kind,
@@ -107,7 +107,7 @@ pub fn of_index(kind: u8, index: u8) -> Wanted
 }
 
 fn of_key(kind: u8, key: u32) -> Wanted
-    ensures { result ≡ wantKey kind key }
+    ensures { result ≡ want_key kind key }
 {
     Wanted {
         kind,
@@ -122,7 +122,7 @@ fn of_key(kind: u8, key: u32) -> Wanted
 }
 
 fn of_both(kind: u8, key: u32, index: u8) -> Wanted
-    ensures { result ≡ wantBoth kind key index }
+    ensures { result ≡ want_both kind key index }
 {
     Wanted {
         kind,
@@ -137,7 +137,7 @@ fn of_both(kind: u8, key: u32, index: u8) -> Wanted
 }
 
 fn of_dot(kind: u8, actor: u16, number: u64) -> Wanted
-    ensures { result ≡ wantDot kind actor number }
+    ensures { result ≡ want_dot kind actor number }
 {
     Wanted {
         kind,
@@ -154,7 +154,7 @@ fn of_dot(kind: u8, actor: u16, number: u64) -> Wanted
 // Whether one of the first n records is left and wanted.
 pub fn has_left(image: &[u8], marks: &[u16], n: usize, from: u16, w: Wanted) -> bool
     requires { (n ≤ length image.now / 16) × (length image.now / 16 ≤ length marks.now) }
-    ensures { result ≡ some (isWanted w) (leftItems from (take n (markedOf marks.now image.now))) }
+    ensures { result ≡ some (is_wanted w) (left_items from (take n (marked_of marks.now image.now))) }
 {
     let mut i: usize = 0;
     while i < n {
@@ -172,8 +172,8 @@ pub fn has_left(image: &[u8], marks: &[u16], n: usize, from: u16, w: Wanted) -> 
 // Whether what the record at place i needs is kept before it, and for a value whether step 3 left a dot of its own.
 fn needs_met(image: &[u8], marks: &[u16], i: usize, r: Record) -> bool
     requires { (i ≤ length image.now / 16) × (length image.now / 16 ≤ length marks.now) }
-    ensures { result ≡ needMet (leftItems 4 (markedOf marks.now image.now))
-        (leftItems 0 (take i (markedOf marks.now image.now))) r }
+    ensures { result ≡ need_met (left_items 4 (marked_of marks.now image.now))
+        (left_items 0 (take i (marked_of marks.now image.now))) r }
 {
     if r.kind == ENTRY_DOT {
         return has_left(image, marks, i, 0, of_dot(CLOCK_DOT, r.actor, r.number));
@@ -195,8 +195,8 @@ fn needs_met(image: &[u8], marks: &[u16], i: usize, r: Record) -> bool
 
 // Step 4: a record stays if what it needs stays and its limit is not yet full.
 pub fn mark_needs(image: &[u8], marks: &mut [u16])
-    requires { (length image.now / 16 ≤ length marks.old) × Says marks.old image.now (afterThree (recordsOf image.now)) }
-    ensures { Says marks.new image.now (afterFour (recordsOf image.now)) }
+    requires { (length image.now / 16 ≤ length marks.old) × Says marks.old image.now (after_three (records_of image.now)) }
+    ensures { Says marks.new image.now (after_four (records_of image.now)) }
 {
     let n = image.len() / 16;
     let mut scan = Scan::new();

@@ -11,17 +11,17 @@ use Rattle.listlaws.specs.Sift.{sift}
 use Rattle.listlaws.specs.Order.{nil}
 use Rattle.listlaws.proofs.Pads.{length-snoc}
 use Rattle.clock.specs.declared.Clock.{Clock}
-use Rattle.clock.specs.Dots.{dotsOf, clockOf, is_empty, cutDots}
+use Rattle.clock.specs.Dots.{dots_of, clock_of, is_empty, cut_dots}
 use Rattle.clock.specs.Lawful.{Lawful}
-use Rattle.register.specs.Values.{cutValues}
+use Rattle.register.specs.Values.{cut_values}
 use Rattle.entries.specs.declared.Entry.{Entry}
-use Rattle.limits.specs.Limits.{entryLimit}
-use Rattle.entries.specs.Model.{dotsIn, valuesIn, entryAs}
-use Rattle.entries.specs.Entries.{stays, cutEntry}
+use Rattle.limits.specs.Limits.{entry_limit}
+use Rattle.entries.specs.Model.{dots_in, values_in, entry_as}
+use Rattle.entries.specs.Entries.{stays, cut_entry}
 use Rattle.entries.proofs.Cuts.{cut-entry-none}
 use Rattle.entries.proofs.Finishing.{one-stays, one-goes}
 use Rattle.map.specs.declared.Map.{Map}
-use Rattle.map.specs.Model.{entriesIn}
+use Rattle.map.specs.Model.{entries_in}
 use Rattle.map.proofs.Accepts.{fits-means}
 use Rattle.walks.specs.declared.Layout.{Layout}
 use Rattle.layout.specs.Whole.{Lies}
@@ -42,12 +42,12 @@ pub record Walked (s : List ℕ) (l : Layout) (f : Entry → Entry) (es : List E
   pub done : List Entry
   pub holds : (t : List ℕ) → Sketches s t done sk
   pub parts : sift stays f es ≡ done ++ sift stays f rest
-  pub few : length done + length rest ≤ entryLimit
+  pub few : length done + length rest ≤ entry_limit
 
 module _ {s : List ℕ} {l : Layout} (f : Entry → Entry) where
-  pub walked_start : {m : Map} → Lies s m l → {sk : Sketch} → ((t : List ℕ) → Sketches s t [] sk) → Walked s l f (entriesIn m) (start_of l) sk
+  pub walked_start : {m : Map} → Lies s m l → {sk : Sketch} → ((t : List ℕ) → Sketches s t [] sk) → Walked s l f (entries_in m) (start_of l) sk
   walked_start {m} h g = record {
-    rest = entriesIn m;
+    rest = entries_in m;
     ahead = all-ahead h;
     done = [];
     holds = g;
@@ -81,7 +81,7 @@ module _ {s : List ℕ} {l : Layout} (f : Entry → Entry) where
         few = let n = w.few in omega (arith, ap length g.parts, length-snoc w.done (f g.entry));
       }
 
-    pub walked-few : sk.sums.count < 2 * entryLimit
+    pub walked-few : sk.sums.count < 2 * entry_limit
     walked-few = let n = w.few in omega (arith, (w.holds s).sums.count)
 
     pub walked_end : l.third ≤ x.own → (t : List ℕ) → Sketches s t (sift stays f es) sk
@@ -91,31 +91,31 @@ module _ {s : List ℕ} {l : Layout} (f : Entry → Entry) where
         subst (λ k. Sketches s t k sk) (sym (w.parts ∙ ap (λ k. w.done ++ sift stays f k) e ∙ append-nil w.done)) (w.holds t)
 
 -- an entry cut by a clock, or by none
-module _ (by : Clock) (b : Bool) (here : Clock) (q : here ≡ cond b by (clockOf [])) where
-  pub here-lawful : Lawful (dotsOf by) → Lawful (dotsOf here)
-  here-lawful h = subst (λ k. Lawful (dotsOf k)) (sym q) (go b)
+module _ (by : Clock) (b : Bool) (here : Clock) (q : here ≡ cond b by (clock_of [])) where
+  pub here-lawful : Lawful (dots_of by) → Lawful (dots_of here)
+  here-lawful h = subst (λ k. Lawful (dots_of k)) (sym q) (go b)
     where
-      go : (b : Bool) → Lawful (dotsOf (cond b by (clockOf [])))
+      go : (b : Bool) → Lawful (dots_of (cond b by (clock_of [])))
       go true = h
       go false = record { rising = nil; positive = λ d i. absurd (Memᴰ.not-nil i) }
 
   module _ {e : Entry} (h : Fit e) where
-    cut-here : cutEntry (dotsOf here) e ≡ cond b (cutEntry (dotsOf by) e) e
-    cut-here = ap (λ k. cutEntry (dotsOf k) e) q ∙ go b
+    cut-here : cut_entry (dots_of here) e ≡ cond b (cut_entry (dots_of by) e) e
+    cut-here = ap (λ k. cut_entry (dots_of k) e) q ∙ go b
       where
-        go : (b : Bool) → cutEntry (dotsOf (cond b by (clockOf []))) e ≡ cond b (cutEntry (dotsOf by) e) e
+        go : (b : Bool) → cut_entry (dots_of (cond b by (clock_of []))) e ≡ cond b (cut_entry (dots_of by) e) e
         go true = refl
         go false = cut-entry-none (record { laid = h.laid; clock = h.clock; values = h.valid })
 
-    module _ {left : Clock} (g : left ≡ clockOf (cutDots (dotsOf here) (dotsIn e))) where
-      pub left-stays : stays (cond b (cutEntry (dotsOf by) e) e) ≡ not (is_empty (dotsOf left))
-      unfolding cutEntry
-      left-stays = ap stays (sym cut-here) ∙ ap (λ k. not (is_empty (dotsOf k))) (sym g)
+    module _ {left : Clock} (g : left ≡ clock_of (cut_dots (dots_of here) (dots_in e))) where
+      pub left-stays : stays (cond b (cut_entry (dots_of by) e) e) ≡ not (is_empty (dots_of left))
+      unfolding cut_entry
+      left-stays = ap stays (sym cut-here) ∙ ap (λ k. not (is_empty (dots_of k))) (sym g)
 
     pub left-entry : (key : ℕ) → key ≡ e.key
-        → entryAs key (cutDots (dotsOf here) (dotsIn e)) (cutValues (dotsOf here) (picked (replicate 4 true) (valuesIn e))) ≡ cond b
-        (cutEntry (dotsOf by) e) e
-    unfolding cutEntry
+        → entry_as key (cut_dots (dots_of here) (dots_in e)) (cut_values (dots_of here) (picked (replicate 4 true) (values_in e))) ≡ cond b
+        (cut_entry (dots_of by) e) e
+    unfolding cut_entry
     left-entry key p =
-        let v = picked_all (valuesIn e) 4 h.few in
-        (λ i. entryAs (p i) (cutDots (dotsOf here) (dotsIn e)) (cutValues (dotsOf here) (v i))) ∙ cut-here
+        let v = picked_all (values_in e) 4 h.few in
+        (λ i. entry_as (p i) (cut_dots (dots_of here) (dots_in e)) (cut_values (dots_of here) (v i))) ∙ cut-here

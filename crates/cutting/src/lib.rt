@@ -2,26 +2,26 @@
 ghost use Rattle.std.specs.Prelude.{◌≡◌, cond, ◌||◌, List, [], ◌++◌, ℕ, ◌+◌, ◌*◌, ◌≤◌, ◌<◌, length};
 ghost use Rattle.listlaws.specs.Sift.{sift};
 ghost use Rattle.clock.specs.declared.Dot.{Dot};
-ghost use Rattle.limits.specs.Limits.{dotLimit, valueLimit};
-ghost use Rattle.clock.specs.Dots.{dotsOf, clockOf, cutDots};
+ghost use Rattle.limits.specs.Limits.{dot_limit, value_limit};
+ghost use Rattle.clock.specs.Dots.{dots_of, clock_of, cut_dots};
 ghost use Rattle.clock.specs.Lawful.{Lawful};
 ghost use Rattle.register.specs.declared.Value.{Value};
-ghost use Rattle.register.specs.Values.{cutValues};
+ghost use Rattle.register.specs.Values.{cut_values};
 ghost use Rattle.entries.specs.declared.Entry.{Entry};
-ghost use Rattle.removals.specs.Model.{keys_of, underOf};
-ghost use Rattle.entries.specs.Model.{valuesIn};
-ghost use Rattle.entries.specs.Entries.{stays, cutEntry, removeEntries};
+ghost use Rattle.removals.specs.Model.{keys_of, under_of};
+ghost use Rattle.entries.specs.Model.{values_in};
+ghost use Rattle.entries.specs.Entries.{stays, cut_entry, remove_entries};
 ghost use Rattle.removals.specs.Waits.{listed};
-ghost use Rattle.map.specs.Model.{entriesIn};
-ghost use Rattle.mapimage.specs.MapImage.{mapLongest};
-ghost use Rattle.maprecords.specs.Related.{readMap};
+ghost use Rattle.map.specs.Model.{entries_in};
+ghost use Rattle.mapimage.specs.MapImage.{map_longest};
+ghost use Rattle.maprecords.specs.Related.{read_map};
 ghost use Rattle.layout.specs.Whole.{Lies};
-ghost use Rattle.runs.specs.Run.{runDots};
+ghost use Rattle.runs.specs.Run.{run_dots};
 ghost use Rattle.marks.specs.Marks.{picked};
 ghost use Rattle.entrywalk.specs.Walking.{LiesAt};
 ghost use Rattle.walks.specs.Walk.{between};
 ghost use Rattle.sketch.specs.Drawn.{Draws, Sketches};
-ghost use Rattle.cutting.specs.Cut.{cutWhere};
+ghost use Rattle.cutting.specs.Cut.{cut_where};
 
 use clock::Clock;
 use entrywalk::{Cursor, Lain};
@@ -32,11 +32,11 @@ use walks::Layout;
 
 // A value's source: what is left of its dots where what a clock has seen is cut.
 fn source_of(v: &[u8], second: bool, value: usize, from: usize, to: usize, gone: Clock) -> Source
-    requires { ((length v.now ≤ mapLongest) × ((from ≤ to)
-        × ((to ≤ from + dotLimit) × ((to * 16 ≤ length v.now) × (value * 16 + 16 ≤ length v.now)))))
-        × (Lawful (runDots (between v.now from to)) × Lawful (dotsOf gone)) }
+    requires { ((length v.now ≤ map_longest) × ((from ≤ to)
+        × ((to ≤ from + dot_limit) × ((to * 16 ≤ length v.now) × (value * 16 + 16 ≤ length v.now)))))
+        × (Lawful (run_dots (between v.now from to)) × Lawful (dots_of gone)) }
     ensures { ((result.second ≡ second) × ((result.value ≡ value) × ((result.from ≡ from) × (result.to ≡ to))))
-        × (picked result.marks (runDots (between v.now from to)) ≡ cutDots (dotsOf gone) (runDots (between v.now from to))) }
+        × (picked result.marks (run_dots (between v.now from to)) ≡ cut_dots (dots_of gone) (run_dots (between v.now from to))) }
 {
     let start = from * 16;
     let end = to * 16;
@@ -59,11 +59,11 @@ fn draw_values(
     stand: [bool; VALUES],
     gone: Clock,
 ) -> Sketched
-    requires { (before.len ≤ valueLimit) × ((length v.now ≤ mapLongest) × (((x : Entry) × LiesAt v.now x e) × Lawful (dotsOf gone))) }
-    ensures { (result.len ≤ before.len + valueLimit)
+    requires { (before.len ≤ value_limit) × ((length v.now ≤ map_longest) × (((x : Entry) × LiesAt v.now x e) × Lawful (dots_of gone))) }
+    ensures { (result.len ≤ before.len + value_limit)
         × ((s t : List ℕ) (x : Entry) (key : ℕ) (d : List Dot) (l : List Value) → v.now ≡ cond second t s → LiesAt v.now x e
         → Draws s t key d l before
-        → Draws s t key d (l ++ cutValues (dotsOf gone) (picked stand (valuesIn x))) result) }
+        → Draws s t key d (l ++ cut_values (dots_of gone) (picked stand (values_in x))) result) }
 {
     let values = e.values;
     let first = values.from;
@@ -92,7 +92,7 @@ fn draw_values(
 
 // What cuts an entry: a clock where its key is listed, or all are, and else nothing.
 fn cutter(all: bool, keys: Keys, key: u32, by: Clock) -> Clock
-    ensures { result ≡ cond (all || listed (keys_of keys) key) by (clockOf []) }
+    ensures { result ≡ cond (all || listed (keys_of keys) key) by (clock_of []) }
 {
     let none = Clock::new();
     if all | keys.contains(key) { by } else { none }
@@ -100,9 +100,9 @@ fn cutter(all: bool, keys: Keys, key: u32, by: Clock) -> Clock
 
 // The entries of a map, cut by a clock where their keys are listed, or all of them.
 fn draw_cut(s: &[u8], l: Layout, all: bool, keys: Keys, by: Clock) -> Sketch
-    requires { Lies s.now (readMap s.now).map l × ((length s.now ≤ mapLongest) × Lawful (dotsOf by)) }
-    ensures { (t : List ℕ) → Sketches s.now t (sift stays (cutWhere all (keys_of keys) (dotsOf by))
-        (entriesIn (readMap s.now).map)) result }
+    requires { Lies s.now (read_map s.now).map l × ((length s.now ≤ map_longest) × Lawful (dots_of by)) }
+    ensures { (t : List ℕ) → Sketches s.now t (sift stays (cut_where all (keys_of keys) (dots_of by))
+        (entries_in (read_map s.now).map)) result }
 {
     let end = l.third;
     let nothing = Clock::new();
@@ -135,8 +135,8 @@ fn draw_cut(s: &[u8], l: Layout, all: bool, keys: Keys, by: Clock) -> Sketch
 
 // What a reset leaves of the entries.
 pub fn draw_reset(s: &[u8], l: Layout, by: Clock) -> Sketch
-    requires { Lies s.now (readMap s.now).map l × ((length s.now ≤ mapLongest) × Lawful (dotsOf by)) }
-    ensures { (t : List ℕ) → Sketches s.now t (sift stays (cutEntry (dotsOf by)) (entriesIn (readMap s.now).map))
+    requires { Lies s.now (read_map s.now).map l × ((length s.now ≤ map_longest) × Lawful (dots_of by)) }
+    ensures { (t : List ℕ) → Sketches s.now t (sift stays (cut_entry (dots_of by)) (entries_in (read_map s.now).map))
         result }
 {
     let none = Keys::new();
@@ -145,8 +145,8 @@ pub fn draw_reset(s: &[u8], l: Layout, by: Clock) -> Sketch
 
 // What a removal leaves of the entries.
 pub fn draw_removed(s: &[u8], l: Layout, r: Removal) -> Sketch
-    requires { Lies s.now (readMap s.now).map l × ((length s.now ≤ mapLongest) × Lawful (underOf r)) }
-    ensures { (t : List ℕ) → Sketches s.now t (removeEntries r (entriesIn (readMap s.now).map)) result }
+    requires { Lies s.now (read_map s.now).map l × ((length s.now ≤ map_longest) × Lawful (under_of r)) }
+    ensures { (t : List ℕ) → Sketches s.now t (remove_entries r (entries_in (read_map s.now).map)) result }
 {
     let keys = r.keys;
     let clock = r.clock;

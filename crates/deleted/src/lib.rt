@@ -1,21 +1,21 @@
 // How many dots a removal and a reset delete from entry clocks, on images where they lie.
 ghost use Rattle.std.specs.Prelude.{◌≡◌, List, ℕ, ◌+◌, ◌≤◌};
 ghost use Rattle.clock.specs.declared.Dot.{Dot};
-ghost use Rattle.clock.specs.Dots.{dotsOf};
+ghost use Rattle.clock.specs.Dots.{dots_of};
 ghost use Rattle.clock.specs.Lawful.{Lawful};
 ghost use Rattle.entries.specs.declared.Entry.{Entry};
 ghost use Rattle.removals.specs.declared.Removal.{Removal};
-ghost use Rattle.map.specs.Model.{mapAs};
+ghost use Rattle.map.specs.Model.{map_as};
 ghost use Rattle.map.specs.Judging.{judged};
 ghost use Rattle.map.specs.Removing.{remove};
 ghost use Rattle.map.specs.Resetting.{reset};
 ghost use Rattle.map.specs.Valid.{RemovalWithin};
-ghost use Rattle.records.specs.Records.{recordsOf};
-ghost use Rattle.opimage.specs.OpImage.{removalRecords};
-ghost use Rattle.maprecords.specs.Related.{readMap};
+ghost use Rattle.records.specs.Records.{records_of};
+ghost use Rattle.opimage.specs.OpImage.{removal_records};
+ghost use Rattle.maprecords.specs.Related.{read_map};
 ghost use Rattle.answers.specs.Answer.{Counted};
-ghost use Rattle.promises.specs.Calls.{mapAnswer};
-ghost use Rattle.promises.specs.Deleted.{dotsAmong, entryDots};
+ghost use Rattle.promises.specs.Calls.{map_answer};
+ghost use Rattle.promises.specs.Deleted.{dots_among, entry_dots};
 ghost use Rattle.promises.specs.Promises.{ApplyDeletedPromise, ResetRemoveDeletedPromise};
 ghost use Rattle.layout.specs.Whole.{LaidOut};
 ghost use Rattle.sketch.specs.declared.Sketched.{Sketched};
@@ -41,10 +41,10 @@ fn fewer(
     had: usize,
 ) -> u64
     requires { (items : List Sketched) × ((c : List Dot) × ((l : List Entry) × ((w : List Removal)
-        × (Drafted s.now t.now ours theirs clock (record { items = items; sums = sums }) plan c l w × (dotsAmong l ≤ had))))) }
+        × (Drafted s.now t.now ours theirs clock (record { items = items; sums = sums }) plan c l w × (dots_among l ≤ had))))) }
     ensures { (items : List Sketched) (c : List Dot) (l : List Entry) (w : List Removal) (n : ℕ)
-        → Drafted s.now t.now ours theirs clock (record { items = items; sums = sums }) plan c l w → dotsAmong l + n ≡ had
-        → Counted (mapAnswer 0 0 (judged (mapAs c l w))) room n result }
+        → Drafted s.now t.now ours theirs clock (record { items = items; sums = sums }) plan c l w → dots_among l + n ≡ had
+        → Counted (map_answer 0 0 (judged (map_as c l w))) room n result }
 {
     let waits = drafting::waiting::weigh(sums.count, sums.wide, plan, s, ours, t, theirs);
     if waits.number != 0 {
@@ -59,10 +59,10 @@ fn fewer(
 
 // Of a map that was read, with a removal.
 fn removal_deleted(map: &[u8], a: Laid, r: Removal, op: &[u8], room: usize) -> u64
-    requires { (LaidOut map.now (readMap map.now).map a × ((readMap map.now).number ≡ 0))
-        × (RemovalWithin r × (removalRecords r ≡ recordsOf op.now)) }
-    ensures { (n : ℕ) → entryDots (remove (readMap map.now).map r) + n ≡ entryDots (readMap map.now).map
-        → Counted (mapAnswer 0 0 (judged (remove (readMap map.now).map r))) room n result }
+    requires { (LaidOut map.now (read_map map.now).map a × ((read_map map.now).number ≡ 0))
+        × (RemovalWithin r × (removal_records r ≡ records_of op.now)) }
+    ensures { (n : ℕ) → entry_dots (remove (read_map map.now).map r) + n ≡ entry_dots (read_map map.now).map
+        → Counted (map_answer 0 0 (judged (remove (read_map map.now).map r))) room n result }
 {
     let clock = a.clock;
     let l = a.layout;
@@ -104,9 +104,9 @@ pub fn apply_deleted(map: &[u8], op: &[u8], room: usize) -> u64
 
 // Of a map that was read, reset by a clock.
 fn reset_deleted(map: &[u8], a: Laid, by: Clock, room: usize) -> u64
-    requires { (LaidOut map.now (readMap map.now).map a × ((readMap map.now).number ≡ 0)) × Lawful (dotsOf by) }
-    ensures { (n : ℕ) → entryDots (reset (readMap map.now).map (dotsOf by)) + n ≡ entryDots (readMap map.now).map
-        → Counted (mapAnswer 0 0 (judged (reset (readMap map.now).map (dotsOf by)))) room n result }
+    requires { (LaidOut map.now (read_map map.now).map a × ((read_map map.now).number ≡ 0)) × Lawful (dots_of by) }
+    ensures { (n : ℕ) → entry_dots (reset (read_map map.now).map (dots_of by)) + n ≡ entry_dots (read_map map.now).map
+        → Counted (map_answer 0 0 (judged (reset (read_map map.now).map (dots_of by)))) room n result }
 {
     let seen = a.clock;
     let l = a.layout;

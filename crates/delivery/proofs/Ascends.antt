@@ -8,31 +8,31 @@ use lib.Dec.{ltb}
 use lib.ListN.{drop}
 use borrow.Author.Tests.{ltb-true, ltb-false}
 use Rattle.scan.proofs.Eachs.{decide}
-use Rattle.removals.specs.Waits.{removalBefore}
+use Rattle.removals.specs.Waits.{removal_before}
 use Rattle.maprecords.specs.Related.{ascend}
-use Rattle.memory.specs.Memory.{removalAt, waitingCountAt, waitingAt}
+use Rattle.memory.specs.Memory.{removal_at, waiting_count_at, waiting_at}
 use Rattle.delivery.proofs.Views.{waiting-left, waiting-end}
 
 -- the pairs before place k have passed
-module _ (w : List ℕ) (k : ℕ) (one : 1 ≤ k) (e : ascend (waitingAt w) ≡ ascend (drop (k - 1) (waitingAt w))) where
+module _ (w : List ℕ) (k : ℕ) (one : 1 ≤ k) (e : ascend (waiting_at w) ≡ ascend (drop (k - 1) (waiting_at w))) where
   at_last : k - 1 + 1 ≡ k
   at_last = omega arith
 
-  last : k - 1 < waitingCountAt w → drop (k - 1) (waitingAt w) ≡ removalAt w (k - 1) ∷ drop k (waitingAt w)
-  last h = waiting-left w (k - 1) h ∙ ap (λ j. removalAt w (k - 1) ∷ drop j (waitingAt w)) at_last
+  last : k - 1 < waiting_count_at w → drop (k - 1) (waiting_at w) ≡ removal_at w (k - 1) ∷ drop k (waiting_at w)
+  last h = waiting-left w (k - 1) h ∙ ap (λ j. removal_at w (k - 1) ∷ drop j (waiting_at w)) at_last
 
-  module _ (h : k < waitingCountAt w) where
-    pub ascend-on : removalBefore (removalAt w (k - 1)) (removalAt w k) ≡ true → ascend (waitingAt w) ≡ ascend (drop (k + 1 - 1) (waitingAt w))
+  module _ (h : k < waiting_count_at w) where
+    pub ascend-on : removal_before (removal_at w (k - 1)) (removal_at w k) ≡ true → ascend (waiting_at w) ≡ ascend (drop (k + 1 - 1) (waiting_at w))
     unfolding ascend
     ascend-on t = let j : k + 1 - 1 ≡ k = omega arith in e ∙ rw (last (omega arith), j, waiting-left w k h, t)
 
-    pub ascend-fails : removalBefore (removalAt w (k - 1)) (removalAt w k) ≡ false → false ≡ ascend (waitingAt w)
+    pub ascend-fails : removal_before (removal_at w (k - 1)) (removal_at w k) ≡ false → false ≡ ascend (waiting_at w)
     unfolding ascend
     ascend-fails f = sym (e ∙ rw (last (omega arith), waiting-left w k h, f))
 
-  pub ascend-end : waitingCountAt w ≤ k → true ≡ ascend (waitingAt w)
+  pub ascend-end : waiting_count_at w ≤ k → true ≡ ascend (waiting_at w)
   unfolding ascend
   ascend-end h =
-      sym (e ∙ decide (ltb (k - 1) (waitingCountAt w))
+      sym (e ∙ decide (ltb (k - 1) (waiting_count_at w))
       (λ t. rw (last (ltb-true _ _ t), waiting-end w k h))
       (λ f. rw (waiting-end w (k - 1) (ltb-false _ _ f))))

@@ -7,13 +7,13 @@ use lib.ListN.{length}
 use Rattle.listlaws.proofs.Pads.{length-pad}
 use Rattle.register.specs.declared.Value.{Value}
 use Rattle.register.specs.declared.Register.{Register}
-use Rattle.limits.specs.Limits.{valueLimit}
-use Rattle.register.specs.Values.{noValue, registerOf}
+use Rattle.limits.specs.Limits.{value_limit}
+use Rattle.register.specs.Values.{no_value, register_of}
 
-pub value_room : {r : Register} (l : List Value) → r ≡ registerOf l → length l < valueLimit
-    → (r.len < valueLimit) × (length r.values ≡ valueLimit)
+pub value_room : {r : Register} (l : List Value) → r ≡ register_of l → length l < value_limit
+    → (r.len < value_limit) × (length r.values ≡ value_limit)
 value_room l e h = (
   omega (arith, ap (λ (x : Register). x.len) e),
   ap (λ (x : Register). length x.values) e
-      ∙ length-pad noValue valueLimit l (omega arith),
+      ∙ length-pad no_value value_limit l (omega arith),
 )

@@ -5,12 +5,12 @@ use Prim.Native.Nat.{ℕ}
 use lib.Dec.{eqb}
 use borrow.Author.Tests.{eqb-true, eqb-false, eq-eqb}
 use Rattle.scan.proofs.Eachs.{decide}
-use Rattle.mapimage.specs.MapImage.{mapImage}
-use Rattle.maprecords.specs.Related.{readMap}
+use Rattle.mapimage.specs.MapImage.{map_image}
+use Rattle.maprecords.specs.Related.{read_map}
 use Rattle.answers.specs.Answer.{Answer, first_of, number_of, word_of, out_of, Answered}
 use Rattle.answers.proofs.Answers.{Same, same, same_answer}
 use Rattle.mailbox.specs.Held.{Came}
-use Rattle.delivery.specs.Delivery.{imageAt, closedNumber, endAnswer, Ended}
+use Rattle.delivery.specs.Delivery.{image_at, closed_number, end_answer, Ended}
 use Rattle.delivery.proofs.Judged.{ends-as-read, writes-as-read}
 
 -- answers with the same number, and the same bytes where it is 0
@@ -23,29 +23,29 @@ alike a b o n e x =
     (λ f. record { packed = x.packed ∙ rw (n, f); left = x.left ∙ rw (n, f) })
 
 -- what a whole image is answered with
-abbrev pub wholeAnswer : List ℕ → Answer
-wholeAnswer s = record { first = (readMap s).number; second = 0; own = 0; bytes = mapImage (readMap s).map }
+abbrev pub whole_answer : List ℕ → Answer
+whole_answer s = record { first = (read_map s).number; second = 0; own = 0; bytes = map_image (read_map s).map }
 
 module _ {s w : List ℕ} (c : Came s w) (o : List ℕ) where
-  opened : closedNumber w ≡ 0
+  opened : closed_number w ≡ 0
   opened = rw (eq-eqb _ 1 c.is_open)
 
-  pub same_number : number_of (endAnswer w) o ≡ number_of (wholeAnswer s) o
+  pub same_number : number_of (end_answer w) o ≡ number_of (whole_answer s) o
   unfolding number_of first_of
   same_number =
-      decide (eqb (readMap s).number 0)
-      (λ t. rw (opened, ends-as-read c, t, writes-as-read c (eqb-true (readMap s).number 0 t)))
+      decide (eqb (read_map s).number 0)
+      (λ t. rw (opened, ends-as-read c, t, writes-as-read c (eqb-true (read_map s).number 0 t)))
       (λ f. rw (opened, ends-as-read c, f))
 
-  same_bytes : number_of (wholeAnswer s) o ≡ 0 → imageAt w ≡ mapImage (readMap s).map
+  same_bytes : number_of (whole_answer s) o ≡ 0 → image_at w ≡ map_image (read_map s).map
   unfolding number_of first_of
   same_bytes z =
-      decide (eqb (readMap s).number 0)
-      (λ t. writes-as-read c (eqb-true (readMap s).number 0 t))
-      (λ f. absurd (eqb-false (readMap s).number 0 f (rw f at z)))
+      decide (eqb (read_map s).number 0)
+      (λ t. writes-as-read c (eqb-true (read_map s).number 0 t))
+      (λ f. absurd (eqb-false (read_map s).number 0 f (rw f at z)))
 
-  pub ended-as-read : {v p : List ℕ} {r : ℕ} → Ended w o v p r → Answered (wholeAnswer s) o p r
-  ended-as-read x = alike (endAnswer w) (wholeAnswer s) o same_number same_bytes x.answered
+  pub ended-as-read : {v p : List ℕ} {r : ℕ} → Ended w o v p r → Answered (whole_answer s) o p r
+  ended-as-read x = alike (end_answer w) (whole_answer s) o same_number same_bytes x.answered
 
 -- two results that meet the contract are identical, whatever stands in the memory
 pub record SameEnd (v u p q : List ℕ) (r t : ℕ) : Type 0 where

@@ -1,20 +1,20 @@
 // What a reader of pieces is answered with at the end, from its lent memory, whatever stands in it.
 ghost use Rattle.std.specs.Prelude.{◌≡◌, true, ◌+◌, ◌*◌, ◌^◌, ◌≤◌, ◌<◌, min, ltb, length};
-ghost use Rattle.limits.specs.Limits.{dotLimit, entryLimit, waitingLimit};
-ghost use Rattle.clock.specs.Dots.{clockOf, counterIn, covers};
-ghost use Rattle.register.specs.Values.{registerOf};
-ghost use Rattle.removals.specs.Model.{underOf};
+ghost use Rattle.limits.specs.Limits.{dot_limit, entry_limit, waiting_limit};
+ghost use Rattle.clock.specs.Dots.{clock_of, counter_in, covers};
+ghost use Rattle.register.specs.Values.{register_of};
+ghost use Rattle.removals.specs.Model.{under_of};
 ghost use Rattle.records.specs.Records.{bytes_of};
 ghost use Rattle.records.specs.Writing.{Wrote};
 ghost use Rattle.scan.specs.Each.{every};
-ghost use Rattle.mapimage.specs.Least.{leastFrom};
-ghost use Rattle.mapimage.specs.MapImage.{flatFrom, entryRecords, waitingDots, keyNumbers, waitingKeys};
-ghost use Rattle.maprecords.specs.Related.{dotted, entryWhole, ascend};
-ghost use Rattle.answers.specs.Sizes.{registerMost, entriesMost, valueSize, entrySize};
+ghost use Rattle.mapimage.specs.Least.{least_from};
+ghost use Rattle.mapimage.specs.MapImage.{flat_from, entry_records, waiting_dots, key_numbers, waiting_keys};
+ghost use Rattle.maprecords.specs.Related.{dotted, entry_whole, ascend};
+ghost use Rattle.answers.specs.Sizes.{register_most, entries_most, value_size, entry_size};
 ghost use Rattle.listlaws.specs.Fold.{total_of};
-ghost use Rattle.memory.specs.Memory.{readerRoom, dotRoom, clockRoom, valueRoom, clockPlace, dotAt, dotsAt, value_at, valuesAt, entryHeldAt};
-ghost use Rattle.memory.specs.Memory.{entries_at, removalAt, waitingAt};
-ghost use Rattle.delivery.specs.Delivery.{relatedAt, endNumber, imageAt, Ended};
+ghost use Rattle.memory.specs.Memory.{reader_room, dot_room, clock_room, value_room, clock_place, dot_at, dots_at, value_at, values_at, entry_held_at};
+ghost use Rattle.memory.specs.Memory.{entries_at, removal_at, waiting_at};
+ghost use Rattle.delivery.specs.Delivery.{related_at, end_number, image_at, Ended};
 
 use clock::{Clock, Dot};
 use entries::Entry;
@@ -28,8 +28,8 @@ use records::{CLOCK_DOT, ENTRY_DOT, Record, VALUE, VALUE_DOT, WAITING_DOT, WAITI
 use register::{Content, Register, Value};
 
 fn dot_at(mem: &[u8; READER], at: usize) -> Dot
-    requires { at + dotRoom ≤ readerRoom }
-    ensures { result ≡ dotAt mem.now at }
+    requires { at + dot_room ≤ reader_room }
+    ensures { result ≡ dot_at mem.now at }
 {
     let actor = records::read16(mem, at);
     let counter = records::read64(mem, at + 2);
@@ -37,8 +37,8 @@ fn dot_at(mem: &[u8; READER], at: usize) -> Dot
 }
 
 pub fn clock_at(mem: &[u8; READER], at: usize) -> Clock
-    requires { at + clockRoom ≤ readerRoom }
-    ensures { result ≡ clockOf (dotsAt mem.now at) }
+    requires { at + clock_room ≤ reader_room }
+    ensures { result ≡ clock_of (dots_at mem.now at) }
 {
     let n = memory::count(mem, at, DOTS);
     let mut clock = Clock::new();
@@ -54,7 +54,7 @@ pub fn clock_at(mem: &[u8; READER], at: usize) -> Clock
 }
 
 fn value_at(mem: &[u8; READER], at: usize) -> Value
-    requires { at + valueRoom ≤ readerRoom }
+    requires { at + value_room ≤ reader_room }
     ensures { result ≡ value_at mem.now at }
 {
     let number = records::read64(mem, at);
@@ -65,8 +65,8 @@ fn value_at(mem: &[u8; READER], at: usize) -> Value
 }
 
 fn register_at(mem: &[u8; READER], j: usize) -> Register
-    requires { j < entryLimit }
-    ensures { result ≡ registerOf (valuesAt mem.now j) }
+    requires { j < entry_limit }
+    ensures { result ≡ register_of (values_at mem.now j) }
 {
     let at = ENTRY_PLACE + j * ENTRY_ROOM + 4 + CLOCK_ROOM;
     let n = memory::count(mem, at, VALUES);
@@ -84,8 +84,8 @@ fn register_at(mem: &[u8; READER], j: usize) -> Register
 
 // An entry, by its place among the entries.
 pub fn entry_at(mem: &[u8; READER], j: usize) -> Entry
-    requires { j < entryLimit }
-    ensures { result ≡ entryHeldAt mem.now j }
+    requires { j < entry_limit }
+    ensures { result ≡ entry_held_at mem.now j }
 {
     let at = ENTRY_PLACE + j * ENTRY_ROOM;
     let key = records::read32(mem, at);
@@ -100,8 +100,8 @@ pub fn entry_at(mem: &[u8; READER], j: usize) -> Entry
 
 // The counter of an actor in the clock at a place.
 fn counter_at(mem: &[u8; READER], at: usize, actor: u16) -> u64
-    requires { at + clockRoom ≤ readerRoom }
-    ensures { result ≡ counterIn (dotsAt mem.now at) actor }
+    requires { at + clock_room ≤ reader_room }
+    ensures { result ≡ counter_in (dots_at mem.now at) actor }
 {
     let n = memory::count(mem, at, DOTS);
     let mut i: usize = 0;
@@ -117,8 +117,8 @@ fn counter_at(mem: &[u8; READER], at: usize, actor: u16) -> u64
 
 // Whether the clock at a place covers the one at another.
 fn covers_at(mem: &[u8; READER], at: usize, other: usize) -> bool
-    requires { (at + clockRoom ≤ readerRoom) × (other + clockRoom ≤ readerRoom) }
-    ensures { result ≡ covers (dotsAt mem.now at) (dotsAt mem.now other) }
+    requires { (at + clock_room ≤ reader_room) × (other + clock_room ≤ reader_room) }
+    ensures { result ≡ covers (dots_at mem.now at) (dots_at mem.now other) }
 {
     let n = memory::count(mem, other, DOTS);
     let mut i: usize = 0;
@@ -134,8 +134,8 @@ fn covers_at(mem: &[u8; READER], at: usize, other: usize) -> bool
 
 // Whether each value of an entry has a dot.
 fn dotted_at(mem: &[u8; READER], j: usize) -> bool
-    requires { j < entryLimit }
-    ensures { result ≡ every dotted (valuesAt mem.now j) }
+    requires { j < entry_limit }
+    ensures { result ≡ every dotted (values_at mem.now j) }
 {
     let at = ENTRY_PLACE + j * ENTRY_ROOM + 4 + CLOCK_ROOM;
     let n = memory::count(mem, at, VALUES);
@@ -151,15 +151,15 @@ fn dotted_at(mem: &[u8; READER], j: usize) -> bool
 }
 
 fn whole_at(mem: &[u8; READER], j: usize) -> bool
-    requires { j < entryLimit }
-    ensures { result ≡ entryWhole (dotsAt mem.now clockPlace) (entryHeldAt mem.now j) }
+    requires { j < entry_limit }
+    ensures { result ≡ entry_whole (dots_at mem.now clock_place) (entry_held_at mem.now j) }
 {
     let own = ENTRY_PLACE + j * ENTRY_ROOM + 4;
     covers_at(mem, CLOCK, own) & dotted_at(mem, j)
 }
 
 fn entries_whole(mem: &[u8; READER]) -> bool
-    ensures { result ≡ every (entryWhole (dotsAt mem.now clockPlace)) (entries_at mem.now) }
+    ensures { result ≡ every (entry_whole (dots_at mem.now clock_place)) (entries_at mem.now) }
 {
     let n = memory::count(mem, ENTRY_COUNT, ENTRIES);
     let mut j: usize = 0;
@@ -175,7 +175,7 @@ fn entries_whole(mem: &[u8; READER]) -> bool
 
 // Whether waiting clocks differ and ascend.
 fn waiting_ascends(mem: &[u8; READER]) -> bool
-    ensures { result ≡ ascend (waitingAt mem.now) }
+    ensures { result ≡ ascend (waiting_at mem.now) }
 {
     let n = memory::count(mem, WAITING_COUNT, WAITING);
     let mut k: usize = 1;
@@ -191,7 +191,7 @@ fn waiting_ascends(mem: &[u8; READER]) -> bool
 }
 
 fn related(mem: &[u8; READER]) -> bool
-    ensures { result ≡ relatedAt mem.now }
+    ensures { result ≡ related_at mem.now }
 {
     (mem[LOST] == 0) & (entries_whole(mem) & waiting_ascends(mem))
 }
@@ -205,7 +205,7 @@ fn scanned(number: u8) -> u8
 
 // The first number that applies.
 pub fn number_of(mem: &[u8; READER]) -> u8
-    ensures { result ≡ endNumber mem.now }
+    ensures { result ≡ end_number mem.now }
 {
     let len = records::read32(mem, LENGTH) as usize;
     let length = maprecords::length_number(len);
@@ -221,8 +221,8 @@ pub fn number_of(mem: &[u8; READER]) -> u8
 
 // How many records the values of an entry have.
 fn count_values(mem: &[u8; READER], j: usize) -> usize
-    requires { j < entryLimit }
-    ensures { (result ≡ total_of valueSize (valuesAt mem.now j)) × (result ≤ registerMost) }
+    requires { j < entry_limit }
+    ensures { (result ≡ total_of value_size (values_at mem.now j)) × (result ≤ register_most) }
 {
     let at = ENTRY_PLACE + j * ENTRY_ROOM + 4 + CLOCK_ROOM;
     let n = memory::count(mem, at, VALUES);
@@ -238,7 +238,7 @@ fn count_values(mem: &[u8; READER], j: usize) -> usize
 
 // How many records the entries have.
 fn count_entries(mem: &[u8; READER]) -> usize
-    ensures { (result ≡ total_of entrySize (entries_at mem.now)) × (result ≤ entriesMost) }
+    ensures { (result ≡ total_of entry_size (entries_at mem.now)) × (result ≤ entries_most) }
 {
     let n = memory::count(mem, ENTRY_COUNT, ENTRIES);
     let mut total: usize = 0;
@@ -254,7 +254,7 @@ fn count_entries(mem: &[u8; READER]) -> usize
 
 // How many dots the waiting removals have.
 fn count_waiting(mem: &[u8; READER]) -> usize
-    ensures { (result ≡ total_of (λ x. length (underOf x)) (waitingAt mem.now)) × (result ≤ waitingLimit * dotLimit) }
+    ensures { (result ≡ total_of (λ x. length (under_of x)) (waiting_at mem.now)) × (result ≤ waiting_limit * dot_limit) }
 {
     let n = memory::count(mem, WAITING_COUNT, WAITING);
     let mut total: usize = 0;
@@ -269,9 +269,9 @@ fn count_waiting(mem: &[u8; READER]) -> usize
 
 // The least number of a removal's keys from `low` on, where there is one below `m`, else `m`.
 fn least_in(mem: &[u8; READER], k: usize, low: u64, m: u64) -> u64
-    requires { k < waitingLimit }
-    ensures { (result ≡ leastFrom low m (keyNumbers k (removalAt mem.now k)))
-        × (every (λ x. ltb x (2 ^ 40)) (keyNumbers k (removalAt mem.now k)) ≡ true) }
+    requires { k < waiting_limit }
+    ensures { (result ≡ least_from low m (key_numbers k (removal_at mem.now k)))
+        × (every (λ x. ltb x (2 ^ 40)) (key_numbers k (removal_at mem.now k)) ≡ true) }
 {
     let at = REMOVAL_PLACE + k * REMOVAL_ROOM + CLOCK_ROOM;
     let n = memory::count(mem, at, KEYS);
@@ -288,8 +288,8 @@ fn least_in(mem: &[u8; READER], k: usize, low: u64, m: u64) -> u64
 
 // The least number of a waiting key from `low` on.
 fn least(mem: &[u8; READER], low: u64) -> u64
-    ensures { (result ≡ leastFrom low (2 ^ 40) (flatFrom keyNumbers 0 (waitingAt mem.now)))
-        × (every (λ x. ltb x (2 ^ 40)) (flatFrom keyNumbers 0 (waitingAt mem.now)) ≡ true) }
+    ensures { (result ≡ least_from low (2 ^ 40) (flat_from key_numbers 0 (waiting_at mem.now)))
+        × (every (λ x. ltb x (2 ^ 40)) (flat_from key_numbers 0 (waiting_at mem.now)) ≡ true) }
 {
     let n = memory::count(mem, WAITING_COUNT, WAITING);
     let mut best = NO_KEY;
@@ -303,7 +303,7 @@ fn least(mem: &[u8; READER], low: u64) -> u64
 
 // How many waiting keys are written: one that stands twice in a removal counts once.
 fn count_keys(mem: &[u8; READER]) -> usize
-    ensures { (result ≡ length (waitingKeys (waitingAt mem.now))) × (result ≤ 2 ^ 40) }
+    ensures { (result ≡ length (waiting_keys (waiting_at mem.now))) × (result ≤ 2 ^ 40) }
 {
     let mut total: usize = 0;
     let mut best = least(mem, 0);
@@ -315,15 +315,15 @@ fn count_keys(mem: &[u8; READER]) -> usize
 }
 
 fn image_length(mem: &[u8; READER]) -> usize
-    ensures { result ≡ length (imageAt mem.now) }
+    ensures { result ≡ length (image_at mem.now) }
 {
     let dots = memory::count(mem, CLOCK, DOTS);
     (dots + (count_entries(mem) + (count_waiting(mem) + count_keys(mem)))) * 16
 }
 
 fn write_entries(mem: &[u8; READER], kind: u8, out: &mut [u8], at: usize) -> usize
-    requires { at + length (flatFrom (entryRecords kind) 0 (entries_at mem.now)) * 16 ≤ length out.old }
-    ensures { Wrote at (bytes_of (flatFrom (entryRecords kind) 0 (entries_at mem.now))) out.old
+    requires { at + length (flat_from (entry_records kind) 0 (entries_at mem.now)) * 16 ≤ length out.old }
+    ensures { Wrote at (bytes_of (flat_from (entry_records kind) 0 (entries_at mem.now))) out.old
         out.new result }
 {
     let n = memory::count(mem, ENTRY_COUNT, ENTRIES);
@@ -338,8 +338,8 @@ fn write_entries(mem: &[u8; READER], kind: u8, out: &mut [u8], at: usize) -> usi
 }
 
 fn write_waiting(mem: &[u8; READER], out: &mut [u8], at: usize) -> usize
-    requires { at + length (flatFrom waitingDots 0 (waitingAt mem.now)) * 16 ≤ length out.old }
-    ensures { Wrote at (bytes_of (flatFrom waitingDots 0 (waitingAt mem.now))) out.old out.new result }
+    requires { at + length (flat_from waiting_dots 0 (waiting_at mem.now)) * 16 ≤ length out.old }
+    ensures { Wrote at (bytes_of (flat_from waiting_dots 0 (waiting_at mem.now))) out.old out.new result }
 {
     let n = memory::count(mem, WAITING_COUNT, WAITING);
     let mut next = at;
@@ -355,8 +355,8 @@ fn write_waiting(mem: &[u8; READER], out: &mut [u8], at: usize) -> usize
 
 // Writes the keys of waiting removals, by key and then by index; answers the place behind them.
 fn write_waiting_keys(mem: &[u8; READER], out: &mut [u8], at: usize) -> usize
-    requires { at + length (waitingKeys (waitingAt mem.now)) * 16 ≤ length out.old }
-    ensures { Wrote at (bytes_of (waitingKeys (waitingAt mem.now))) out.old out.new result }
+    requires { at + length (waiting_keys (waiting_at mem.now)) * 16 ≤ length out.old }
+    ensures { Wrote at (bytes_of (waiting_keys (waiting_at mem.now))) out.old out.new result }
 {
     let mut next = at;
     let mut best = least(mem, 0);
@@ -376,8 +376,8 @@ fn write_waiting_keys(mem: &[u8; READER], out: &mut [u8], at: usize) -> usize
 
 // Writes the image of what stands in the memory at the start of `out`; answers its length.
 fn write_image(mem: &[u8; READER], out: &mut [u8]) -> usize
-    requires { length (imageAt mem.now) ≤ length out.old }
-    ensures { Wrote 0 (imageAt mem.now) out.old out.new result }
+    requires { length (image_at mem.now) ≤ length out.old }
+    ensures { Wrote 0 (image_at mem.now) out.old out.new result }
 {
     let clock = clock_at(mem, CLOCK);
     let first = clockimage::write_dots(out, 0, CLOCK_DOT, 0, 0, clock);

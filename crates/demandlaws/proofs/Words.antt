@@ -9,9 +9,9 @@ use lib.ListN.{length}
 use borrow.Author.Tests.{eqb-true, eqb-false, ne_eqb}
 use Rattle.scan.proofs.Eachs.{decide}
 use Rattle.answers.specs.Answer.{Answer, Answered, first_of, number_of, word_of, out_of, short_of, carried_of}
-use Rattle.demandlaws.specs.Rows.{Row, row, decided, hasNot, ByTable}
-use Rattle.demandlaws.specs.Tables.{shortRows}
-use Rattle.demandlaws.specs.Demands.{number_in, lengthIn, Writes, TellsOnly, Carries}
+use Rattle.demandlaws.specs.Rows.{Row, row, decided, has_not, ByTable}
+use Rattle.demandlaws.specs.Tables.{short_rows}
+use Rattle.demandlaws.specs.Demands.{number_in, length_in, Writes, TellsOnly, Carries}
 use Rattle.demandlaws.proofs.Tables.{part, by-table, decided-not}
 
 -- a table that has no row left
@@ -21,9 +21,9 @@ alone n = decide (eqb n 0) (λ t. rw t (sym (eqb-true n 0 t))) (λ f. rw f)
 
 -- "Order: first image, then second, then .., then 10": the rows of an answer's parts, one part after the other
 module _ (a : Answer) (entry bytes : List ℕ) (first second own : List Row) (p : a.first ≡ decided first) (q : a.second ≡ decided second)
-    (s : a.own ≡ decided own) (h : hasNot 0 first ≡ true) (i : hasNot 0 second ≡ true) (j : hasNot 0 own ≡ true) where
+    (s : a.own ≡ decided own) (h : has_not 0 first ≡ true) (i : has_not 0 second ≡ true) (j : has_not 0 own ≡ true) where
   abbrev shorter : List Row
-  shorter = shortRows bytes entry
+  shorter = short_rows bytes entry
 
   short-number : a.bytes ≡ bytes → first_of (short_of a.bytes entry ∷ []) ≡ decided shorter
   unfolding decided
@@ -85,7 +85,7 @@ module _ (a : Answer) (rows : List Row) (n : number_of a [] ≡ decided rows) (z
 
 -- a carried number: its call's own number stands in no image's rows
 module _ (a : Answer) (with n : ℕ) (first second own : List Row) (p : a.first ≡ decided first) (q : a.second ≡ decided second)
-    (s : a.own ≡ decided own) (h : hasNot 0 first ≡ true) (i : hasNot 0 second ≡ true) (j : hasNot with first ≡ true) (k : hasNot with second ≡ true)
+    (s : a.own ≡ decided own) (h : has_not 0 first ≡ true) (i : has_not 0 second ≡ true) (j : has_not with first ≡ true) (k : has_not with second ≡ true)
     (z : eqb with 0 ≡ false) where
   carried-flag : (x y : Bool) → eqb (decided first) 0 ≡ x → eqb (decided second) 0 ≡ y
       → (eqb (cond x (cond y 0 (decided second)) (decided first)) 0 && eqb (decided own) with)

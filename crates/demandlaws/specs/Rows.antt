@@ -19,21 +19,21 @@ decided [] = 0
 decided (r ∷ l) = cond r.holds r.number (decided l)
 
 -- no row of these holds
-abbrev pub noneHolds : List Row → Bool
-noneHolds l = none (λ r. r.holds) l
+abbrev pub none_holds : List Row → Bool
+none_holds l = none (λ r. r.holds) l
 
 -- no row of these has this number
-abbrev pub hasNot : ℕ → List Row → Bool
-hasNot n l = every (λ r. not (eqb r.number n)) l
+abbrev pub has_not : ℕ → List Row → Bool
+has_not n l = every (λ r. not (eqb r.number n)) l
 
 -- the numbers that a table can decide on: its rows', and 0
-abbrev pub numbersOf : List Row → List ℕ
-numbersOf l = 0 ∷ mathlib.Core.List.map (λ r. r.number) l
+abbrev pub numbers_of : List Row → List ℕ
+numbers_of l = 0 ∷ mathlib.Core.List.map (λ r. r.number) l
 
 -- of a number n and a table: each row whose number stands once in it comes "exactly when" its sentence holds and no earlier one does
 pub record ByTable (rows : List Row) (n : ℕ) : Type 0 where
   pub first : n ≡ decided rows
-  pub among : n ∈ numbersOf rows
+  pub among : n ∈ numbers_of rows
   pub exactly : (before : List Row) (r : Row) (after : List Row) → rows ≡ before ++ (r ∷ after)
-      → hasNot r.number before ≡ true → hasNot r.number after ≡ true → eqb r.number 0 ≡ false
-      → Exactly (n ≡ r.number) ((noneHolds before ≡ true) × (r.holds ≡ true))
+      → has_not r.number before ≡ true → has_not r.number after ≡ true → eqb r.number 0 ≡ false
+      → Exactly (n ≡ r.number) ((none_holds before ≡ true) × (r.holds ≡ true))

@@ -10,24 +10,24 @@ use borrow.Author.Tests.{eqb-true, leb-true}
 use Rattle.listlaws.specs.Order.{◌∈◌}
 use Rattle.listlaws.proofs.Orders.{apart}
 use Rattle.map.specs.declared.Map.{Map}
-use Rattle.map.specs.Model.{seenBy, entriesIn, waitingIn}
+use Rattle.map.specs.Model.{seen_by, entries_in, waiting_in}
 use Rattle.records.specs.declared.Record.{Record}
-use Rattle.records.specs.Kinds.{recordOk, before}
+use Rattle.records.specs.Kinds.{record_ok, before}
 use Rattle.records.proofs.Rule.{is_value}
-use Rattle.mapimage.specs.MapImage.{mapRecords}
-use Rattle.scan.specs.Each.{every, eachAfter}
-use Rattle.scan.specs.Formed.{follows, wellFormed}
+use Rattle.mapimage.specs.MapImage.{map_records}
+use Rattle.scan.specs.Each.{every, each_after}
+use Rattle.scan.specs.Formed.{follows, well_formed}
 use Rattle.scan.proofs.Eachs.{decide, both_left, both_right, both}
 use Rattle.oneimagelaws.proofs.Stands.{Place, place_in, Part, clock-dot, entry-dot, value, value-dot, waiting-dot, waiting-key, stands-part}
-use Rattle.originlaws.specs.Before.{oldOk, oldFollows, oldFormed}
+use Rattle.originlaws.specs.Before.{old_ok, old_follows, old_formed}
 use Rattle.originlaws.specs.Origins.{NoOrigins}
 use Rattle.originlaws.proofs.Records.{Unnamed, mask-same, orders-same}
 
 -- each record of such a map's image
-pub map-unnamed : (m : Map) → NoOrigins m → (r : Record) → r ∈ mapRecords m → Unnamed r
-map-unnamed m z r i = go (stands-part (seenBy m) (entriesIn m) (waitingIn m) r i)
+pub map-unnamed : (m : Map) → NoOrigins m → (r : Record) → r ∈ map_records m → Unnamed r
+map-unnamed m z r i = go (stands-part (seen_by m) (entries_in m) (waiting_in m) r i)
   where
-    go : Part (seenBy m) (entriesIn m) (waitingIn m) r → Unnamed r
+    go : Part (seen_by m) (entries_in m) (waiting_in m) r → Unnamed r
     go (clock-dot d k e) = rw e (λ t. apart (sym t))
     go (entry-dot x k d n e) = rw e (λ t. apart (sym t))
     go (value x k j v p e) = rw e (λ t. z x k v (place_in p))
@@ -36,8 +36,8 @@ map-unnamed m z r i = go (stands-part (seenBy m) (entriesIn m) (waitingIn m) r i
     go (waiting-key j q p k n e) = rw e (λ t. apart (sym t))
 
 -- a record of a map that is good today, and names nobody, was good
-was-ok : (r : Record) → recordOk 1 6 r ≡ true → Unnamed r → oldOk 1 6 r ≡ true
-unfolding oldOk recordOk
+was-ok : (r : Record) → record_ok 1 6 r ≡ true → Unnamed r → old_ok 1 6 r ≡ true
+unfolding old_ok record_ok
 was-ok r h z =
     let b = both_right (leb 1 r.kind) _ h in
     decide (eqb r.kind 3)
@@ -46,18 +46,18 @@ was-ok r h z =
     (λ t. absurd (let k = eqb-true r.kind 11 t in let q = leb-true r.kind 6 (both_left (leb r.kind 6) _ b) in omega (arith, k, q)))
     (λ m. rw (mask-same r.kind (rw (n, m) refl)) h))
 
-was-follows : (seen : List Record) (r : Record) → follows 1 6 seen r ≡ true → Unnamed r → oldFollows 1 6 seen r ≡ true
+was-follows : (seen : List Record) (r : Record) → follows 1 6 seen r ≡ true → Unnamed r → old_follows 1 6 seen r ≡ true
 was-follows seen r h z =
-    both (oldOk 1 6 r) _ (was-ok r (both_left (recordOk 1 6 r) _ h) z) (orders-same 1 6 seen r z ∙ both_right (recordOk 1 6 r) _ h)
+    both (old_ok 1 6 r) _ (was-ok r (both_left (record_ok 1 6 r) _ h) z) (orders-same 1 6 seen r z ∙ both_right (record_ok 1 6 r) _ h)
 
-formed-after : (seen l : List Record) → eachAfter (follows 1 6) seen l ≡ true → ((x : Record) → x ∈ l → Unnamed x)
-    → eachAfter (oldFollows 1 6) seen l ≡ true
-unfolding eachAfter
+formed-after : (seen l : List Record) → each_after (follows 1 6) seen l ≡ true → ((x : Record) → x ∈ l → Unnamed x)
+    → each_after (old_follows 1 6) seen l ≡ true
+unfolding each_after
 formed-after seen [] h z = refl
 formed-after seen (x ∷ l) h z =
-    both (oldFollows 1 6 seen x) _ (was-follows seen x (both_left (follows 1 6 seen x) _ h) (z x (Memᴰ.head refl)))
+    both (old_follows 1 6 seen x) _ (was-follows seen x (both_left (follows 1 6 seen x) _ h) (z x (Memᴰ.head refl)))
     (formed-after (seen ++ (x ∷ [])) l (both_right (follows 1 6 seen x) _ h) (λ y i. z y (Memᴰ.tail i)))
 
-pub was-formed : (l : List Record) → wellFormed 1 6 l ≡ true → ((x : Record) → x ∈ l → Unnamed x) → oldFormed 1 6 l ≡ true
-unfolding wellFormed
+pub was-formed : (l : List Record) → well_formed 1 6 l ≡ true → ((x : Record) → x ∈ l → Unnamed x) → old_formed 1 6 l ≡ true
+unfolding well_formed
 was-formed l h z = formed-after [] l h z

@@ -4,10 +4,10 @@ use Prim.Native.Nat.{ℕ}
 use Rattle.listlaws.specs.Order.{Ascending, by}
 use Rattle.entries.specs.declared.Entry.{Entry}
 use Rattle.acceptancelaws.proofs.Maps.{map-within}
-use Rattle.differencelaws.specs.Reported.{entriesOfImage, Reported}
+use Rattle.differencelaws.specs.Reported.{entries_of_image, Reported}
 use Rattle.differencelaws.proofs.Exactly.{told-says, says-told, told-ascends, told-once, empty-alike, alike-empty, told-turned}
 
-rising : (s : List ℕ) → Ascending (by (λ (e : Entry). e.key)) (entriesOfImage s)
+rising : (s : List ℕ) → Ascending (by (λ (e : Entry). e.key)) (entries_of_image s)
 rising s = (map-within s).valid.entries.rising
 
 -- the end theorem of this crate

@@ -12,7 +12,7 @@ use Rattle.entrywalk.specs.declared.Lain.{Lain}
 use Rattle.entrywalk.specs.Walking.{Ahead, Steps}
 use Rattle.entrywalk.proofs.Fronts.{its-fewer}
 use Rattle.differences.specs.declared.Difference.{Difference}
-use Rattle.differences.specs.Differences.{sameEntry, classed}
+use Rattle.differences.specs.Differences.{same_entry, classed}
 use Rattle.differences.proofs.Classes.{classed-first, classed-second, classed-both}
 use Rattle.differing.specs.Walking.{Comes}
 
@@ -51,7 +51,7 @@ module _ {s t : List ℕ} {l m : Layout} {x y : Cursor} {es fs : List Entry} (h 
   }
 
   pub comes-both : {a b : Lain} (g : Steps s l x es a) (i : Steps t m y fs b) → g.entry.key ≡ i.entry.key
-      → {class : ℕ} → class ≡ cond (sameEntry g.entry i.entry) 0 3
+      → {class : ℕ} → class ≡ cond (same_entry g.entry i.entry) 0 3
       → Comes s t l m x y es fs (record { told = record { class = class; key = a.key }; x = a.next; y = b.next })
   comes-both {a} g i level {class} e = record {
     more = g.more;

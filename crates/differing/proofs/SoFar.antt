@@ -11,7 +11,7 @@ use Rattle.listlaws.proofs.Pads.{length-snoc}
 use Rattle.listlaws.proofs.Sifts.{length-sift, sift-one}
 use Rattle.entries.specs.declared.Entry.{Entry}
 use Rattle.map.specs.declared.Map.{Map}
-use Rattle.map.specs.Model.{entriesIn}
+use Rattle.map.specs.Model.{entries_in}
 use Rattle.map.proofs.Accepts.{fits-means}
 use Rattle.records.specs.Writing.{Wrote}
 use Rattle.records.proofs.Placing.{placed-none, placed_on, length-placed}
@@ -22,10 +22,10 @@ use Rattle.entrywalk.specs.Walking.{Ahead}
 use Rattle.entrywalk.proofs.Stepping.{start_of, all-ahead}
 use Rattle.entrywalk.proofs.Fronts.{ahead_none}
 use Rattle.differences.specs.declared.Difference.{Difference}
-use Rattle.differences.specs.Differences.{classed, differs, differencesOf, differenceBytes, allTold}
+use Rattle.differences.specs.Differences.{classed, differs, differences_of, difference_bytes, all_told}
 use Rattle.differences.proofs.Classes.{length-told, told-snoc}
 use Rattle.differing.specs.declared.Next.{Next}
-use Rattle.differing.specs.Walking.{toldMost, Comes}
+use Rattle.differing.specs.Walking.{told_most, Comes}
 
 -- of all that is told, `done` is told where both walks stand, and the rest is what differs of the entries ahead
 pub record Telling (s t : List ℕ) (l m : Layout) (all : List Difference) (x y : Cursor) (done : List Difference) : Type 0 where
@@ -33,14 +33,14 @@ pub record Telling (s t : List ℕ) (l m : Layout) (all : List Difference) (x y 
   pub fs : List Entry
   pub ours : Ahead s l x es
   pub theirs : Ahead t m y fs
-  pub parts : all ≡ done ++ differencesOf es fs
-  pub few : length done + (length es + length fs) ≤ toldMost
+  pub parts : all ≡ done ++ differences_of es fs
+  pub few : length done + (length es + length fs) ≤ told_most
 
 pub telling-start : {s t : List ℕ} {m n : Map} {l k : Layout} → Lies s m l → Lies t n k
-    → Telling s t l k (differencesOf (entriesIn m) (entriesIn n)) (start_of l) (start_of k) []
+    → Telling s t l k (differences_of (entries_in m) (entries_in n)) (start_of l) (start_of k) []
 telling-start {m = m} {n = n} h i = record {
-  es = entriesIn m;
-  fs = entriesIn n;
+  es = entries_in m;
+  fs = entries_in n;
   ours = all-ahead h;
   theirs = all-ahead i;
   parts = refl;
@@ -50,7 +50,7 @@ telling-start {m = m} {n = n} h i = record {
 module _ {s t : List ℕ} {l m : Layout} {all : List Difference} {x y : Cursor} {done : List Difference} (d : Telling s t l m all x y done) where
   -- one key more, told or not
   telling-on : {r : Next} → Comes s t l m x y d.es d.fs r → Telling s t l m all r.x r.y (done ++ those differs (r.told ∷ []))
-  unfolding differencesOf
+  unfolding differences_of
   telling-on {r} c = record {
     es = c.more;
     fs = c.others;
@@ -85,36 +85,36 @@ module _ {s t : List ℕ} {l m : Layout} {all : List Difference} {x y : Cursor} 
 
   -- all is told
   pub telling-end : l.third ≤ x.own → m.third ≤ y.own → done ≡ all
-  unfolding differencesOf classed weave sift
-  telling-end p q = sym (d.parts ∙ ap₂ (λ u v. done ++ differencesOf u v) (ahead_none d.ours p) (ahead_none d.theirs q) ∙ append-nil done)
+  unfolding differences_of classed weave sift
+  telling-end p q = sym (d.parts ∙ ap₂ (λ u v. done ++ differences_of u v) (ahead_none d.ours p) (ahead_none d.theirs q) ∙ append-nil done)
 
   -- there is room for what is told so far, and for one more
-  pub told-room : {entry now : List ℕ} {place : ℕ} → Wrote 0 (allTold done) entry now place → length all * 5 ≤ length entry
+  pub told-room : {entry now : List ℕ} {place : ℕ} → Wrote 0 (all_told done) entry now place → length all * 5 ≤ length entry
       → (place ≡ length done * 5) × (length now ≡ length entry)
   told-room {entry} w h =
       let n = length-told done in
-      let e = ap length d.parts ∙ length-append done (differencesOf d.es d.fs) in
-      (omega (arith, w.ends), ap length w.left ∙ length-placed 0 (allTold done) entry (omega arith))
+      let e = ap length d.parts ∙ length-append done (differences_of d.es d.fs) in
+      (omega (arith, w.ends), ap length w.left ∙ length-placed 0 (all_told done) entry (omega arith))
 
 pub told-all : {s t : List ℕ} {l m : Layout} {all : List Difference} {x y : Cursor} {done : List Difference}
     → Telling s t l m all x y done → l.third ≤ x.own → m.third ≤ y.own
-    → {entry now : List ℕ} {place : ℕ} → Wrote 0 (allTold done) entry now place → Wrote 0 (allTold all) entry now place
-told-all d p q {entry} {now} {place} w = subst (λ z. Wrote 0 (allTold z) entry now place) (telling-end d p q) w
+    → {entry now : List ℕ} {place : ℕ} → Wrote 0 (all_told done) entry now place → Wrote 0 (all_told all) entry now place
+told-all d p q {entry} {now} {place} w = subst (λ z. Wrote 0 (all_told z) entry now place) (telling-end d p q) w
 
-pub told-start : (out : List ℕ) → Wrote 0 (allTold []) out out 0
-unfolding allTold
+pub told-start : (out : List ℕ) → Wrote 0 (all_told []) out out 0
+unfolding all_told
 told-start out = record { left = sym (placed-none 0 out (omega arith)); ends = refl }
 
 pub told_more : {s t : List ℕ} {l m : Layout} {all : List Difference} {x y : Cursor} (done : List Difference) (u : Difference)
     → Telling s t l m all x y (done ++ (u ∷ [])) → length done * 5 + 5 ≤ length all * 5
 told_more done u d =
-    omega (arith, ap length d.parts ∙ length-append (done ++ (u ∷ [])) (differencesOf d.es d.fs), length-snoc done u)
+    omega (arith, ap length d.parts ∙ length-append (done ++ (u ∷ [])) (differences_of d.es d.fs), length-snoc done u)
 
-pub told-on : (done : List Difference) (u : Difference) {entry now after : List ℕ} {place next : ℕ} → Wrote 0 (allTold done) entry now place
-    → Wrote place (differenceBytes u) now after next → length done * 5 + 5 ≤ length entry → Wrote 0 (allTold (done ++ (u ∷ []))) entry after next
+pub told-on : (done : List Difference) (u : Difference) {entry now after : List ℕ} {place next : ℕ} → Wrote 0 (all_told done) entry now place
+    → Wrote place (difference_bytes u) now after next → length done * 5 + 5 ≤ length entry → Wrote 0 (all_told (done ++ (u ∷ []))) entry after next
 told-on done u {entry} {place = place} w v h =
     let n = length-told done in
     rw (told-snoc done u) (record {
-      left = placed_on 0 place (allTold done) (differenceBytes u) entry w.left v.left w.ends (omega arith);
-      ends = rw (length-append (allTold done) (differenceBytes u)) (omega (arith, w.ends, v.ends));
+      left = placed_on 0 place (all_told done) (difference_bytes u) entry w.left v.left w.ends (omega arith);
+      ends = rw (length-append (all_told done) (difference_bytes u)) (omega (arith, w.ends, v.ends));
     })

@@ -8,8 +8,8 @@ use Rattle.differences.specs.Differences.{classed}
 use Rattle.differing.specs.declared.Next.{Next}
 
 -- 32 entries of each map
-abbrev pub toldMost : ℕ
-toldMost = 64
+abbrev pub told_most : ℕ
+told_most = 64
 
 -- what comes next of the entries of two maps, es and fs, and what is left of them behind it
 pub record Comes (s t : List ℕ) (l m : Layout) (x y : Cursor) (es fs : List Entry) (r : Next) : Type 0 where

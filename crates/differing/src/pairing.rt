@@ -1,19 +1,19 @@
 // Whether two entries are the same where they lie: their clocks, and their registers with every pair counted.
 ghost use Rattle.std.specs.Prelude.{◌≡◌, ◌<◌, length, get_or};
 ghost use Rattle.clock.specs.Dots.{order_of};
-ghost use Rattle.register.specs.Values.{noValue};
+ghost use Rattle.register.specs.Values.{no_value};
 ghost use Rattle.entries.specs.declared.Entry.{Entry};
-ghost use Rattle.entries.specs.Model.{dotsIn, valuesIn};
-ghost use Rattle.equality.specs.Equality.{equalClock, same_pair, timesIn, asOften};
+ghost use Rattle.entries.specs.Model.{dots_in, values_in};
+ghost use Rattle.equality.specs.Equality.{equal_clock, same_pair, times_in, as_often};
 ghost use Rattle.entrywalk.specs.Walking.{LiesAt};
-ghost use Rattle.differences.specs.Differences.{sameEntry};
+ghost use Rattle.differences.specs.Differences.{same_entry};
 
 use clock::Order;
 use entrywalk::Lain;
 use register::Content;
 
 pub fn is_equal(o: Order) -> bool
-    ensures { result ≡ equalClock o }
+    ensures { result ≡ equal_clock o }
 {
     match o {
         Order::Equal => true,
@@ -25,8 +25,8 @@ pub fn is_equal(o: Order) -> bool
 
 // What the record of the value at place i says: its number and its origin.
 fn content_at(s: &[u8], x: Lain, i: usize) -> Content
-    requires { (e : Entry) × LiesAt s.now e x × (i < length (valuesIn e)) }
-    ensures { (e : Entry) → LiesAt s.now e x → i < length (valuesIn e) → result ≡ (get_or (valuesIn e) i noValue).value }
+    requires { (e : Entry) × LiesAt s.now e x × (i < length (values_in e)) }
+    ensures { (e : Entry) → LiesAt s.now e x → i < length (values_in e) → result ≡ (get_or (values_in e) i no_value).value }
 {
     let values = x.values;
     let r = records::read_record(s, (values.from + i) * 16);
@@ -38,9 +38,9 @@ fn content_at(s: &[u8], x: Lain, i: usize) -> Content
 
 // Whether the values at two places are the same pair of a value and its clock.
 fn same_at(s: &[u8], x: Lain, i: usize, t: &[u8], y: Lain, j: usize) -> bool
-    requires { ((e : Entry) × LiesAt s.now e x × (i < length (valuesIn e))) × ((f : Entry) × LiesAt t.now f y × (j < length (valuesIn f))) }
-    ensures { (e f : Entry) → LiesAt s.now e x → i < length (valuesIn e) → LiesAt t.now f y → j < length (valuesIn f)
-        → result ≡ same_pair (get_or (valuesIn e) i noValue) (get_or (valuesIn f) j noValue) }
+    requires { ((e : Entry) × LiesAt s.now e x × (i < length (values_in e))) × ((f : Entry) × LiesAt t.now f y × (j < length (values_in f))) }
+    ensures { (e f : Entry) → LiesAt s.now e x → i < length (values_in e) → LiesAt t.now f y → j < length (values_in f)
+        → result ≡ same_pair (get_or (values_in e) i no_value) (get_or (values_in f) j no_value) }
 {
     let v = content_at(s, x, i);
     let w = content_at(t, y, j);
@@ -56,9 +56,9 @@ fn same_at(s: &[u8], x: Lain, i: usize, t: &[u8], y: Lain, j: usize) -> bool
 
 // How many times the value at place i of one entry stands in another under the same clock.
 fn times(s: &[u8], x: Lain, i: usize, t: &[u8], y: Lain) -> usize
-    requires { ((e : Entry) × LiesAt s.now e x × (i < length (valuesIn e))) × ((f : Entry) × LiesAt t.now f y) }
-    ensures { (e f : Entry) → LiesAt s.now e x → i < length (valuesIn e) → LiesAt t.now f y
-        → result ≡ timesIn (valuesIn f) (get_or (valuesIn e) i noValue) }
+    requires { ((e : Entry) × LiesAt s.now e x × (i < length (values_in e))) × ((f : Entry) × LiesAt t.now f y) }
+    ensures { (e f : Entry) → LiesAt s.now e x → i < length (values_in e) → LiesAt t.now f y
+        → result ≡ times_in (values_in f) (get_or (values_in e) i no_value) }
 {
     let values = y.values;
     let m = values.to - values.from;
@@ -78,7 +78,7 @@ fn times(s: &[u8], x: Lain, i: usize, t: &[u8], y: Lain) -> usize
 fn as_often(s: &[u8], x: Lain, t: &[u8], y: Lain) -> bool
     requires { ((e : Entry) × LiesAt s.now e x) × ((f : Entry) × LiesAt t.now f y) }
     ensures { (e f : Entry) → LiesAt s.now e x → LiesAt t.now f y
-        → result ≡ asOften (valuesIn e) (valuesIn f) (valuesIn e) }
+        → result ≡ as_often (values_in e) (values_in f) (values_in e) }
 {
     let values = x.values;
     let n = values.to - values.from;
@@ -98,7 +98,7 @@ fn as_often(s: &[u8], x: Lain, t: &[u8], y: Lain) -> bool
 // Whether two entries have the same clock.
 fn same_clock(s: &[u8], x: Lain, t: &[u8], y: Lain) -> bool
     requires { ((e : Entry) × LiesAt s.now e x) × ((f : Entry) × LiesAt t.now f y) }
-    ensures { (e f : Entry) → LiesAt s.now e x → LiesAt t.now f y → result ≡ equalClock (order_of (dotsIn e) (dotsIn f)) }
+    ensures { (e f : Entry) → LiesAt s.now e x → LiesAt t.now f y → result ≡ equal_clock (order_of (dots_in e) (dots_in f)) }
 {
     let ours = x.dots;
     let theirs = y.dots;
@@ -112,7 +112,7 @@ fn same_clock(s: &[u8], x: Lain, t: &[u8], y: Lain) -> bool
 // Whether two entries are the same, register order ignored.
 pub fn same_entry(s: &[u8], x: Lain, t: &[u8], y: Lain) -> bool
     requires { ((e : Entry) × LiesAt s.now e x) × ((f : Entry) × LiesAt t.now f y) }
-    ensures { (e f : Entry) → LiesAt s.now e x → LiesAt t.now f y → result ≡ sameEntry e f }
+    ensures { (e f : Entry) → LiesAt s.now e x → LiesAt t.now f y → result ≡ same_entry e f }
 {
     if !same_clock(s, x, t, y) {
         return false;

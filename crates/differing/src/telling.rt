@@ -1,14 +1,14 @@
 // The keys of two maps with their classes, side by side along both images, counted and written.
 ghost use Rattle.std.specs.Prelude.{◌≡◌, Bool, true, cond, ◌||◌, List, ◌+◌, ◌*◌, ◌≤◌, ltb, length};
 ghost use Rattle.entries.specs.declared.Entry.{Entry};
-ghost use Rattle.map.specs.Model.{entriesIn};
+ghost use Rattle.map.specs.Model.{entries_in};
 ghost use Rattle.records.specs.Writing.{Wrote};
-ghost use Rattle.maprecords.specs.Related.{readMap};
+ghost use Rattle.maprecords.specs.Related.{read_map};
 ghost use Rattle.answers.specs.Answer.{Answered};
 ghost use Rattle.layout.specs.Whole.{Lies};
 ghost use Rattle.entrywalk.specs.Walking.{Ahead};
-ghost use Rattle.differences.specs.Differences.{differencesOf, differenceBytes, allTold, differencesAnswer};
-ghost use Rattle.differing.specs.Walking.{Comes, toldMost};
+ghost use Rattle.differences.specs.Differences.{differences_of, difference_bytes, all_told, differences_answer};
+ghost use Rattle.differing.specs.Walking.{Comes, told_most};
 
 use crate::Next;
 use differences::Difference;
@@ -70,9 +70,9 @@ fn next(s: &[u8], t: &[u8], l: Layout, m: Layout, x: Cursor, y: Cursor) -> Next
 
 // How many keys are told.
 fn count(s: &[u8], t: &[u8], l: Layout, m: Layout) -> usize
-    requires { Lies s.now (readMap s.now).map l × Lies t.now (readMap t.now).map m }
-    ensures { (result ≡ length (differencesOf (entriesIn (readMap s.now).map) (entriesIn (readMap t.now).map)))
-        × (result ≤ toldMost) }
+    requires { Lies s.now (read_map s.now).map l × Lies t.now (read_map t.now).map m }
+    ensures { (result ≡ length (differences_of (entries_in (read_map s.now).map) (entries_in (read_map t.now).map)))
+        × (result ≤ told_most) }
 {
     let third = l.third;
     let last = m.third;
@@ -104,7 +104,7 @@ fn count(s: &[u8], t: &[u8], l: Layout, m: Layout) -> usize
 // Writes a key with its class at `at`, and answers the place behind it.
 fn write_told(out: &mut [u8], at: usize, t: Difference) -> usize
     requires { at + 5 ≤ length out.old }
-    ensures { Wrote at (differenceBytes t) out.old out.new result }
+    ensures { Wrote at (difference_bytes t) out.old out.new result }
 {
     records::put8(out, at, t.class);
     records::put32(out, at + 1, t.key);
@@ -113,9 +113,9 @@ fn write_told(out: &mut [u8], at: usize, t: Difference) -> usize
 
 // Writes every key that is told.
 fn write(s: &[u8], t: &[u8], l: Layout, m: Layout, out: &mut [u8]) -> usize
-    requires { (Lies s.now (readMap s.now).map l × Lies t.now (readMap t.now).map m)
-        × (length (differencesOf (entriesIn (readMap s.now).map) (entriesIn (readMap t.now).map)) * 5 ≤ length out.old) }
-    ensures { Wrote 0 (allTold (differencesOf (entriesIn (readMap s.now).map) (entriesIn (readMap t.now).map)))
+    requires { (Lies s.now (read_map s.now).map l × Lies t.now (read_map t.now).map m)
+        × (length (differences_of (entries_in (read_map s.now).map) (entries_in (read_map t.now).map)) * 5 ≤ length out.old) }
+    ensures { Wrote 0 (all_told (differences_of (entries_in (read_map s.now).map) (entries_in (read_map t.now).map)))
         out.old out.new result }
 {
     let third = l.third;
@@ -147,7 +147,7 @@ fn write(s: &[u8], t: &[u8], l: Layout, m: Layout, out: &mut [u8]) -> usize
 
 // What differs between two maps: counted, and written where there is room for all.
 pub fn differences(map: &[u8], other: &[u8], out: &mut [u8]) -> u64
-    ensures { Answered (differencesAnswer map.now other.now) out.old out.new result }
+    ensures { Answered (differences_answer map.now other.now) out.old out.new result }
 {
     let a = layout::lay_out(map);
     if a.number != 0 {

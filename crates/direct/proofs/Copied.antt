@@ -9,15 +9,15 @@ use Rattle.entries.specs.Entries.{entry_at}
 use Rattle.entries.proofs.Packs.{entries-of}
 use Rattle.removals.proofs.Packs.{waiting-of}
 use Rattle.map.specs.declared.Map.{Map}
-use Rattle.map.specs.Model.{seenBy, entriesIn}
-use Rattle.asking.specs.Asking.{readKey}
+use Rattle.map.specs.Model.{seen_by, entries_in}
+use Rattle.asking.specs.Asking.{read_key}
 use Rattle.records.specs.Bytes.{Bytes}
 use Rattle.records.specs.Records.{bytes_of}
 use Rattle.records.specs.declared.Record.{Record}
 use Rattle.records.proofs.RoundTrips.{write-from}
-use Rattle.clockimage.specs.Image.{dotRecords}
-use Rattle.mapimage.specs.Sorted.{inOrder}
-use Rattle.mapimage.specs.MapImage.{flatFrom, entryRecords, waitingDots, waitingKeys, mapRecords}
+use Rattle.clockimage.specs.Image.{dot_records}
+use Rattle.mapimage.specs.Sorted.{in_order}
+use Rattle.mapimage.specs.MapImage.{flat_from, entry_records, waiting_dots, waiting_keys, map_records}
 use Rattle.walks.specs.declared.Layout.{Layout}
 use Rattle.walks.specs.declared.Span.{Span}
 use Rattle.keyed.specs.declared.Spans.{Spans}
@@ -25,10 +25,10 @@ use Rattle.layout.specs.Whole.{Lies}
 use Rattle.keyed.specs.Keyed.{RecordsLie, EntryLies}
 use Rattle.walks.proofs.Loops.{length_part, sections-end}
 use Rattle.keyed.proofs.Entry.{held_at, held-records}
-use Rattle.direct.specs.Reading.{Inside, recordsAt, keyRecords}
+use Rattle.direct.specs.Reading.{Inside, records_at, key_records}
 
 -- the bytes of a span are those of its records
-pub span-bytes : (s : List ℕ) (r : Span) → Bytes s → Inside s r → take (r.to * 16 - r.from * 16) (drop (r.from * 16) s) ≡ bytes_of (recordsAt s r)
+pub span-bytes : (s : List ℕ) (r : Span) → Bytes s → Inside s r → take (r.to * 16 - r.from * 16) (drop (r.from * 16) s) ≡ bytes_of (records_at s r)
 span-bytes s r b h =
     let o = h.order in
     let w = h.within in
@@ -36,27 +36,27 @@ span-bytes s r b h =
     rw n (sym (write-from s (r.to - r.from) (r.from * 16) b (omega arith)))
 
 -- nothing waits in the image of a key
-none-waits : flatFrom waitingDots 0 [] ++ waitingKeys [] ≡ []
-unfolding flatFrom inOrder fold
+none-waits : flat_from waiting_dots 0 [] ++ waiting_keys [] ≡ []
+unfolding flat_from in_order fold
 none-waits = refl
 
-only : (m : Map) (key : ℕ) → mapRecords (readKey m key) ≡ dotRecords 1 0 0
-    (seenBy m) ++ (flatFrom (entryRecords 2) 0 (held_at key (entriesIn m)) ++ (flatFrom (entryRecords 3) 0 (held_at key (entriesIn m)) ++ flatFrom
-    (entryRecords 4) 0 (held_at key (entriesIn m))))
-unfolding readKey
+only : (m : Map) (key : ℕ) → map_records (read_key m key) ≡ dot_records 1 0 0
+    (seen_by m) ++ (flat_from (entry_records 2) 0 (held_at key (entries_in m)) ++ (flat_from (entry_records 3) 0 (held_at key (entries_in m)) ++ flat_from
+    (entry_records 4) 0 (held_at key (entries_in m))))
+unfolding read_key
 only m key =
-    let t = held_at key (entriesIn m) in
-    rw (entries-of t, waiting-of [], none-waits, append-nil (flatFrom (entryRecords 4) 0 t))
+    let t = held_at key (entries_in m) in
+    rw (entries-of t, waiting-of [], none-waits, append-nil (flat_from (entry_records 4) 0 t))
 
 inside : {s : List ℕ} {k : List Record} {r : Span} → RecordsLie s k r → Inside s r
 inside q = record { order = q.order; within = q.within }
 
 -- where the map clock's records stand
-abbrev pub clockSpan : Layout → Span
-clockSpan l = record { from = 0; to = l.second }
+abbrev pub clock_span : Layout → Span
+clock_span l = record { from = 0; to = l.second }
 
-module _ {s : List ℕ} {m : Map} {l : Layout} (key : ℕ) {at : Spans} (h : Lies s m l) (e : EntryLies s (entry_at key (entriesIn m)) at) where
-  pub key-is : mapRecords (readKey m key) ≡ keyRecords s (clockSpan l) at
+module _ {s : List ℕ} {m : Map} {l : Layout} (key : ℕ) {at : Spans} (h : Lies s m l) (e : EntryLies s (entry_at key (entries_in m)) at) where
+  pub key-is : map_records (read_key m key) ≡ key_records s (clock_span l) at
   key-is =
       let up = h.within.valid.entries.rising in
       only m key
@@ -71,12 +71,12 @@ module _ {s : List ℕ} {m : Map} {l : Layout} (key : ℕ) {at : Spans} (h : Lie
         e.key,
       )
 
-  pub spans-inside : Inside s (clockSpan l) × (Inside s at.dots × (Inside s at.values × Inside s at.clocks))
+  pub spans-inside : Inside s (clock_span l) × (Inside s at.dots × (Inside s at.values × Inside s at.clocks))
   spans-inside = (
     record { order = omega arith; within = (sections-end h.places).second },
     (inside e.dots, (inside e.register.third, inside e.register.fourth)),
   )
 
-  pub key-length : length (keyRecords s (clockSpan l) at)
+  pub key-length : length (key_records s (clock_span l) at)
       ≡ (l.second - 0) + ((at.dots.to - at.dots.from) + ((at.values.to - at.values.from) + (at.clocks.to - at.clocks.from)))
   key-length = simp (length-append, length_part)

@@ -7,8 +7,8 @@ use Rattle.entries.specs.declared.Entry.{Entry}
 use Rattle.map.specs.declared.Map.{Map}
 use Rattle.asking.specs.declared.CvRDTValidation.{CvRDTValidation}
 use Rattle.asking.specs.declared.CvRDTValidation.TheVariants.{Once}
-use Rattle.map.specs.Model.{entriesIn}
-use Rattle.asking.specs.Asking.{isTwice, firstSpent}
+use Rattle.map.specs.Model.{entries_in}
+use Rattle.asking.specs.Asking.{is_twice, first_spent}
 use Rattle.asking.proofs.Askings.{or-this, or-next}
 use Rattle.walks.specs.declared.Layout.{Layout}
 use Rattle.keyed.specs.declared.Stop.{Stop}
@@ -20,27 +20,27 @@ use Rattle.keyed.proofs.Walks.{owned-all, owned-end}
 pub record Seeking (f : Entry → CvRDTValidation) (all : List Entry) (s : List ℕ) (end at : ℕ) : Type 0 where
   pub rest : List Entry
   pub owned : Owned s at end rest
-  pub left : firstSpent f all ≡ firstSpent f rest
+  pub left : first_spent f all ≡ first_spent f rest
 
 module _ {f : Entry → CvRDTValidation} {s : List ℕ} where
-  pub seek-start : {m : Map} {l : Layout} → Lies s m l → Seeking f (entriesIn m) s l.third l.second
+  pub seek-start : {m : Map} {l : Layout} → Lies s m l → Seeking f (entries_in m) s l.third l.second
   seek-start h = record { rest = _; owned = owned-all h; left = refl }
 
   module _ {all : List Entry} {end at : ℕ} (g : Seeking f all s end at) where
     module _ {r : Stop} (stops : (l : List Entry) → Owned s at end l → Stops s at end l r) (p : CvRDTValidation)
         (e : p ≡ f (stops g.rest g.owned).entry) where
-      pub seek-here : isTwice p ≡ true → p ≡ firstSpent f all
-      unfolding firstSpent
-      seek-here t = sym (g.left ∙ ap (firstSpent f) (stops g.rest g.owned).parts ∙ rw (← e) (or-this p _ t))
+      pub seek-here : is_twice p ≡ true → p ≡ first_spent f all
+      unfolding first_spent
+      seek-here t = sym (g.left ∙ ap (first_spent f) (stops g.rest g.owned).parts ∙ rw (← e) (or-this p _ t))
 
-      pub seek-on : isTwice p ≡ false → Seeking f all s end r.next
-      unfolding firstSpent
+      pub seek-on : is_twice p ≡ false → Seeking f all s end r.next
+      unfolding first_spent
       seek-on t = record {
         rest = (stops g.rest g.owned).more;
         owned = (stops g.rest g.owned).rest;
-        left = g.left ∙ ap (firstSpent f) (stops g.rest g.owned).parts ∙ rw (← e) (or-next p _ t);
+        left = g.left ∙ ap (first_spent f) (stops g.rest g.owned).parts ∙ rw (← e) (or-next p _ t);
       }
 
-    pub seek-end : end ≤ at → Once ≡ firstSpent f all
-    unfolding firstSpent
-    seek-end n = sym (g.left ∙ ap (firstSpent f) (owned-end g.rest g.owned n))
+    pub seek-end : end ≤ at → Once ≡ first_spent f all
+    unfolding first_spent
+    seek-end n = sym (g.left ∙ ap (first_spent f) (owned-end g.rest g.owned n))

@@ -10,9 +10,9 @@ pub record Inside (s : List ℕ) (r : Span) : Type 0 where
   pub order : r.from ≤ r.to
   pub within : r.to * 16 ≤ length s
 
-abbrev pub recordsAt : List ℕ → Span → List Record
-recordsAt s r = part s r.from r.to
+abbrev pub records_at : List ℕ → Span → List Record
+records_at s r = part s r.from r.to
 
 -- the map clock's records and an entry's, one behind the other
-abbrev pub keyRecords : List ℕ → Span → Spans → List Record
-keyRecords s clock at = recordsAt s clock ++ (recordsAt s at.dots ++ (recordsAt s at.values ++ recordsAt s at.clocks))
+abbrev pub key_records : List ℕ → Span → Spans → List Record
+key_records s clock at = records_at s clock ++ (records_at s at.dots ++ (records_at s at.values ++ records_at s at.clocks))

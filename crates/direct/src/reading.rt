@@ -1,13 +1,13 @@
 // A key read: the map clock's records and those of its entry, copied from where they lie.
 ghost use Rattle.std.specs.Prelude.{◌≡◌, ◌+◌, ◌*◌, ◌-◌, ◌≤◌, length};
-ghost use Rattle.asking.specs.Asking.{readKey};
+ghost use Rattle.asking.specs.Asking.{read_key};
 ghost use Rattle.records.specs.Records.{bytes_of};
 ghost use Rattle.records.specs.Writing.{Wrote};
-ghost use Rattle.mapimage.specs.MapImage.{mapImage};
-ghost use Rattle.maprecords.specs.Related.{readMap};
+ghost use Rattle.mapimage.specs.MapImage.{map_image};
+ghost use Rattle.maprecords.specs.Related.{read_map};
 ghost use Rattle.answers.specs.Answer.{Answered};
 ghost use Rattle.layout.specs.Whole.{Lies};
-ghost use Rattle.direct.specs.Reading.{Inside, recordsAt, keyRecords};
+ghost use Rattle.direct.specs.Reading.{Inside, records_at, key_records};
 
 use keyed::Spans;
 use walks::{Layout, Span};
@@ -21,8 +21,8 @@ fn size(span: Span) -> usize
 
 // Copies the records of a span to `at`, and answers the place behind them.
 fn copy_span(s: &[u8], span: Span, out: &mut [u8], at: usize) -> usize
-    requires { Inside s.now span × (at + length (recordsAt s.now span) * 16 ≤ length out.old) }
-    ensures { Wrote at (bytes_of (recordsAt s.now span)) out.old out.new result }
+    requires { Inside s.now span × (at + length (records_at s.now span) * 16 ≤ length out.old) }
+    ensures { Wrote at (bytes_of (records_at s.now span)) out.old out.new result }
 {
     let from = span.from * 16;
     let to = span.to * 16;
@@ -32,8 +32,8 @@ fn copy_span(s: &[u8], span: Span, out: &mut [u8], at: usize) -> usize
 // Copies the records of the map clock and of an entry, one behind the other.
 fn copy_key(s: &[u8], clock: Span, at: Spans, out: &mut [u8]) -> usize
     requires { (Inside s.now clock × (Inside s.now at.dots × (Inside s.now at.values × Inside s.now at.clocks)))
-        × (length (keyRecords s.now clock at) * 16 ≤ length out.old) }
-    ensures { Wrote 0 (bytes_of (keyRecords s.now clock at)) out.old out.new result }
+        × (length (key_records s.now clock at) * 16 ≤ length out.old) }
+    ensures { Wrote 0 (bytes_of (key_records s.now clock at)) out.old out.new result }
 {
     let second = copy_span(s, clock, out, 0);
     let third = copy_span(s, at.dots, out, second);
@@ -43,8 +43,8 @@ fn copy_key(s: &[u8], clock: Span, at: Spans, out: &mut [u8]) -> usize
 
 // Answers the image of the map clock and the entry of a key alone.
 pub fn give_key(map: &[u8], l: Layout, key: u32, out: &mut [u8]) -> u64
-    requires { Lies map.now (readMap map.now).map l }
-    ensures { Answered (record { first = 0; second = 0; own = 0; bytes = mapImage (readKey (readMap map.now).map key) })
+    requires { Lies map.now (read_map map.now).map l }
+    ensures { Answered (record { first = 0; second = 0; own = 0; bytes = map_image (read_key (read_map map.now).map key) })
         out.old out.new result }
 {
     let at = keyed::spans_of(map, l, key);

@@ -1,10 +1,10 @@
 // Both validations, on images where they lie.
 ghost use Rattle.std.specs.Prelude.{◌≡◌};
-ghost use Rattle.clock.specs.Dots.{dotsOf};
-ghost use Rattle.entries.specs.Model.{dotsIn};
-ghost use Rattle.map.specs.Model.{entriesIn};
-ghost use Rattle.asking.specs.Asking.{validateOp, spentUnder, firstSpent, validateMerge};
-ghost use Rattle.maprecords.specs.Related.{readMap};
+ghost use Rattle.clock.specs.Dots.{dots_of};
+ghost use Rattle.entries.specs.Model.{dots_in};
+ghost use Rattle.map.specs.Model.{entries_in};
+ghost use Rattle.asking.specs.Asking.{validate_op, spent_under, first_spent, validate_merge};
+ghost use Rattle.maprecords.specs.Related.{read_map};
 ghost use Rattle.layout.specs.Whole.{Lies, LaidOut};
 
 use asking::{CmRDTValidation, CvRDTValidation};
@@ -15,8 +15,8 @@ use walks::Layout;
 
 // Whether an operation fits a map.
 pub fn order_of(map: &[u8], l: Laid, op: Op) -> CmRDTValidation
-    requires { LaidOut map.now (readMap map.now).map l }
-    ensures { result ≡ validateOp (readMap map.now).map op }
+    requires { LaidOut map.now (read_map map.now).map l }
+    ensures { result ≡ validate_op (read_map map.now).map op }
 {
     if op.up {
         let u = op.update;
@@ -28,8 +28,8 @@ pub fn order_of(map: &[u8], l: Laid, op: Op) -> CmRDTValidation
 
 // The first of their entries, in the order of keys, that shares a dot with an entry of ours.
 fn spent_among(key: u32, ours: Clock, other: &[u8], l: Layout) -> CvRDTValidation
-    requires { Lies other.now (readMap other.now).map l }
-    ensures { result ≡ firstSpent (λ f. spentUnder key (dotsOf ours) f.key (dotsIn f)) (entriesIn (readMap other.now).map) }
+    requires { Lies other.now (read_map other.now).map l }
+    ensures { result ≡ first_spent (λ f. spent_under key (dots_of ours) f.key (dots_in f)) (entries_in (read_map other.now).map) }
 {
     let end = l.third;
     let mut at = l.second;
@@ -46,8 +46,8 @@ fn spent_among(key: u32, ours: Clock, other: &[u8], l: Layout) -> CvRDTValidatio
 
 // The first of our entries, in the order of keys, that shares a dot with one of theirs.
 pub fn spent_between(map: &[u8], l: Layout, other: &[u8], theirs: Layout) -> CvRDTValidation
-    requires { Lies map.now (readMap map.now).map l × Lies other.now (readMap other.now).map theirs }
-    ensures { result ≡ validateMerge (readMap map.now).map (readMap other.now).map }
+    requires { Lies map.now (read_map map.now).map l × Lies other.now (read_map other.now).map theirs }
+    ensures { result ≡ validate_merge (read_map map.now).map (read_map other.now).map }
 {
     let end = l.third;
     let mut at = l.second;

@@ -3,8 +3,8 @@ ghost use Rattle.std.specs.Prelude.{◌≡◌, List};
 ghost use Rattle.clock.specs.declared.Dot.{Dot};
 ghost use Rattle.removals.specs.declared.Removal.{Removal};
 ghost use Rattle.removals.specs.Waits.{waits};
-ghost use Rattle.map.specs.Model.{seenBy};
-ghost use Rattle.maprecords.specs.Related.{readMap};
+ghost use Rattle.map.specs.Model.{seen_by};
+ghost use Rattle.maprecords.specs.Related.{read_map};
 ghost use Rattle.layout.specs.Whole.{Lies};
 ghost use Rattle.queued.specs.Queue.{Keyed, Queued};
 ghost use Rattle.drafting.specs.Drafted.{held, RemovalLies};
@@ -15,8 +15,8 @@ use walks::{Layout, Span};
 
 // Whether a removal waits: the map's clock is less than its own or concurrent with it, by their records where they lie.
 pub fn removal_waits(map: &[u8], l: Layout, op: &[u8], dots: usize) -> bool
-    requires { Lies map.now (readMap map.now).map l × ((r : Removal) × RemovalLies op.now dots r) }
-    ensures { (r : Removal) → RemovalLies op.now dots r → result ≡ waits (seenBy (readMap map.now).map) r }
+    requires { Lies map.now (read_map map.now).map l × ((r : Removal) × RemovalLies op.now dots r) }
+    ensures { (r : Removal) → RemovalLies op.now dots r → result ≡ waits (seen_by (read_map map.now).map) r }
 {
     let seen = l.second * 16;
     let end = (1 + dots) * 16;

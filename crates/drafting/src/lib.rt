@@ -3,10 +3,10 @@ ghost use Rattle.std.specs.Prelude.{List};
 ghost use Rattle.clock.specs.declared.Dot.{Dot};
 ghost use Rattle.entries.specs.declared.Entry.{Entry};
 ghost use Rattle.removals.specs.declared.Removal.{Removal};
-ghost use Rattle.map.specs.Model.{mapAs};
+ghost use Rattle.map.specs.Model.{map_as};
 ghost use Rattle.map.specs.Judging.{judged};
 ghost use Rattle.answers.specs.Answer.{Answered};
-ghost use Rattle.promises.specs.Calls.{mapAnswer};
+ghost use Rattle.promises.specs.Calls.{map_answer};
 ghost use Rattle.drafting.specs.Drafted.{Drafted};
 
 use clock::Clock;
@@ -30,7 +30,7 @@ pub fn finish(
 ) -> u64
     requires { (c : List Dot) × ((l : List Entry) × ((w : List Removal) × Drafted s.now t.now ours theirs clock sk plan c l w)) }
     ensures { (c : List Dot) (l : List Entry) (w : List Removal) → Drafted s.now t.now ours theirs clock sk plan c l w
-        → Answered (mapAnswer 0 0 (judged (mapAs c l w))) out.old out.new result }
+        → Answered (map_answer 0 0 (judged (map_as c l w))) out.old out.new result }
 {
     let sums = sk.sums;
     let waits = waiting::weigh(sums.count, sums.wide, plan, s, ours, t, theirs);

@@ -3,11 +3,11 @@ ghost use Rattle.std.specs.Prelude.{◌≡◌, List, ◌+◌, ◌*◌, ◌≤◌
 ghost use Rattle.listlaws.specs.First.{some};
 ghost use Rattle.entries.specs.declared.Entry.{Entry};
 ghost use Rattle.removals.specs.declared.Removal.{Removal};
-ghost use Rattle.limits.specs.Limits.{waitingLimit, keyLimit};
+ghost use Rattle.limits.specs.Limits.{waiting_limit, key_limit};
 ghost use Rattle.entries.specs.Steps.{overfull};
 ghost use Rattle.records.specs.Records.{bytes_of};
 ghost use Rattle.records.specs.Writing.{Wrote};
-ghost use Rattle.drafting.specs.Drafted.{waitingRecords, waitingNumber, limitNumber, Planned};
+ghost use Rattle.drafting.specs.Drafted.{waiting_records, waiting_number, limit_number, Planned};
 
 use limits::ENTRIES;
 use planned::Plan;
@@ -39,7 +39,7 @@ pub fn weigh(
     requires { (w : List Removal) × Planned s.now t.now ours theirs plan w }
     ensures { ((l : List Entry) (w : List Removal) → count ≡ length l → wide ≡ some overfull l
         → Planned s.now t.now ours theirs plan w
-        → (result.number ≡ limitNumber l w) × (result.number ≡ 0 → result.records ≡ length (waitingRecords w))) × (result.records ≤ 2 * (waitingLimit * keyLimit)) }
+        → (result.number ≡ limit_number l w) × (result.number ≡ 0 → result.records ≡ length (waiting_records w))) × (result.records ≤ 2 * (waiting_limit * key_limit)) }
 {
     if ENTRIES < count {
         return refused(5);
@@ -80,10 +80,10 @@ pub fn write_waiting(
     at: usize,
 ) -> usize
     requires { (w : List Removal) × Planned s.now t.now ours theirs plan w
-        × ((waitingNumber w ≡ 0) × (at + length (waitingRecords w) * 16 ≤ length out.old)) }
-    ensures { (w : List Removal) → Planned s.now t.now ours theirs plan w → waitingNumber w ≡ 0
-        → at + length (waitingRecords w) * 16 ≤ length out.old
-        → Wrote at (bytes_of (waitingRecords w)) out.old out.new result }
+        × ((waiting_number w ≡ 0) × (at + length (waiting_records w) * 16 ≤ length out.old)) }
+    ensures { (w : List Removal) → Planned s.now t.now ours theirs plan w → waiting_number w ≡ 0
+        → at + length (waiting_records w) * 16 ≤ length out.old
+        → Wrote at (bytes_of (waiting_records w)) out.old out.new result }
 {
     let mine = plan.ours;
     let yours = plan.theirs;

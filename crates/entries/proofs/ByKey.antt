@@ -6,7 +6,7 @@ use mathlib.Core.List.{List, []}
 use Prim.Native.Nat.{ℕ}
 use borrow.Author.Tests.{eqb-true, eqb-false, ne_eqb}
 use lib.Dec.{eqb}
-use Rattle.listlaws.specs.First.{firstIn}
+use Rattle.listlaws.specs.First.{first_in}
 use Rattle.listlaws.specs.Sift.{sift}
 use Rattle.listlaws.specs.Order.{◌∈◌, Ascending, by}
 use Rattle.listlaws.proofs.Orders.{apart, by-strict}
@@ -18,30 +18,30 @@ use Rattle.listlaws.proofs.Twice.{sift-map}
 use Rattle.clock.specs.Dots.{is_empty}
 use Rattle.removals.specs.declared.Removal.{Removal}
 use Rattle.entries.specs.declared.Entry.{Entry}
-use Rattle.entries.specs.Model.{dotsIn, entryAs}
-use Rattle.entries.specs.Entries.{stays, removeFrom, removeEntries, entry_at}
+use Rattle.entries.specs.Model.{dots_in, entry_as}
+use Rattle.entries.specs.Entries.{stays, remove_from, remove_entries, entry_at}
 use Rattle.entries.proofs.Packs.{dots-in}
 use Rattle.entries.proofs.Runs.{from_key, gone-from}
 
 -- an entry, or a new one where it was emptied
-unfoldable pub orNewEntry : Entry → Entry
-orNewEntry e = cond (stays e) e (entryAs e.key [] [])
+unfoldable pub or_new_entry : Entry → Entry
+or_new_entry e = cond (stays e) e (entry_as e.key [] [])
 
-new-gone : (k : ℕ) → is_empty (dotsIn (entryAs k [] [])) ≡ true
+new-gone : (k : ℕ) → is_empty (dots_in (entry_as k [] [])) ≡ true
 new-gone k = ap is_empty (dots-in k [] []) ∙ none
   where
     none : is_empty [] ≡ true
     none = unfold is_empty in refl
 
-module _ (f : Entry → Entry) (key : (e : Entry) → (f e).key ≡ e.key) (gone : (e : Entry) → is_empty (dotsIn e) ≡ true
-    → is_empty (dotsIn (f e)) ≡ true) where
+module _ (f : Entry → Entry) (key : (e : Entry) → (f e).key ≡ e.key) (gone : (e : Entry) → is_empty (dots_in e) ≡ true
+    → is_empty (dots_in (f e)) ≡ true) where
   pub changed-ascends : {l : List Entry} → Ascending (by (λ e. e.key)) l → Ascending (by (λ e. e.key)) (sift stays f l)
   changed-ascends {l} a =
       rw (← sift-map stays (λ e. e) f l)
       (those-ascends stays (map-ascends (by-strict (λ e. e.key)) (by-steady (λ e. e.key)) f (λ e. level_by (λ x. x.key) e (f e) (sym (key e))) a))
 
-  pub entry-after : {l : List Entry} → Ascending (by (λ e. e.key)) l → (k : ℕ) → entry_at k (sift stays f l) ≡ orNewEntry (f (entry_at k l))
-  unfolding entry_at orNewEntry
+  pub entry-after : {l : List Entry} → Ascending (by (λ e. e.key)) l → (k : ℕ) → entry_at k (sift stays f l) ≡ or_new_entry (f (entry_at k l))
+  unfolding entry_at or_new_entry
   entry-after {l} a k =
       ⊎_elim
       (λ h. rw h.given (held h.found h.stands (eqb-true h.found.key k h.passes) (stays (f h.found)) refl))
@@ -52,30 +52,30 @@ module _ (f : Entry → Entry) (key : (e : Entry) → (f e).key ≡ e.key) (gone
       has e = eqb e.key k
 
       new : Entry
-      new = entryAs k [] []
+      new = entry_as k [] []
 
       -- a key's one entry
-      one : {s : List Entry} → Ascending (by (λ e. e.key)) s → (e : Entry) → e ∈ s → e.key ≡ k → firstIn has (λ x. x) new s ≡ e
-      one {s} b e i q = ap (λ n. firstIn (λ y. eqb y.key n) (λ x. x) new s) (sym q) ∙ first_member (λ x. x.key) (λ x. x) new b i
+      one : {s : List Entry} → Ascending (by (λ e. e.key)) s → (e : Entry) → e ∈ s → e.key ≡ k → first_in has (λ x. x) new s ≡ e
+      one {s} b e i q = ap (λ n. first_in (λ y. eqb y.key n) (λ x. x) new s) (sym q) ∙ first_member (λ x. x.key) (λ x. x) new b i
 
       -- nothing of the key is left
       absent : (e : Entry) → e.key ≡ k → ((x : Entry) → x ∈ l → x.key ≡ k → stays (f x) ≡ true → ⊥)
-          → firstIn has (λ x. x) new (sift stays f l) ≡ entryAs (f e).key [] []
+          → first_in has (λ x. x) new (sift stays f l) ≡ entry_as (f e).key [] []
       absent e q g =
           first-none has (λ x. x) new (sift stays f l)
           (λ z j. let s = sift-means stays f l j in
           ne_eqb z.key k (λ w. g s.source s.stands (sym (key s.source) ∙ ap (λ x. x.key) (sym s.changed) ∙ w)
           (ap stays (sym s.changed) ∙ s.passes)))
-          ∙ ap (λ n. entryAs n [] []) (sym (key e ∙ q))
+          ∙ ap (λ n. entry_as n [] []) (sym (key e ∙ q))
 
       -- the key has an entry
       held : (e : Entry) → e ∈ l → e.key ≡ k → (b : Bool) → stays (f e) ≡ b
-          → firstIn has (λ x. x) new (sift stays f l) ≡ cond b (f e) (entryAs (f e).key [] [])
+          → first_in has (λ x. x) new (sift stays f l) ≡ cond b (f e) (entry_as (f e).key [] [])
       held e i q true t = one (changed-ascends a) (f e) (sift-holds stays f i t) (key e ∙ q)
       held e i q false t = absent e q (λ x j w u. apart (sym u ∙ ap (λ y. stays (f y)) (sym (one a x j w) ∙ one a e i q) ∙ t))
 
 -- "After a removal, a key's entry depends only on that key's old entry, the clock, and whether it was listed."
 pub removed-entry : (r : Removal) {l : List Entry} → Ascending (by (λ e. e.key)) l → (k : ℕ)
-    → entry_at k (removeEntries r l) ≡ orNewEntry (removeFrom r (entry_at k l))
-unfolding removeEntries
-removed-entry r a k = entry-after (removeFrom r) (from_key r) (gone-from r) a k
+    → entry_at k (remove_entries r l) ≡ or_new_entry (remove_from r (entry_at k l))
+unfolding remove_entries
+removed-entry r a k = entry-after (remove_from r) (from_key r) (gone-from r) a k

@@ -2,13 +2,13 @@
 ghost use Rattle.std.specs.Prelude.{◌≡◌, true, List, [], ◌∷◌, ◌++◌, ◌≤◌, ◌<◌, ◌+◌, eqb, length};
 ghost use Rattle.listlaws.specs.Sift.{sift, those};
 ghost use Rattle.listlaws.specs.Order.{◌∈◌};
-ghost use Rattle.clock.specs.Dots.{dotsOf};
-ghost use Rattle.removals.specs.Model.{waitingOf};
+ghost use Rattle.clock.specs.Dots.{dots_of};
+ghost use Rattle.removals.specs.Model.{waiting_of};
 ghost use Rattle.entries.specs.declared.Entry.{Entry};
-ghost use Rattle.limits.specs.Limits.{entryLimit};
-ghost use Rattle.entries.specs.Model.{entriesOf, entriesAs};
-ghost use Rattle.entries.specs.Entries.{stays, cutEntry, removeEntries, run, entry_at, mergeEntries};
-ghost use Rattle.entries.specs.Steps.{MergeFits, mergeStep, Finishes};
+ghost use Rattle.limits.specs.Limits.{entry_limit};
+ghost use Rattle.entries.specs.Model.{entries_of, entries_as};
+ghost use Rattle.entries.specs.Entries.{stays, cut_entry, remove_entries, run, entry_at, merge_entries};
+ghost use Rattle.entries.specs.Steps.{MergeFits, merge_step, Finishes};
 
 use crate::finished::slot;
 use crate::{Entries, Entry, FinishedEntries, MergeStep};
@@ -18,7 +18,7 @@ use removals::{Removal, Waiting};
 
 impl Entries {
     pub fn new() -> Entries
-        ensures { result ≡ entriesAs [] }
+        ensures { result ≡ entries_as [] }
     {
         let none = Entry::new(0);
         Entries {
@@ -28,7 +28,7 @@ impl Entries {
     }
 
     pub fn size(self) -> usize
-        ensures { (result ≡ length (entriesOf self)) × (result ≤ entryLimit) }
+        ensures { (result ≡ length (entries_of self)) × (result ≤ entry_limit) }
     {
         let n = self.len;
         if n < ENTRIES { n } else { ENTRIES }
@@ -36,8 +36,8 @@ impl Entries {
 
     // One entry more behind the last.
     pub fn push(self, e: Entry) -> Entries
-        requires { self.len < entryLimit }
-        ensures { (result.len ≡ self.len + 1) × ((l : List Entry) → self ≡ entriesAs l → result ≡ entriesAs (l ++ (e ∷ []))) }
+        requires { self.len < entry_limit }
+        ensures { (result.len ≡ self.len + 1) × ((l : List Entry) → self ≡ entries_as l → result ≡ entries_as (l ++ (e ∷ []))) }
     {
         let mut out = self;
         let k = out.len;
@@ -48,7 +48,7 @@ impl Entries {
 
     // The entry of a key, a new one if absent.
     pub fn at(self, key: u32) -> Entry
-        ensures { result ≡ entry_at key (entriesOf self) }
+        ensures { result ≡ entry_at key (entries_of self) }
     {
         let n = self.size();
         let mut i: usize = 0;
@@ -64,7 +64,7 @@ impl Entries {
 
     // The entry of a key alone, if there is one.
     pub fn only(self, key: u32) -> Entries
-        ensures { result ≡ entriesAs (those (λ e. eqb e.key key) (entriesOf self)) }
+        ensures { result ≡ entries_as (those (λ e. eqb e.key key) (entries_of self)) }
     {
         let n = self.size();
         let mut out = Entries::new();
@@ -83,7 +83,7 @@ impl Entries {
 
     // What a removal leaves of the entries.
     pub fn remove(self, r: Removal) -> Entries
-        ensures { result ≡ entriesAs (removeEntries r (entriesOf self)) }
+        ensures { result ≡ entries_as (remove_entries r (entries_of self)) }
     {
         let n = self.size();
         let mut out = Entries::new();
@@ -103,7 +103,7 @@ impl Entries {
 
     // What a reset leaves of the entries.
     pub fn reset(self, by: Clock) -> Entries
-        ensures { result ≡ entriesAs (sift stays (cutEntry (dotsOf by)) (entriesOf self)) }
+        ensures { result ≡ entries_as (sift stays (cut_entry (dots_of by)) (entries_of self)) }
     {
         let n = self.size();
         let mut out = Entries::new();
@@ -130,9 +130,9 @@ impl Entries {
         ours: Waiting,
         theirs: Waiting,
     ) -> FinishedEntries
-        requires { (x y : Entry) → x ∈ entriesOf self → y ∈ entriesOf other → MergeFits (dotsOf mine) (dotsOf yours) x y }
-        ensures { Finishes (sift stays (λ e. run (waitingOf ours) (run (waitingOf theirs) e))
-            (mergeEntries (dotsOf mine) (dotsOf yours) (entriesOf self) (entriesOf other))) result }
+        requires { (x y : Entry) → x ∈ entries_of self → y ∈ entries_of other → MergeFits (dots_of mine) (dots_of yours) x y }
+        ensures { Finishes (sift stays (λ e. run (waiting_of ours) (run (waiting_of theirs) e))
+            (merge_entries (dots_of mine) (dots_of yours) (entries_of self) (entries_of other))) result }
     {
         let n = self.size();
         let m = other.size();
@@ -166,8 +166,8 @@ impl Entries {
 
 // The next of both maps' entries, `x` where there is one of ours and `y` where there is one of theirs; `mine` and `yours` are the maps' clocks.
 fn merge_step(x: Entry, y: Entry, ours: bool, theirs: bool, mine: Clock, yours: Clock) -> MergeStep
-    requires { ours ≡ true → theirs ≡ true → MergeFits (dotsOf mine) (dotsOf yours) x y }
-    ensures { result ≡ mergeStep (dotsOf mine) (dotsOf yours) ours theirs x y }
+    requires { ours ≡ true → theirs ≡ true → MergeFits (dots_of mine) (dots_of yours) x y }
+    ensures { result ≡ merge_step (dots_of mine) (dots_of yours) ours theirs x y }
 {
     if ours & (!theirs | (x.key < y.key)) {
         let survivor = x.alone(yours);

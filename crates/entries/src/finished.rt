@@ -2,12 +2,12 @@
 ghost use Rattle.std.specs.Prelude.{◌≡◌, List, [], ◌∷◌, ◌++◌, ◌*◌, ◌≤◌, ◌<◌, ◌+◌};
 ghost use Rattle.listlaws.specs.Sift.{sift, those};
 ghost use Rattle.listlaws.specs.Order.{◌∈◌};
-ghost use Rattle.removals.specs.Model.{waitingOf};
+ghost use Rattle.removals.specs.Model.{waiting_of};
 ghost use Rattle.entries.specs.declared.Entry.{Entry};
-ghost use Rattle.limits.specs.Limits.{entryLimit};
-ghost use Rattle.entries.specs.Model.{entriesOf, LaidDown};
+ghost use Rattle.limits.specs.Limits.{entry_limit};
+ghost use Rattle.entries.specs.Model.{entries_of, LaidDown};
 ghost use Rattle.entries.specs.Entries.{stays, run, aside};
-ghost use Rattle.entries.specs.Steps.{wideEntry, Finishes};
+ghost use Rattle.entries.specs.Steps.{wide_entry, Finishes};
 
 use crate::{Entries, Entry, FinishedEntries, WideEntry};
 use limits::ENTRIES;
@@ -15,7 +15,7 @@ use removals::Waiting;
 
 // The place behind so many entries; the last one where there is none.
 pub fn slot(count: usize) -> usize
-    ensures { (result < entryLimit) × (count < entryLimit → result ≡ count) }
+    ensures { (result < entry_limit) × (count < entry_limit → result ≡ count) }
 {
     if count < ENTRIES { count } else { ENTRIES - 1 }
 }
@@ -34,8 +34,8 @@ impl FinishedEntries {
 
     // One entry more behind the last, unless its clock is empty.
     pub fn add(self, h: WideEntry) -> FinishedEntries
-        requires { self.count < 4 * entryLimit }
-        ensures { (result.count ≤ self.count + 1) × ((l : List Entry) (e : Entry) → LaidDown e → Finishes l self → h ≡ wideEntry e
+        requires { self.count < 4 * entry_limit }
+        ensures { (result.count ≤ self.count + 1) × ((l : List Entry) (e : Entry) → LaidDown e → Finishes l self → h ≡ wide_entry e
             → Finishes (l ++ those stays (e ∷ [])) result) }
     {
         if h.clock.is_empty() {
@@ -53,9 +53,9 @@ impl FinishedEntries {
 
     // The entries on one side of a key, each with every waiting removal, behind the last.
     pub fn side(self, from: Entries, key: u32, below: bool, waiting: Waiting) -> FinishedEntries
-        requires { self.count ≤ 2 * entryLimit }
-        ensures { (result.count ≤ self.count + entryLimit) × ((l : List Entry) → ((e : Entry) → e ∈ entriesOf from → LaidDown e) → Finishes l self
-            → Finishes (l ++ sift stays (run (waitingOf waiting)) (those (aside below key) (entriesOf from))) result) }
+        requires { self.count ≤ 2 * entry_limit }
+        ensures { (result.count ≤ self.count + entry_limit) × ((l : List Entry) → ((e : Entry) → e ∈ entries_of from → LaidDown e) → Finishes l self
+            → Finishes (l ++ sift stays (run (waiting_of waiting)) (those (aside below key) (entries_of from))) result) }
     {
         let n = from.size();
         let mut out = self;

@@ -1,12 +1,12 @@
 // What becomes of one entry: cut, removed, put, merged.
 ghost use Rattle.std.specs.Prelude.{◌≡◌, [], ◌≤◌, length};
-ghost use Rattle.limits.specs.Limits.{dotLimit};
-ghost use Rattle.clock.specs.Dots.{dotsOf, addDot};
-ghost use Rattle.removals.specs.Model.{waitingOf};
+ghost use Rattle.limits.specs.Limits.{dot_limit};
+ghost use Rattle.clock.specs.Dots.{dots_of, add_dot};
+ghost use Rattle.removals.specs.Model.{waiting_of};
 ghost use Rattle.entries.specs.declared.Entry.{Entry};
-ghost use Rattle.entries.specs.Model.{dotsIn, entryAs};
-ghost use Rattle.entries.specs.Entries.{cutEntry, removeFrom, run, putEntry, aside, alone, together};
-ghost use Rattle.entries.specs.Steps.{wideEntry, laidEntry, MergeFits, survivorOf};
+ghost use Rattle.entries.specs.Model.{dots_in, entry_as};
+ghost use Rattle.entries.specs.Entries.{cut_entry, remove_from, run, put_entry, aside, alone, together};
+ghost use Rattle.entries.specs.Steps.{wide_entry, laid_entry, MergeFits, survivor_of};
 
 use crate::{Entry, LaidEntry, Survivor, Update, WideEntry};
 use clock::Clock;
@@ -16,7 +16,7 @@ use removals::{Removal, Waiting};
 impl Entry {
     // An entry of a key with nothing in it.
     pub fn new(key: u32) -> Entry
-        ensures { result ≡ entryAs key [] [] }
+        ensures { result ≡ entry_as key [] [] }
     {
         let clock = Clock::new();
         let register = Register::new();
@@ -28,7 +28,7 @@ impl Entry {
     }
 
     pub fn widened(self) -> WideEntry
-        ensures { result ≡ wideEntry self }
+        ensures { result ≡ wide_entry self }
     {
         let clock = self.clock;
         let wide = self.register.wide();
@@ -41,7 +41,7 @@ impl Entry {
 
     // Without the dots that `by` has seen, in the clock and in the register.
     pub fn cut(self, by: Clock) -> Entry
-        ensures { result ≡ cutEntry (dotsOf by) self }
+        ensures { result ≡ cut_entry (dots_of by) self }
     {
         let clock = self.clock.cut(by).clock;
         let register = self.register.cut(by);
@@ -54,7 +54,7 @@ impl Entry {
 
     // What a removal leaves of the entry.
     pub fn removed(self, r: Removal) -> Entry
-        ensures { result ≡ removeFrom r self }
+        ensures { result ≡ remove_from r self }
     {
         if r.keys.contains(self.key) {
             return self.cut(r.clock);
@@ -75,8 +75,8 @@ impl Entry {
 
     // The entry with an update's dot and put.
     pub fn put(self, u: Update) -> WideEntry
-        requires { length (addDot (dotsIn self) u.dot) ≤ dotLimit }
-        ensures { result ≡ wideEntry (putEntry u self) }
+        requires { length (add_dot (dots_in self) u.dot) ≤ dot_limit }
+        ensures { result ≡ wide_entry (put_entry u self) }
     {
         let grown = self.clock.add(u.dot);
         let clock = grown.clock;
@@ -90,7 +90,7 @@ impl Entry {
 
     // What a merge leaves of an entry that one map has alone; `other` is the other map's clock.
     pub fn alone(self, other: Clock) -> Survivor
-        ensures { result ≡ survivorOf (alone (dotsOf other) self) }
+        ensures { result ≡ survivor_of (alone (dots_of other) self) }
     {
         if other.covers(self.clock) {
             return Survivor::none();
@@ -108,8 +108,8 @@ impl Entry {
 
     // What a merge makes of an entry that both maps have; `ours` and `theirs` are the maps' clocks.
     pub fn together(self, other: Entry, ours: Clock, theirs: Clock) -> Survivor
-        requires { MergeFits (dotsOf ours) (dotsOf theirs) self other }
-        ensures { result ≡ survivorOf (together (dotsOf ours) (dotsOf theirs) self other) }
+        requires { MergeFits (dots_of ours) (dots_of theirs) self other }
+        ensures { result ≡ survivor_of (together (dots_of ours) (dots_of theirs) self other) }
     {
         let common = self.clock.common(other.clock);
         let mine = self.clock.cut(theirs).clock;
@@ -133,7 +133,7 @@ impl Entry {
 
 impl Survivor {
     fn none() -> Survivor
-        ensures { result ≡ survivorOf [] }
+        ensures { result ≡ survivor_of [] }
     {
         let entry = Entry::new(0).widened();
         Survivor {
@@ -146,7 +146,7 @@ impl Survivor {
 impl WideEntry {
     // What every waiting removal leaves of it.
     pub fn run(self, waiting: Waiting) -> WideEntry
-        ensures { (e : Entry) → self ≡ wideEntry e → result ≡ wideEntry (run (waitingOf waiting) e) }
+        ensures { (e : Entry) → self ≡ wide_entry e → result ≡ wide_entry (run (waiting_of waiting) e) }
     {
         let n = waiting.size();
         let key = self.key;
@@ -166,7 +166,7 @@ impl WideEntry {
 
     // The entry laid down, or that it has too many values.
     pub fn lay(self) -> LaidEntry
-        ensures { result ≡ laidEntry self }
+        ensures { result ≡ laid_entry self }
     {
         let clock = self.clock;
         let laid = self.wide.settle();

@@ -14,19 +14,19 @@ use Rattle.listlaws.proofs.Orders.{apart, head-before}
 use Rattle.scan.proofs.Eachs.{decide}
 use Rattle.clock.proofs.Joins.{lawful-nil}
 use Rattle.entries.specs.declared.Entry.{Entry}
-use Rattle.entries.specs.Model.{dotsIn, entryAs}
+use Rattle.entries.specs.Model.{dots_in, entry_as}
 use Rattle.entries.proofs.Packs.{laid_as}
 use Rattle.records.specs.declared.Record.{Record}
-use Rattle.records.specs.Records.{recordFrom, recordsFrom}
-use Rattle.opimage.specs.OpImage.{noRecord}
-use Rattle.mapimage.specs.MapImage.{flatFrom, entryRecords}
+use Rattle.records.specs.Records.{record_from, records_from}
+use Rattle.opimage.specs.OpImage.{no_record}
+use Rattle.mapimage.specs.MapImage.{flat_from, entry_records}
 use Rattle.walks.specs.declared.Layout.{Layout}
 use Rattle.walks.proofs.Loops.{part-on}
 use Rattle.layout.proofs.Entered.{first_key}
 use Rattle.keyed.proofs.Walks.{owned-end}
 use Rattle.entrywalk.specs.declared.Cursor.{Cursor}
 use Rattle.entrywalk.specs.declared.Lain.{Lain}
-use Rattle.entrywalk.specs.Walking.{beyondKeys, Ahead, LiesAt, Steps}
+use Rattle.entrywalk.specs.Walking.{beyond_keys, Ahead, LiesAt, Steps}
 
 -- p is the first key of some entries
 pub record Front (l : List Entry) (p : ℕ) : Type 0 where
@@ -35,20 +35,20 @@ pub record Front (l : List Entry) (p : ℕ) : Type 0 where
 
 -- what is told of the place where a walk stands
 abbrev pub Told : List ℕ → ℕ → ℕ → ℕ → Type 0
-Told s at end r = (r ≤ beyondKeys) × ((r < beyondKeys → (at < end) × (r ≡ (recordFrom s (at * 16)).key)) × (r ≡ beyondKeys → end ≤ at))
+Told s at end r = (r ≤ beyond_keys) × ((r < beyond_keys → (at < end) × (r ≡ (record_from s (at * 16)).key)) × (r ≡ beyond_keys → end ≤ at))
 
 module _ {s : List ℕ} {l : Layout} {x : Cursor} where
   -- nothing is ahead where the walk is at its end
   pub ahead_none : {es : List Entry} → Ahead s l x es → l.third ≤ x.own → es ≡ []
   ahead_none {es} h n = owned-end es h.own n
 
-  here-key : (e : Entry) (es : List Entry) → Ahead s l x (e ∷ es) → x.own < l.third → (recordFrom s (x.own * 16)).key ≡ e.key
-  unfolding flatFrom
+  here-key : (e : Entry) (es : List Entry) → Ahead s l x (e ∷ es) → x.own < l.third → (record_from s (x.own * 16)).key ≡ e.key
+  unfolding flat_from
   here-key e es h room =
-      ap (λ (k : List Record). (get_or k 0 noRecord).key) (sym (part-on s x.own l.third room) ∙ h.own.records)
-      ∙ (first_key e.key (dotsIn e) (flatFrom (entryRecords 2) 1 es) (h.own.some e (Memᴰ.head refl))).0
+      ap (λ (k : List Record). (get_or k 0 no_record).key) (sym (part-on s x.own l.third room) ∙ h.own.records)
+      ∙ (first_key e.key (dots_in e) (flat_from (entry_records 2) 1 es) (h.own.some e (Memᴰ.head refl))).0
 
-  pub front_of : (es : List Entry) {p : ℕ} → Ahead s l x es → Told s x.own l.third p → p < beyondKeys → Front es p
+  pub front_of : (es : List Entry) {p : ℕ} → Ahead s l x es → Told s x.own l.third p → p < beyond_keys → Front es p
   front_of [] h t n = record { first = λ e m q. absurd (let z = ap length q in omega arith); least = λ e i. absurd (Memᴰ.not-nil i) }
   front_of (e ∷ es) h t n =
       let k = t.1.0 n in
@@ -60,21 +60,21 @@ module _ {s : List ℕ} {l : Layout} {x : Cursor} where
       }
 
   -- the first entry's key, and that all keys are above a lower one
-  pub front-first : {es : List Entry} {p : ℕ} → Ahead s l x es → Told s x.own l.third p → p < beyondKeys → (e : Entry) (m : List Entry)
+  pub front-first : {es : List Entry} {p : ℕ} → Ahead s l x es → Told s x.own l.third p → p < beyond_keys → (e : Entry) (m : List Entry)
       → es ≡ e ∷ m → e.key ≡ p
   front-first {es} h t n = (front_of es h t n).first
 
   pub front_above : {es : List Entry} {p q : ℕ} → Ahead s l x es → Told s x.own l.third q → p < q → (e : Entry) → e ∈ es → p < e.key
   front_above {es} {p} {q} h t n e i =
-      decide (ltb q beyondKeys) (λ u. omega (arith, n, (front_of es h t (ltb-true q beyondKeys u)).least e i))
-      (λ u. let k = ltb-false q beyondKeys u in let b = t.0 in absurd (Memᴰ.not-nil (rw (ahead_none h (t.1.1 (omega arith))) at i)))
+      decide (ltb q beyond_keys) (λ u. omega (arith, n, (front_of es h t (ltb-true q beyond_keys u)).least e i))
+      (λ u. let k = ltb-false q beyond_keys u in let b = t.0 in absurd (Memᴰ.not-nil (rw (ahead_none h (t.1.1 (omega arith))) at i)))
 
 -- a walk that is not at its end on both sides has a key
-pub some_key : {x l y m p q : ℕ} → (ltb x l || ltb y m) ≡ true → p ≤ beyondKeys → (p ≡ beyondKeys → l ≤ x) → (q ≡ beyondKeys → m ≤ y) → p ≡ q
-    → p < beyondKeys
+pub some_key : {x l y m p q : ℕ} → (ltb x l || ltb y m) ≡ true → p ≤ beyond_keys → (p ≡ beyond_keys → l ≤ x) → (q ≡ beyond_keys → m ≤ y) → p ≡ q
+    → p < beyond_keys
 some_key {x} {l} {y} {m} {p} {q} o a f g e =
-    decide (ltb p beyondKeys) (λ u. ltb-true p beyondKeys u)
-    (λ u. let k = ltb-false p beyondKeys u in
+    decide (ltb p beyond_keys) (λ u. ltb-true p beyond_keys u)
+    (λ u. let k = ltb-false p beyond_keys u in
     let b : l ≤ x = f (omega arith) in
     let d : m ≤ y = g (omega arith) in
     apart (sym (rw (le-ltb x l b, le-ltb y m d) at o)))
@@ -101,14 +101,14 @@ module _ {s : List ℕ} {l : Layout} {x : Cursor} {es : List Entry} {r : Lain} (
 
 -- an entry that is not there lies anywhere
 pub none-lies : (s : List ℕ) (key : ℕ) (next : Cursor) (starts : List ℕ)
-    → LiesAt s (entryAs key [] []) (record {
+    → LiesAt s (entry_as key [] []) (record {
       key = key;
       dots = record { from = 0; to = 0 };
       values = record { from = 0; to = 0 };
       starts = starts;
       next = next;
     })
-unfolding flatFrom recordsFrom
+unfolding flat_from records_from
 none-lies s key next starts = record {
   fit = record {
     laid = laid_as key [] [];

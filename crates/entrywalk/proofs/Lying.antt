@@ -9,19 +9,19 @@ use lib.Seq.{take-length}
 use Rattle.listlaws.specs.Order.{◌∈◌}
 use Rattle.listlaws.proofs.Rests.{in_list}
 use Rattle.clock.specs.declared.Dot.{Dot}
-use Rattle.limits.specs.Limits.{dotLimit, valueLimit}
-use Rattle.clock.specs.Dots.{dotsOf, cutDots}
+use Rattle.limits.specs.Limits.{dot_limit, value_limit}
+use Rattle.clock.specs.Dots.{dots_of, cut_dots}
 use Rattle.clock.specs.Lawful.{Lawful}
 use Rattle.register.specs.declared.Value.{Value}
-use Rattle.register.specs.Values.{noValue}
+use Rattle.register.specs.Values.{no_value}
 use Rattle.entries.specs.declared.Entry.{Entry}
-use Rattle.entries.specs.Model.{dotsIn, valuesIn}
-use Rattle.records.specs.Records.{recordFrom}
-use Rattle.clockimage.specs.Image.{dotOf, dotRecords, contentOf}
+use Rattle.entries.specs.Model.{dots_in, values_in}
+use Rattle.records.specs.Records.{record_from}
+use Rattle.clockimage.specs.Image.{dot_of, dot_records, content_of}
 use Rattle.clockimage.proofs.RoundTrip.{dots-back}
-use Rattle.opimage.specs.OpImage.{noRecord}
-use Rattle.mapimage.specs.MapImage.{flatFrom, valueRecords}
-use Rattle.runs.specs.Run.{runDots}
+use Rattle.opimage.specs.OpImage.{no_record}
+use Rattle.mapimage.specs.MapImage.{flat_from, value_records}
+use Rattle.runs.specs.Run.{run_dots}
 use Rattle.marks.specs.Marks.{picked}
 use Rattle.marks.proofs.Picks.{picked_all}
 use Rattle.marks.proofs.Dots.{length_run}
@@ -38,78 +38,78 @@ use Rattle.entrywalk.proofs.Stepping.{one_each}
 
 -- the dots of a clock, in a slice
 pub record RunSays (run : List ℕ) (d : List Dot) : Type 0 where
-  pub dots : runDots run ≡ d
-  pub short : length run ≤ dotLimit * 16
-  pub lawful : Lawful (runDots run)
+  pub dots : run_dots run ≡ d
+  pub short : length run ≤ dot_limit * 16
+  pub lawful : Lawful (run_dots run)
 
-run-says : {s : List ℕ} (kind index key : ℕ) (d : List Dot) {r : Span} → RecordsLie s (dotRecords kind index key d) r → length d ≤ dotLimit → Lawful d
+run-says : {s : List ℕ} (kind index key : ℕ) (d : List Dot) {r : Span} → RecordsLie s (dot_records kind index key d) r → length d ≤ dot_limit → Lawful d
     → RunSays (between s r.from r.to) d
 run-says {s} kind index key d {r} h n p =
-    let e : runDots (between s r.from r.to) ≡ d = ap (map dotOf) (slice-part s r.from r.to h.order h.within ∙ h.records)
+    let e : run_dots (between s r.from r.to) ≡ d = ap (map dot_of) (slice-part s r.from r.to h.order h.within ∙ h.records)
     ∙ dots-back kind index key d in
     record { dots = e; short = short-there s r.from r.to kind index key d h.order h.within h.records n; lawful = rw e p }
 
-pub run-here : (s : List ℕ) (from to : ℕ) → from ≤ to → to ≤ from + dotLimit → Lawful (runDots (between s from to))
-    → RunSays (between s from to) (runDots (between s from to))
+pub run-here : (s : List ℕ) (from to : ℕ) → from ≤ to → to ≤ from + dot_limit → Lawful (run_dots (between s from to))
+    → RunSays (between s from to) (run_dots (between s from to))
 run-here s from to a b p = record { dots = refl; short = omega (arith, length-take (to * 16 - from * 16) (drop (from * 16) s)); lawful = p }
 
 -- all marks pick all of it
-pub all-of-run : {run : List ℕ} {d : List Dot} → RunSays run d → picked (replicate 8 true) (runDots run) ≡ d
-all-of-run {run} h = let n = h.short in picked_all (runDots run) 8 (omega (arith, length_run run)) ∙ h.dots
+pub all-of-run : {run : List ℕ} {d : List Dot} → RunSays run d → picked (replicate 8 true) (run_dots run) ≡ d
+all-of-run {run} h = let n = h.short in picked_all (run_dots run) 8 (omega (arith, length_run run)) ∙ h.dots
 
 -- what is left of it by marks that a cut has made
 pub cut-of-run : {run : List ℕ} {d : List Dot} (c : List Dot) (bs : List Bool) → RunSays run d
-    → picked bs (runDots run) ≡ cutDots c (picked (replicate 8 true) (runDots run)) → picked bs (runDots run) ≡ cutDots c d
-cut-of-run c bs h e = e ∙ ap (cutDots c) (all-of-run h)
+    → picked bs (run_dots run) ≡ cut_dots c (picked (replicate 8 true) (run_dots run)) → picked bs (run_dots run) ≡ cut_dots c d
+cut-of-run c bs h e = e ∙ ap (cut_dots c) (all-of-run h)
 
 -- a record of a part
-part_at : (s : List ℕ) (n i j : ℕ) → i + n < j → get_or (part s i j) n noRecord ≡ recordFrom s ((i + n) * 16)
+part_at : (s : List ℕ) (n i j : ℕ) → i + n < j → get_or (part s i j) n no_record ≡ record_from s ((i + n) * 16)
 part_at s zero i j h = let e : i + 0 ≡ i = omega arith in rw (part-on s i j (omega arith), e)
 part_at s (suc n) i j h = let e : i + suc n ≡ i + 1 + n = omega arith in rw (part-on s i j (omega arith), e) (part_at s n (i + 1) j (omega arith))
 
-value-at : (key i n : ℕ) (l : List Value) → n < length l → contentOf (get_or (flatFrom (valueRecords 3 key) i l) n noRecord) ≡ (get_or l n noValue).value
-unfolding flatFrom
+value-at : (key i n : ℕ) (l : List Value) → n < length l → content_of (get_or (flat_from (value_records 3 key) i l) n no_record) ≡ (get_or l n no_value).value
+unfolding flat_from
 value-at key i n [] h = absurd (omega arith)
 value-at key i zero (v ∷ l) h = refl
 value-at key i (suc n) (v ∷ l) h = value-at key (i + 1) n l (omega arith)
 
 -- the values whose records stand somewhere
-module _ {s : List ℕ} (key : ℕ) (l : List Value) {r : Span} (h : RecordsLie s (flatFrom (valueRecords 3 key) 0 l) r) where
+module _ {s : List ℕ} (key : ℕ) (l : List Value) {r : Span} (h : RecordsLie s (flat_from (value_records 3 key) 0 l) r) where
   pub many-there : r.to - r.from ≡ length l
   many-there = sym (length_part s r.from r.to) ∙ ap length h.records ∙ one_each key 0 l
 
   module _ (j : ℕ) (k : j < length l) where
-    pub content-there : contentOf (recordFrom s ((r.from + j) * 16)) ≡ (get_or l j noValue).value
+    pub content-there : content_of (record_from s ((r.from + j) * 16)) ≡ (get_or l j no_value).value
     content-there =
-        ap contentOf (sym (part_at s j r.from r.to (omega (arith, many-there))) ∙ ap (λ l. get_or l j noRecord) h.records)
+        ap content_of (sym (part_at s j r.from r.to (omega (arith, many-there))) ∙ ap (λ l. get_or l j no_record) h.records)
         ∙ value-at key 0 j l k
 
     pub inside-there : (r.from + j) * 16 + 16 ≤ length s
     inside-there = let w = h.within in omega (arith, many-there)
 
 module _ {s : List ℕ} {e : Entry} {r : Lain} (h : LiesAt s e r) where
-  pub own-says : RunSays (between s r.dots.from r.dots.to) (dotsIn e)
-  own-says = run-says 2 0 e.key (dotsIn e) h.dots h.short h.fit.clock
+  pub own-says : RunSays (between s r.dots.from r.dots.to) (dots_in e)
+  own-says = run-says 2 0 e.key (dots_in e) h.dots h.short h.fit.clock
 
-  pub many-values : r.values.to - r.values.from ≡ length (valuesIn e)
-  many-values = many-there e.key (valuesIn e) h.values
+  pub many-values : r.values.to - r.values.from ≡ length (values_in e)
+  many-values = many-there e.key (values_in e) h.values
 
-  pub runs_of : RunsOf s r.starts (r.values.to - r.values.from) (valuesIn e)
+  pub runs_of : RunsOf s r.starts (r.values.to - r.values.from) (values_in e)
   runs_of = runs-compared h.runs many-values h.fit.few h.fit.valid
 
-  module _ (j : ℕ) (k : j < length (valuesIn e)) where
-    stands : get_or (valuesIn e) j noValue ∈ valuesIn e
-    stands = rw (take-length (valuesIn e)) at (in_list (valuesIn e) (length (valuesIn e)) j noValue (rw (take-length (valuesIn e)) k))
+  module _ (j : ℕ) (k : j < length (values_in e)) where
+    stands : get_or (values_in e) j no_value ∈ values_in e
+    stands = rw (take-length (values_in e)) at (in_list (values_in e) (length (values_in e)) j no_value (rw (take-length (values_in e)) k))
 
-    pub value-says : RunSays (between s (get_or r.starts j 0) (get_or r.starts (j + 1) 0)) (dotsOf (get_or (valuesIn e) j noValue).clock)
-    value-says = run-says 4 j e.key (dotsOf (get_or (valuesIn e) j noValue).clock) (h.runs.each j k) (h.fit.short _ stands)
+    pub value-says : RunSays (between s (get_or r.starts j 0) (get_or r.starts (j + 1) 0)) (dots_of (get_or (values_in e) j no_value).clock)
+    value-says = run-says 4 j e.key (dots_of (get_or (values_in e) j no_value).clock) (h.runs.each j k) (h.fit.short _ stands)
         (h.fit.valid _ stands).clock
 
-    pub value-content : contentOf (recordFrom s ((r.values.from + j) * 16)) ≡ (get_or (valuesIn e) j noValue).value
-    value-content = content-there e.key (valuesIn e) h.values j k
+    pub value-content : content_of (record_from s ((r.values.from + j) * 16)) ≡ (get_or (values_in e) j no_value).value
+    value-content = content-there e.key (values_in e) h.values j k
 
     pub value-inside : (r.values.from + j) * 16 + 16 ≤ length s
-    value-inside = inside-there e.key (valuesIn e) h.values j k
+    value-inside = inside-there e.key (values_in e) h.values j k
 
     abbrev from : ℕ
     from = get_or r.starts j 0
@@ -119,9 +119,9 @@ module _ {s : List ℕ} {e : Entry} {r : Lain} (h : LiesAt s e r) where
 
     -- where its records stand
     pub record Stands : Type 0 where
-      pub low : j < valueLimit
+      pub low : j < value_limit
       pub order : from ≤ to
-      pub few : to ≤ from + dotLimit
+      pub few : to ≤ from + dot_limit
       pub run : to * 16 ≤ length s
       pub place : r.values.from + j < r.values.to
       pub inside : r.values.to * 16 ≤ length s
@@ -133,7 +133,7 @@ module _ {s : List ℕ} {e : Entry} {r : Lain} (h : LiesAt s e r) where
         let w = g.within in
         let b = h.fit.few in
         let o = h.values.order in
-        let n : to - from ≤ dotLimit = omega (
+        let n : to - from ≤ dot_limit = omega (
           arith,
           value-says.short,
           length-take (to * 16 - from * 16) (drop (from * 16) s),

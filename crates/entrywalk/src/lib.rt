@@ -1,16 +1,16 @@
 // The entries of an image where they lie: a walk from one to the next, and the clock of one.
 ghost use Rattle.std.specs.Prelude.{◌≡◌, List, [], ℕ, ◌*◌, ◌≤◌, ◌<◌, length};
-ghost use Rattle.clock.specs.Dots.{dotsOf, clockOf, cutDots};
+ghost use Rattle.clock.specs.Dots.{dots_of, clock_of, cut_dots};
 ghost use Rattle.clock.specs.Lawful.{Lawful};
 ghost use Rattle.register.specs.declared.Value.{Value};
-ghost use Rattle.limits.specs.Limits.{valueLimit};
+ghost use Rattle.limits.specs.Limits.{value_limit};
 ghost use Rattle.entries.specs.declared.Entry.{Entry};
-ghost use Rattle.entries.specs.Model.{dotsIn, entryAs};
-ghost use Rattle.records.specs.Records.{recordFrom};
-ghost use Rattle.records.specs.Kinds.{valueDotKind};
-ghost use Rattle.mapimage.specs.MapImage.{flatFrom, valueRecords};
+ghost use Rattle.entries.specs.Model.{dots_in, entry_as};
+ghost use Rattle.records.specs.Records.{record_from};
+ghost use Rattle.records.specs.Kinds.{value_dot_kind};
+ghost use Rattle.mapimage.specs.MapImage.{flat_from, value_records};
 ghost use Rattle.walks.specs.Walk.{part, Splits};
-ghost use Rattle.entrywalk.specs.Walking.{beyondKeys, Runs, Ahead, LiesAt, Steps};
+ghost use Rattle.entrywalk.specs.Walking.{beyond_keys, Runs, Ahead, LiesAt, Steps};
 
 use clock::Clock;
 use limits::{DOTS, VALUES};
@@ -55,8 +55,8 @@ fn next_from(s: &[u8], field: u8, bound: u64, from: usize, end: usize) -> usize
 
 // Where the dots of each of n values begin, and where the last one's end.
 pub fn starts_of(s: &[u8], n: usize, from: usize, end: usize) -> [usize; VALUE_STARTS]
-    requires { (n ≤ valueLimit) × ((from ≤ end) × (end * 16 ≤ length s.now)) }
-    ensures { (key : ℕ) (l : List Value) → n ≡ length l → part s.now from end ≡ flatFrom (valueRecords valueDotKind key) 0 l
+    requires { (n ≤ value_limit) × ((from ≤ end) × (end * 16 ≤ length s.now)) }
+    ensures { (key : ℕ) (l : List Value) → n ≡ length l → part s.now from end ≡ flat_from (value_records value_dot_kind key) 0 l
         → Runs s.now key l result }
 {
     let mut starts: [usize; VALUE_STARTS] = [from; VALUE_STARTS];
@@ -108,8 +108,8 @@ pub fn entry_at(s: &[u8], l: Layout, x: Cursor) -> Lain
 // The key of the record at a place, above every key where there is none.
 pub fn head(s: &[u8], at: usize, end: usize) -> u64
     requires { end * 16 ≤ length s.now }
-    ensures { (result ≤ beyondKeys) × ((result < beyondKeys → (at < end) × (result ≡ (recordFrom s.now (at * 16)).key))
-        × (result ≡ beyondKeys → end ≤ at)) }
+    ensures { (result ≤ beyond_keys) × ((result < beyond_keys → (at < end) × (result ≡ (record_from s.now (at * 16)).key))
+        × (result ≡ beyond_keys → end ≤ at)) }
 {
     if at < end {
         let r = records::read_record(s, at * 16);
@@ -120,7 +120,7 @@ pub fn head(s: &[u8], at: usize, end: usize) -> u64
 
 // No entry of a key, before the one where a walk stands.
 pub fn none_at(key: u32, next: Cursor) -> Lain
-    ensures { ((result.key ≡ key) × (result.next ≡ next)) × ((s : List ℕ) → LiesAt s (entryAs key [] []) result) }
+    ensures { ((result.key ≡ key) × (result.next ≡ next)) × ((s : List ℕ) → LiesAt s (entry_as key [] []) result) }
 {
     let none = Span { from: 0, to: 0 };
     Lain {
@@ -135,7 +135,7 @@ pub fn none_at(key: u32, next: Cursor) -> Lain
 // The clock of an entry.
 pub fn own_clock(s: &[u8], x: Lain) -> Clock
     requires { (e : Entry) × LiesAt s.now e x }
-    ensures { (e : Entry) → LiesAt s.now e x → result ≡ clockOf (dotsIn e) }
+    ensures { (e : Entry) → LiesAt s.now e x → result ≡ clock_of (dots_in e) }
 {
     let dots = x.dots;
     let from = dots.from * 16;
@@ -145,8 +145,8 @@ pub fn own_clock(s: &[u8], x: Lain) -> Clock
 
 // The clock of an entry, without what `by` has seen.
 pub fn own_left(s: &[u8], x: Lain, by: Clock) -> Clock
-    requires { ((e : Entry) × LiesAt s.now e x) × Lawful (dotsOf by) }
-    ensures { (e : Entry) → LiesAt s.now e x → result ≡ clockOf (cutDots (dotsOf by) (dotsIn e)) }
+    requires { ((e : Entry) × LiesAt s.now e x) × Lawful (dots_of by) }
+    ensures { (e : Entry) → LiesAt s.now e x → result ≡ clock_of (cut_dots (dots_of by) (dots_in e)) }
 {
     let dots = x.dots;
     let from = dots.from * 16;

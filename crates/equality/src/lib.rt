@@ -1,8 +1,8 @@
 // Equality of registers: every value under its clock as often in one as in the other, in whatever order.
 ghost use Rattle.std.specs.Prelude.{◌≡◌, ◌≤◌};
-ghost use Rattle.limits.specs.Limits.{valueLimit};
+ghost use Rattle.limits.specs.Limits.{value_limit};
 ghost use Rattle.register.specs.Values.{values_of};
-ghost use Rattle.equality.specs.Equality.{same_pair, timesIn, asOften, equalValues};
+ghost use Rattle.equality.specs.Equality.{same_pair, times_in, as_often, equal_values};
 
 use clock::Order;
 use register::{Register, Value};
@@ -25,7 +25,7 @@ fn same_pair(v: Value, other: Value) -> bool
 
 // How many times a value stands here under the same clock.
 fn times(register: Register, v: Value) -> usize
-    ensures { (result ≡ timesIn (values_of register) v) × (result ≤ valueLimit) }
+    ensures { (result ≡ times_in (values_of register) v) × (result ≤ value_limit) }
 {
     let n = register.size();
     let mut count: usize = 0;
@@ -42,7 +42,7 @@ fn times(register: Register, v: Value) -> usize
 
 // Whether every value that stands `here` stands in both the same number of times under its clock.
 fn as_often(register: Register, other: Register, here: Register) -> bool
-    ensures { result ≡ asOften (values_of register) (values_of other) (values_of here) }
+    ensures { result ≡ as_often (values_of register) (values_of other) (values_of here) }
 {
     let n = here.size();
     let mut i: usize = 0;
@@ -58,7 +58,7 @@ fn as_often(register: Register, other: Register, here: Register) -> bool
 
 // Equality, in whatever order: the Rust's `eq`, where no pair stands twice.
 pub fn equals(register: Register, other: Register) -> bool
-    ensures { result ≡ equalValues (values_of register) (values_of other) }
+    ensures { result ≡ equal_values (values_of register) (values_of other) }
 {
     as_often(register, other, register) & as_often(register, other, other)
 }

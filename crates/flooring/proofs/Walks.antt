@@ -11,8 +11,8 @@ use Rattle.listlaws.specs.Fold.{fold}
 use Rattle.scan.proofs.Eachs.{decide}
 use Rattle.clock.specs.declared.Clock.{Clock}
 use Rattle.flooring.specs.declared.Floored.{Floored}
-use Rattle.flooring.specs.Floor.{peerLimit}
-use Rattle.flooring.specs.Steps.{peersRead, begunOf, next_of, flooredTo}
+use Rattle.flooring.specs.Floor.{peer_limit}
+use Rattle.flooring.specs.Steps.{peers_read, begun_of, next_of, floored_to}
 
 fold_next : {A S : Type 0} (step : S → A → S) (s : S) (l : List A) (i : ℕ) (d : A) → i < length l
     → step (fold step s (take i l)) (get_or l i d) ≡ fold step s (take (suc i) l)
@@ -22,16 +22,16 @@ fold_next step s (x ∷ l) zero d h = refl
 fold_next step s (x ∷ l) (suc i) d h = fold_next step (step s x) l i d (omega arith)
 
 module _ (peers : List Clock) where
-  pub floor-start : begunOf (length peers) ≡ flooredTo peers 0
+  pub floor-start : begun_of (length peers) ≡ floored_to peers 0
   unfolding fold
   floor-start = refl
 
-  pub floor-many : (flooredTo peers 0).many ≡ peersRead (length peers)
-  unfolding fold begunOf
+  pub floor-many : (floored_to peers 0).many ≡ peers_read (length peers)
+  unfolding fold begun_of
   floor-many = refl
 
-  pub floor-next : (i : ℕ) (d : Clock) → i < length peers → next_of (flooredTo peers i) (get_or peers i d) ≡ flooredTo peers (i + 1)
-  floor-next i d h = rw (add-one i) (fold_next next_of (begunOf (length peers)) peers i d h)
+  pub floor-next : (i : ℕ) (d : Clock) → i < length peers → next_of (floored_to peers i) (get_or peers i d) ≡ floored_to peers (i + 1)
+  floor-next i d h = rw (add-one i) (fold_next next_of (begun_of (length peers)) peers i d h)
 
-pub read-within : (count : ℕ) → peersRead count ≤ count
-read-within count = decide (ltb peerLimit count) (λ t. rw t (omega arith)) (λ f. rw f (omega arith))
+pub read-within : (count : ℕ) → peers_read count ≤ count
+read-within count = decide (ltb peer_limit count) (λ t. rw t (omega arith)) (λ f. rw f (omega arith))

@@ -4,41 +4,41 @@ use Rattle.listlaws.specs.Sift.{sift}
 use Rattle.listlaws.specs.Fold.{fold}
 use Rattle.clock.specs.declared.Dot.{Dot}
 use Rattle.clock.specs.declared.Clock.{Clock}
-use Rattle.clock.specs.Dots.{dotsOf, clockOf, counterIn}
+use Rattle.clock.specs.Dots.{dots_of, clock_of, counter_in}
 use Rattle.answers.specs.Answer.{first_of}
-use Rattle.advance.specs.Advancing.{lentNumber}
+use Rattle.advance.specs.Advancing.{lent_number}
 
 -- "up to 64 peers"
-abbrev pub peerLimit : ℕ
-peerLimit = 64
+abbrev pub peer_limit : ℕ
+peer_limit = 64
 
 -- "for each actor the smallest counter over all peers"
-unfoldable pub smallestAt : ℕ → List (List Dot) → ℕ
-smallestAt actor [] = 0
-smallestAt actor (peer ∷ more) = fold (λ n c. min n (counterIn c actor)) (counterIn peer actor) more
+unfoldable pub smallest_at : ℕ → List (List Dot) → ℕ
+smallest_at actor [] = 0
+smallest_at actor (peer ∷ more) = fold (λ n c. min n (counter_in c actor)) (counter_in peer actor) more
 
 -- the dot of an actor at that counter
-abbrev pub floorDot : List (List Dot) → Dot → Dot
-floorDot peers d = record { actor = d.actor; counter = smallestAt d.actor peers }
+abbrev pub floor_dot : List (List Dot) → Dot → Dot
+floor_dot peers d = record { actor = d.actor; counter = smallest_at d.actor peers }
 
 -- "with zero left out"
 abbrev pub counted : Dot → Bool
 counted d = ltb 0 d.counter
 
 -- "the floor"; "an empty list gives the empty clock". An actor that the first peer lacks has 0, so that its actors are all to be asked
-unfoldable pub floorDots : List (List Dot) → List Dot
-floorDots [] = []
-floorDots (peer ∷ more) = sift counted (floorDot (peer ∷ more)) peer
+unfoldable pub floor_dots : List (List Dot) → List Dot
+floor_dots [] = []
+floor_dots (peer ∷ more) = sift counted (floor_dot (peer ∷ more)) peer
 
 -- "18 for more than 64 peers"
-abbrev pub peersNumber : ℕ → ℕ
-peersNumber count = cond (ltb peerLimit count) 18 0
+abbrev pub peers_number : ℕ → ℕ
+peers_number count = cond (ltb peer_limit count) 18 0
 
 -- "before the others; then 2 for a clock with more than 8 dots, 1 for one out of order or with a zero counter, the first bad clock deciding
 -- and 2 before 1 in it"
-unfoldable pub floorNumber : List Clock → ℕ
-floorNumber peers = first_of (peersNumber (length peers) ∷ map lentNumber peers)
+unfoldable pub floor_number : List Clock → ℕ
+floor_number peers = first_of (peers_number (length peers) ∷ map lent_number peers)
 
 -- what the place that is lent for the floor holds at exit: a refusal stores nothing
-unfoldable pub flooredClock : List Clock → Clock → Clock
-flooredClock peers entry = cond (eqb (floorNumber peers) 0) (clockOf (floorDots (map dotsOf peers))) entry
+unfoldable pub floored_clock : List Clock → Clock → Clock
+floored_clock peers entry = cond (eqb (floor_number peers) 0) (clock_of (floor_dots (map dots_of peers))) entry

@@ -1,7 +1,7 @@
 // The floor of some peers' clocks: one peer after the other, by value.
 ghost use Rattle.std.specs.Prelude.{◌≡◌, min};
-ghost use Rattle.clock.specs.Dots.{dotsOf, clockOf};
-ghost use Rattle.flooring.specs.Steps.{loweredBy, begunOf, next_of};
+ghost use Rattle.clock.specs.Dots.{dots_of, clock_of};
+ghost use Rattle.flooring.specs.Steps.{lowered_by, begun_of, next_of};
 
 use clock::{Clock, Dot};
 
@@ -25,7 +25,7 @@ fn smaller(counter: u64, other: u64) -> u64
 
 // The smaller counter of each actor, zero left out.
 fn lower(clock: Clock, peer: Clock) -> Clock
-    ensures { result ≡ clockOf (loweredBy (dotsOf peer) (dotsOf clock)) }
+    ensures { result ≡ clock_of (lowered_by (dots_of peer) (dots_of clock)) }
 {
     let n = clock.size();
     let mut out = Clock::new();
@@ -49,7 +49,7 @@ fn lower(clock: Clock, peer: Clock) -> Clock
 
 // Before the first peer of so many: where they are too many, none is read.
 pub fn begin(count: usize) -> Floored
-    ensures { result ≡ begunOf count }
+    ensures { result ≡ begun_of count }
 {
     let none = Clock::new();
     if PEERS < count {

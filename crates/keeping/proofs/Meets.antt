@@ -13,18 +13,18 @@ use lib.Seq.{drop-cons}
 use Rattle.listlaws.specs.Weave.{weave}
 use Rattle.listlaws.proofs.Rests.{drop-end}
 use Rattle.clock.specs.declared.Dot.{Dot}
-use Rattle.clock.specs.Dots.{noDot, joinDots}
+use Rattle.clock.specs.Dots.{no_dot, join_dots}
 use Rattle.clock.proofs.Packs.{join-nil}
 use Rattle.keeping.specs.declared.Meeting.{Meeting}
 use Rattle.keeping.specs.declared.Sought.{Sought}
 use Rattle.keeping.specs.Keeping.{sought, meeting}
 
 -- the actor's dot of both joined
-abbrev pub dotMet : Meeting → Dot
-dotMet r = record { actor = r.actor; counter = max r.ours r.theirs }
+abbrev pub dot_met : Meeting → Dot
+dot_met r = record { actor = r.actor; counter = max r.ours r.theirs }
 
 pub record Meets (a b : List Dot) (i j : ℕ) (r : Meeting) : Type 0 where
-  pub head : joinDots (drop i a) (drop j b) ≡ dotMet r ∷ joinDots (drop r.i a) (drop r.j b)
+  pub head : join_dots (drop i a) (drop j b) ≡ dot_met r ∷ join_dots (drop r.i a) (drop r.j b)
   pub ours : ◌≡◌ {A = Sought} (record { counter = r.ours; next = r.i }) (sought r.actor i (drop i a))
   pub theirs : ◌≡◌ {A = Sought} (record { counter = r.theirs; next = r.j }) (sought r.actor j (drop j b))
   pub onward : i + j < r.i + r.j
@@ -33,16 +33,16 @@ pub record Meets (a b : List Dot) (i j : ℕ) (r : Meeting) : Type 0 where
 
 module _ (a b : List Dot) (i j : ℕ) where
   abbrev d : Dot
-  d = get_or a i noDot
+  d = get_or a i no_dot
 
   abbrev e : Dot
-  e = get_or b j noDot
+  e = get_or b j no_dot
 
   first-here : i < length a → drop i a ≡ d ∷ drop (i + 1) a
-  first-here h = rw (add-one i) (drop-cons a i noDot h)
+  first-here h = rw (add-one i) (drop-cons a i no_dot h)
 
   second-here : j < length b → drop j b ≡ e ∷ drop (j + 1) b
-  second-here k = rw (add-one j) (drop-cons b j noDot k)
+  second-here k = rw (add-one j) (drop-cons b j no_dot k)
 
   -- a dot with its counter said in another way
   same : (x y : Dot) → x.actor ≡ y.actor → x.counter ≡ y.counter → x ≡ y
@@ -51,10 +51,10 @@ module _ (a b : List Dot) (i j : ℕ) where
   -- neither is used up
   module _ (h : i < length a) (k : j < length b) where
     earlier : d.actor < e.actor → Meets a b i j (record { actor = d.actor; ours = d.counter; theirs = 0; i = i + 1; j = j })
-    unfolding sought joinDots weave
+    unfolding sought join_dots weave
     earlier t = record {
       head = rw (first-here h, second-here k, lt-ltb _ _ t)
-          (ap (λ z. z ∷ joinDots (drop (i + 1) a) (e ∷ drop (j + 1) b)) (same d _ refl (omega arith)));
+          (ap (λ z. z ∷ join_dots (drop (i + 1) a) (e ∷ drop (j + 1) b)) (same d _ refl (omega arith)));
       ours = rw (first-here h, eq-eqb d.actor d.actor refl);
       theirs = rw (second-here k, ne_eqb e.actor d.actor (λ q. omega arith), lt-ltb _ _ t);
       onward = omega arith;
@@ -63,10 +63,10 @@ module _ (a b : List Dot) (i j : ℕ) where
     }
 
     later : e.actor < d.actor → Meets a b i j (record { actor = e.actor; ours = 0; theirs = e.counter; i = i; j = j + 1 })
-    unfolding sought joinDots weave
+    unfolding sought join_dots weave
     later t = record {
       head = rw (first-here h, second-here k, le-ltb d.actor e.actor (omega arith), lt-ltb _ _ t)
-          (ap (λ z. z ∷ joinDots (d ∷ drop (i + 1) a) (drop (j + 1) b)) (same e _ refl (omega arith)));
+          (ap (λ z. z ∷ join_dots (d ∷ drop (i + 1) a) (drop (j + 1) b)) (same e _ refl (omega arith)));
       ours = rw (first-here h, ne_eqb d.actor e.actor (λ q. omega arith), lt-ltb _ _ t);
       theirs = rw (second-here k, eq-eqb e.actor e.actor refl);
       onward = omega arith;
@@ -75,10 +75,10 @@ module _ (a b : List Dot) (i j : ℕ) where
     }
 
     level : d.actor ≡ e.actor → Meets a b i j (record { actor = d.actor; ours = d.counter; theirs = e.counter; i = i + 1; j = j + 1 })
-    unfolding sought joinDots weave
+    unfolding sought join_dots weave
     level t = record {
       head = rw (first-here h, second-here k, le-ltb d.actor e.actor (omega arith), le-ltb e.actor d.actor (omega arith))
-          (ap (λ z. z ∷ joinDots (drop (i + 1) a) (drop (j + 1) b)) (larger (ltb d.counter e.counter) refl));
+          (ap (λ z. z ∷ join_dots (drop (i + 1) a) (drop (j + 1) b)) (larger (ltb d.counter e.counter) refl));
       ours = rw (first-here h, eq-eqb d.actor d.actor refl);
       theirs = rw (second-here k, eq-eqb e.actor d.actor (sym t));
       onward = omega arith;
@@ -103,8 +103,8 @@ module _ (a b : List Dot) (i j : ℕ) where
     second-within = omega arith;
   }
 
-  nil-join : (l : List Dot) → joinDots [] l ≡ l
-  unfolding joinDots weave
+  nil-join : (l : List Dot) → join_dots [] l ≡ l
+  unfolding join_dots weave
   nil-join l = map-id l
 
   -- the first is used up

@@ -10,7 +10,7 @@ use lib.ListN.{length, take, drop, get_or}
 use Rattle.listlaws.proofs.Rests.{drop-step, drop-end}
 use Rattle.listlaws.proofs.Beside.{beside-next, beside-past, beside-both}
 use Rattle.clock.specs.declared.Dot.{Dot}
-use Rattle.clock.specs.Dots.{noDot, counterIn}
+use Rattle.clock.specs.Dots.{no_dot, counter_in}
 use Rattle.clock.proofs.Walks.{Walk, walk-found, walk-missed}
 use Rattle.keeping.specs.Keeping.{sought}
 use Rattle.keeping.specs.declared.Sought.{Sought}
@@ -36,40 +36,40 @@ sought-end l i a h = ap (sought a i) (drop-end l i h)
 
 -- what is found for an actor is its counter, and the walk goes on with that dot passed
 pub record Sees (xs : List Dot) (n : ℕ) (ys : List Dot) (m t : ℕ) (r : Sought) : Type 0 where
-  pub counter : r.counter ≡ counterIn (take n xs) (get_or ys t noDot).actor
+  pub counter : r.counter ≡ counter_in (take n xs) (get_or ys t no_dot).actor
   pub walk : Walk xs n r.next ys m (t + 1)
 
 module _ (xs : List Dot) (n : ℕ) (ys : List Dot) (m t : ℕ) (k : t < length (take m ys)) where
   abbrev whose : ℕ
-  whose = (get_or ys t noDot).actor
+  whose = (get_or ys t no_dot).actor
 
   at-end : (i : ℕ) → length (take n xs) ≤ i → Walk xs n i ys m t → Sees xs n ys m t (sought whose i (drop i (take n xs)))
   at-end i h g =
-      rw (sought-end (take n xs) i whose h) (record { counter = sym (walk-missed g k (λ q. absurd (omega arith))); walk = beside-next noDot g k })
+      rw (sought-end (take n xs) i whose h) (record { counter = sym (walk-missed g k (λ q. absurd (omega arith))); walk = beside-next no_dot g k })
 
   steps : (left i : ℕ) → length (take n xs) ≤ i + left → Walk xs n i ys m t → Sees xs n ys m t (sought whose i (drop i (take n xs)))
   steps zero i h g = at-end i (omega arith) g
-  steps (suc left) i h g = go (leb (length (take n xs)) i) (eqb (get_or xs i noDot).actor whose) (ltb whose (get_or xs i noDot).actor)
+  steps (suc left) i h g = go (leb (length (take n xs)) i) (eqb (get_or xs i no_dot).actor whose) (ltb whose (get_or xs i no_dot).actor)
       (λ w. steps left (i + 1) (omega arith) w) refl refl refl
     where
       go : (b c d : Bool) → (Walk xs n (i + 1) ys m t → Sees xs n ys m t (sought whose (i + 1) (drop (i + 1) (take n xs))))
-          → leb (length (take n xs)) i ≡ b → eqb (get_or xs i noDot).actor whose ≡ c → ltb whose (get_or xs i noDot).actor ≡ d
+          → leb (length (take n xs)) i ≡ b → eqb (get_or xs i no_dot).actor whose ≡ c → ltb whose (get_or xs i no_dot).actor ≡ d
           → Sees xs n ys m t (sought whose i (drop i (take n xs)))
       go true c d on e f u = at-end i (leb-true _ _ e) g
       go false true d on e f u =
           let q = leb-false (length (take n xs)) i e in
-          let z = eqb-true (get_or xs i noDot).actor whose f in
-          rw (sought-here xs n i noDot q whose f) (record { counter = sym (walk-found g k q z); walk = beside-both noDot g k q z })
+          let z = eqb-true (get_or xs i no_dot).actor whose f in
+          rw (sought-here xs n i no_dot q whose f) (record { counter = sym (walk-found g k q z); walk = beside-both no_dot g k q z })
       go false false true on e f u =
           let q = leb-false (length (take n xs)) i e in
-          rw (sought-past xs n i noDot q whose f u)
-          (record { counter = sym (walk-missed g k (λ w. ltb-true whose (get_or xs i noDot).actor u)); walk = beside-next noDot g k })
+          rw (sought-past xs n i no_dot q whose f u)
+          (record { counter = sym (walk-missed g k (λ w. ltb-true whose (get_or xs i no_dot).actor u)); walk = beside-next no_dot g k })
       go false false false on e f u =
           let q = leb-false (length (take n xs)) i e in
-          let z : (get_or xs i noDot).actor < whose = omega
-          (arith, eqb-false (get_or xs i noDot).actor whose f, ltb-false whose (get_or xs i noDot).actor u) in
-          rw (sought-later xs n i noDot q whose f u) (on (beside-past noDot g k q z))
+          let z : (get_or xs i no_dot).actor < whose = omega
+          (arith, eqb-false (get_or xs i no_dot).actor whose f, ltb-false whose (get_or xs i no_dot).actor u) in
+          rw (sought-later xs n i no_dot q whose f u) (on (beside-past no_dot g k q z))
 
 pub sees : {xs : List Dot} {n i : ℕ} {ys : List Dot} {m t : ℕ} {r : Sought} → t < length (take m ys) → Walk xs n i ys m t
-    → r ≡ sought (get_or ys t noDot).actor i (drop i (take n xs)) → Sees xs n ys m t r
+    → r ≡ sought (get_or ys t no_dot).actor i (drop i (take n xs)) → Sees xs n ys m t r
 sees {xs} {n} {i} {ys} {m} {t} k g e = rw e (steps xs n ys m t k (length (take n xs)) i (omega arith) g)

@@ -5,8 +5,8 @@ use Rattle.keeping.specs.declared.Meeting.{Meeting}
 use Rattle.keeping.specs.declared.Sought.{Sought}
 
 -- of our entry's counter x and theirs, y, with what both maps have seen: "common dots, joined with each entry clock cut by the other map's clock"
-abbrev pub keptCounter : ℕ → ℕ → ℕ → ℕ → ℕ
-keptCounter x y mine yours = max (max (cond (eqb y x) x 0) (cond (ltb yours x) x 0)) (cond (ltb mine y) y 0)
+abbrev pub kept_counter : ℕ → ℕ → ℕ → ℕ → ℕ
+kept_counter x y mine yours = max (max (cond (eqb y x) x 0) (cond (ltb yours x) x 0)) (cond (ltb mine y) y 0)
 
 -- an actor's counter in the dots from place i on, 0 where there is none, and the first place behind the actor
 unfoldable pub sought : ℕ → ℕ → List Dot → Sought

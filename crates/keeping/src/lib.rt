@@ -1,10 +1,10 @@
 // What a merge keeps of the dots of two entries, and what it deletes.
 ghost use Rattle.std.specs.Prelude.{◌≡◌, cond, ◌+◌, ◌≤◌, ◌<◌, max, length, drop};
-ghost use Rattle.limits.specs.Limits.{dotLimit};
-ghost use Rattle.clock.specs.Dots.{dotsOf, clockOf, cutDots, joinDots};
+ghost use Rattle.limits.specs.Limits.{dot_limit};
+ghost use Rattle.clock.specs.Dots.{dots_of, clock_of, cut_dots, join_dots};
 ghost use Rattle.clock.specs.Lawful.{Lawful};
-ghost use Rattle.entries.specs.Entries.{keepDots};
-ghost use Rattle.keeping.specs.Keeping.{keptCounter, sought, meeting};
+ghost use Rattle.entries.specs.Entries.{keep_dots};
+ghost use Rattle.keeping.specs.Keeping.{kept_counter, sought, meeting};
 
 use clock::{Clock, Dot};
 
@@ -46,7 +46,7 @@ fn counted(stays: bool, x: u64) -> u64
 
 // Of an actor's counters in our entry, in theirs, and in both maps' clocks: the one that is kept, or 0.
 fn kept_counter(x: u64, y: u64, mine: u64, yours: u64) -> u64
-    ensures { result ≡ keptCounter x y mine yours }
+    ensures { result ≡ kept_counter x y mine yours }
 {
     larger(
         larger(counted(y == x, x), counted(yours < x, x)),
@@ -56,8 +56,8 @@ fn kept_counter(x: u64, y: u64, mine: u64, yours: u64) -> u64
 
 // The counter of an actor in a clock of n dots from a place on, and the place behind the actor.
 fn seek(clock: Clock, n: usize, from: usize, actor: u16) -> Sought
-    requires { (n ≡ length (dotsOf clock)) × (n ≤ dotLimit) }
-    ensures { result ≡ sought actor from (drop from (dotsOf clock)) }
+    requires { (n ≡ length (dots_of clock)) × (n ≤ dot_limit) }
+    ensures { result ≡ sought actor from (drop from (dots_of clock)) }
 {
     let mut i = from;
     while i < n {
@@ -84,7 +84,7 @@ fn seek(clock: Clock, n: usize, from: usize, actor: u16) -> Sought
 
 // An actor that the first of two clocks has alone.
 fn first_alone(d: Dot, i: usize, j: usize) -> Meeting
-    requires { i < dotLimit }
+    requires { i < dot_limit }
     ensures { result ≡ record { actor = d.actor; ours = d.counter; theirs = 0; i = i + 1; j = j } }
 {
     Meeting {
@@ -98,7 +98,7 @@ fn first_alone(d: Dot, i: usize, j: usize) -> Meeting
 
 // An actor that the second of two clocks has alone.
 fn second_alone(e: Dot, i: usize, j: usize) -> Meeting
-    requires { j < dotLimit }
+    requires { j < dot_limit }
     ensures { result ≡ record { actor = e.actor; ours = 0; theirs = e.counter; i = i; j = j + 1 } }
 {
     Meeting {
@@ -112,8 +112,8 @@ fn second_alone(e: Dot, i: usize, j: usize) -> Meeting
 
 // The first actor of two clocks of n and m dots from a place in each on: its counters, and the places behind it.
 fn meet(x: Clock, n: usize, i: usize, y: Clock, m: usize, j: usize) -> Meeting
-    requires { ((n ≡ length (dotsOf x)) × (n ≤ dotLimit)) × ((m ≡ length (dotsOf y)) × (m ≤ dotLimit)) }
-    ensures { result ≡ meeting i j (drop i (dotsOf x)) (drop j (dotsOf y)) }
+    requires { ((n ≡ length (dots_of x)) × (n ≤ dot_limit)) × ((m ≡ length (dots_of y)) × (m ≤ dot_limit)) }
+    ensures { result ≡ meeting i j (drop i (dots_of x)) (drop j (dots_of y)) }
 {
     if i < n {
         let d = x.dots[i];
@@ -150,10 +150,10 @@ fn meet(x: Clock, n: usize, i: usize, y: Clock, m: usize, j: usize) -> Meeting
 
 // What a merge keeps of two entries' clocks, and what it deletes: one walk over both, with both maps' clocks beside.
 pub fn keeps(x: Clock, y: Clock, mine: Clock, yours: Clock) -> Kept
-    requires { (Lawful (dotsOf x) × Lawful (dotsOf y))
-        × ((Lawful (dotsOf mine) × Lawful (dotsOf yours)) × (length (joinDots (dotsOf x) (dotsOf y)) ≤ dotLimit)) }
-    ensures { (result.keep ≡ clockOf (keepDots (dotsOf mine) (dotsOf yours) (dotsOf x) (dotsOf y)))
-        × (result.gone ≡ clockOf (cutDots (keepDots (dotsOf mine) (dotsOf yours) (dotsOf x) (dotsOf y)) (joinDots (dotsOf x) (dotsOf y)))) }
+    requires { (Lawful (dots_of x) × Lawful (dots_of y))
+        × ((Lawful (dots_of mine) × Lawful (dots_of yours)) × (length (join_dots (dots_of x) (dots_of y)) ≤ dot_limit)) }
+    ensures { (result.keep ≡ clock_of (keep_dots (dots_of mine) (dots_of yours) (dots_of x) (dots_of y)))
+        × (result.gone ≡ clock_of (cut_dots (keep_dots (dots_of mine) (dots_of yours) (dots_of x) (dots_of y)) (join_dots (dots_of x) (dots_of y)))) }
 {
     let n = x.size();
     let m = y.size();

@@ -10,22 +10,22 @@ use lib.Dec.{eqb, ltb, leb}
 use lib.ListN.{length}
 use borrow.Author.Tests.{ltb-true, ltb-false, lt-ltb, le-ltb, le-leb, lt-leb, leb-true, eqb-true, eqb-false, ne_eqb}
 use Rattle.listlaws.specs.Sift.{sift, those}
-use Rattle.listlaws.specs.First.{firstIn}
+use Rattle.listlaws.specs.First.{first_in}
 use Rattle.listlaws.specs.Order.{◌∈◌, Ascending, by, nil, next}
 use Rattle.listlaws.proofs.Those.{those-means, those-ascends, those-same, those-all, those-none, those-those}
 use Rattle.scan.proofs.Eachs.{decide}
 use Rattle.register.specs.declared.Value.{Value}
 use Rattle.entries.specs.declared.Entry.{Entry}
-use Rattle.entries.specs.Model.{valuesIn, entryAs}
+use Rattle.entries.specs.Model.{values_in, entry_as}
 use Rattle.entries.specs.Entries.{entry_at}
 use Rattle.entries.specs.Valid.{ValidValue}
 use Rattle.entries.proofs.Puts.{at_every}
 use Rattle.entries.proofs.Limits.{EntryFits}
 use Rattle.map.specs.declared.Map.{Map}
-use Rattle.map.specs.Model.{entriesIn}
+use Rattle.map.specs.Model.{entries_in}
 use Rattle.map.proofs.Accepts.{fits-means}
 use Rattle.records.specs.declared.Record.{Record}
-use Rattle.mapimage.specs.MapImage.{flatFrom, entryRecords}
+use Rattle.mapimage.specs.MapImage.{flat_from, entry_records}
 use Rattle.oneimagelaws.proofs.Stands.{place_in, flat-means-from}
 use Rattle.walks.specs.declared.Layout.{Layout}
 use Rattle.walks.specs.declared.Span.{Span}
@@ -75,8 +75,8 @@ between key l = those-those (λ e. ltb e.key (key + 1)) (λ e. leb key e.key) l 
 
 -- of a key there is one entry, or none
 one-held : (key : ℕ) {l : List Entry} → Ascending (by (λ e. e.key)) l
-    → ((e : Entry) × (held_at key l ≡ e ∷ []) × (entry_at key l ≡ e)) ⊎ ((held_at key l ≡ []) × (entry_at key l ≡ entryAs key [] []))
-unfolding sift entry_at firstIn
+    → ((e : Entry) × (held_at key l ≡ e ∷ []) × (entry_at key l ≡ e)) ⊎ ((held_at key l ≡ []) × (entry_at key l ≡ entry_as key [] []))
+unfolding sift entry_at first_in
 one-held key nil = inr (refl, refl)
 one-held key (next {x = x} {l = l} f a) =
     decide (eqb x.key key)
@@ -88,50 +88,50 @@ one-held key (next {x = x} {l = l} f a) =
 
 -- its records
 module _ (kind key : ℕ) where
-  no-records : (b : Bool) → eqb kind 2 ≡ b → entryRecords kind 0 (entryAs key [] []) ≡ []
-  unfolding flatFrom
+  no-records : (b : Bool) → eqb kind 2 ≡ b → entry_records kind 0 (entry_as key [] []) ≡ []
+  unfolding flat_from
   no-records true t = rw t
   no-records false t = rw t
 
   pub held-records : {l : List Entry} → Ascending (by (λ e. e.key)) l
-      → flatFrom (entryRecords kind) 0 (held_at key l) ≡ entryRecords kind 0 (entry_at key l)
-  unfolding flatFrom
+      → flat_from (entry_records kind) 0 (held_at key l) ≡ entry_records kind 0 (entry_at key l)
+  unfolding flat_from
   held-records a =
-      ⊎_elim (λ r. rw (r.1, r.2) (append-nil (entryRecords kind 0 r.0))) (λ r. rw (r.0, r.1) (sym (no-records (eqb kind 2) refl)))
+      ⊎_elim (λ r. rw (r.1, r.2) (append-nil (entry_records kind 0 r.0))) (λ r. rw (r.0, r.1) (sym (no-records (eqb kind 2) refl)))
       (one-held key a)
 
 -- the records of entries in two lists, wherever they are counted from
-pub flat-any : (kind i j : ℕ) (l : List Entry) → flatFrom (entryRecords kind) i l ≡ flatFrom (entryRecords kind) j l
-unfolding flatFrom
+pub flat-any : (kind i j : ℕ) (l : List Entry) → flat_from (entry_records kind) i l ≡ flat_from (entry_records kind) j l
+unfolding flat_from
 flat-any kind i j [] = refl
-flat-any kind i j (x ∷ l) = ap (λ y. entryRecords kind 0 x ++ y) (flat-any kind (i + 1) (j + 1) l)
+flat-any kind i j (x ∷ l) = ap (λ y. entry_records kind 0 x ++ y) (flat-any kind (i + 1) (j + 1) l)
 
-flat_append : (kind i j k : ℕ) (l m : List Entry) → flatFrom (entryRecords kind) i (l ++ m) ≡ flatFrom (entryRecords kind) j l ++ flatFrom
-    (entryRecords kind) k m
-unfolding flatFrom
+flat_append : (kind i j k : ℕ) (l m : List Entry) → flat_from (entry_records kind) i (l ++ m) ≡ flat_from (entry_records kind) j l ++ flat_from
+    (entry_records kind) k m
+unfolding flat_from
 flat_append kind i j k [] m = flat-any kind i k m
 flat_append kind i j k (x ∷ l) m =
-    ap (λ y. entryRecords kind 0 x ++ y) (flat_append kind (i + 1) (j + 1) k l m)
-    ∙ sym (append_assoc (entryRecords kind 0 x) (flatFrom (entryRecords kind) (j + 1) l) (flatFrom (entryRecords kind) k m))
+    ap (λ y. entry_records kind 0 x ++ y) (flat_append kind (i + 1) (j + 1) k l m)
+    ∙ sym (append_assoc (entry_records kind 0 x) (flat_from (entry_records kind) (j + 1) l) (flat_from (entry_records kind) k m))
 
 pub flat-key : (kind i : ℕ) (l : List Entry) (P : ℕ → Type 0) → ((e : Entry) → e ∈ l → P e.key) → (r : Record)
-    → r ∈ flatFrom (entryRecords kind) i l → P r.key
+    → r ∈ flat_from (entry_records kind) i l → P r.key
 flat-key kind i l P f r m =
-    let w = flat-means-from (entryRecords kind) i l r m in
+    let w = flat-means-from (entry_records kind) i l r m in
     rw (record-key kind (i + w.place) w.source r w.given) (f w.source (place_in w.stands))
 
 -- the searches for a key and for what is behind it find the records of its entry
 module _ (s : List ℕ) (key from end first behind : ℕ) (h : from ≤ end) (inside : first ≤ end)
     (one : (at : ℕ) → Splits s 1 key from end at → first ≡ at) (two : (at : ℕ) → Splits s 1 (key + 1) first end at → behind ≡ at) where
-  pub key-part : (kind : ℕ) (l : List Entry) → Ascending (by (λ e. e.key)) l → part s from end ≡ flatFrom (entryRecords kind) 0 l
-      → part s first behind ≡ entryRecords kind 0 (entry_at key l)
+  pub key-part : (kind : ℕ) (l : List Entry) → Ascending (by (λ e. e.key)) l → part s from end ≡ flat_from (entry_records kind) 0 l
+      → part s first behind ≡ entry_records kind 0 (entry_at key l)
   key-part kind l a e =
       let low = those (λ x. ltb x.key key) l in
       let rest = those (λ (x : Entry). leb key x.key) l in
       let held = those (λ x. ltb x.key (key + 1)) rest in
       let high = those (λ (x : Entry). leb (key + 1) x.key) rest in
       let b = those-ascends (λ (x : Entry). leb key x.key) a in
-      let flat = flatFrom (entryRecords kind) 0 in
+      let flat = flat_from (entry_records kind) 0 in
       let c = cut_at s 1 key from end (flat low) (flat rest) first h (e ∙ ap flat (below-above (λ x. x.key) key a) ∙ flat_append kind 0 0 0 low rest)
       (flat-key kind 0 low (λ n. n < key) (λ x i. ltb-true x.key key (those-means (λ (x : Entry). ltb x.key key) l i).1))
       (flat-key kind 0 rest (λ n. key ≤ n) (λ x i. leb-true key x.key (those-means (λ (x : Entry). leb key x.key) l i).1)) one in
@@ -146,30 +146,30 @@ module _ (s : List ℕ) (key from end first behind : ℕ) (h : from ≤ end) (in
 abbrev pub Spanned : List ℕ → ℕ → ℕ → ℕ → Span → Type 0
 Spanned s key from end r =
     ((from ≤ r.from) × ((r.from ≤ r.to) × (r.to ≤ end)))
-    × ((kind : ℕ) (l : List Entry) → Ascending (by (λ e. e.key)) l → part s from end ≡ flatFrom (entryRecords kind) 0 l
-    → part s r.from r.to ≡ entryRecords kind 0 (entry_at key l))
+    × ((kind : ℕ) (l : List Entry) → Ascending (by (λ e. e.key)) l → part s from end ≡ flat_from (entry_records kind) 0 l
+    → part s r.from r.to ≡ entry_records kind 0 (entry_at key l))
 
 -- the three sections of a map hold the records of its entry
 module _ {s : List ℕ} {m : Map} {l : Layout} (h : Lies s m l) (key : ℕ) where
   abbrev its : Entry
-  its = entry_at key (entriesIn m)
+  its = entry_at key (entries_in m)
 
   fits : EntryFits its
   fits =
-      at_every EntryFits key (entriesIn m) (λ e i q. (fits-means m h.within.limits).entries e i)
+      at_every EntryFits key (entries_in m) (λ e i q. (fits-means m h.within.limits).entries e i)
       (record { dots = omega arith; count = omega arith; each = λ v i. absurd (Memᴰ.not-nil i) })
 
-  valid : (v : Value) → v ∈ valuesIn its → ValidValue v
-  valid = at_every (λ e. (v : Value) → v ∈ valuesIn e → ValidValue v) key (entriesIn m) (λ e i q. (h.within.valid.entries.each e i).values)
+  valid : (v : Value) → v ∈ values_in its → ValidValue v
+  valid = at_every (λ e. (v : Value) → v ∈ values_in e → ValidValue v) key (entries_in m) (λ e i q. (h.within.valid.entries.each e i).values)
       (λ v i. absurd (Memᴰ.not-nil i))
 
-  holds : (kind from end : ℕ) {r : Span} → end * 16 ≤ length s → part s from end ≡ flatFrom (entryRecords kind) 0 (entriesIn m)
-      → Spanned s key from end r → RecordsLie s (entryRecords kind 0 its) r
+  holds : (kind from end : ℕ) {r : Span} → end * 16 ≤ length s → part s from end ≡ flat_from (entry_records kind) 0 (entries_in m)
+      → Spanned s key from end r → RecordsLie s (entry_records kind 0 its) r
   holds kind from end b e f = record {
     order = f.0.1.0;
     within = let k = f.0.1.1 in
         omega arith;
-    records = f.1 kind (entriesIn m) h.within.valid.entries.rising e;
+    records = f.1 kind (entries_in m) h.within.valid.entries.rising e;
   }
 
   pub entry-lies : {r : Spans} → Spanned s key l.second l.third r.dots → Spanned s key l.third l.fourth r.values

@@ -8,19 +8,19 @@ use lib.ListN.{length, take, drop, get_or, length-append, length-map}
 use borrow.Author.Tests.{ltb-true}
 use Rattle.listlaws.proofs.Orders.{tail-ascends, head-before}
 use Rattle.clock.specs.declared.Clock.{Clock}
-use Rattle.limits.specs.Limits.{dotLimit}
-use Rattle.clock.specs.Dots.{clockOf}
+use Rattle.limits.specs.Limits.{dot_limit}
+use Rattle.clock.specs.Dots.{clock_of}
 use Rattle.entries.specs.declared.Entry.{Entry}
-use Rattle.entries.specs.Model.{dotsIn}
+use Rattle.entries.specs.Model.{dots_in}
 use Rattle.map.specs.declared.Map.{Map}
-use Rattle.map.specs.Model.{entriesIn}
+use Rattle.map.specs.Model.{entries_in}
 use Rattle.map.proofs.Accepts.{fits-means}
 use Rattle.records.specs.declared.Record.{Record}
-use Rattle.records.specs.Records.{recordFrom}
-use Rattle.clockimage.specs.Image.{dotRecord, dotRecords}
-use Rattle.opimage.specs.OpImage.{noRecord}
-use Rattle.mapimage.specs.MapImage.{flatFrom, entryRecords}
-use Rattle.runs.specs.Run.{runDots}
+use Rattle.records.specs.Records.{record_from}
+use Rattle.clockimage.specs.Image.{dot_record, dot_records}
+use Rattle.opimage.specs.OpImage.{no_record}
+use Rattle.mapimage.specs.MapImage.{flat_from, entry_records}
+use Rattle.runs.specs.Run.{run_dots}
 use Rattle.walks.specs.declared.Layout.{Layout}
 use Rattle.walks.specs.Walk.{Splits}
 use Rattle.layout.specs.Whole.{Lies}
@@ -32,7 +32,7 @@ use Rattle.layout.proofs.Found.{cut_at}
 use Rattle.keyed.proofs.Registers.{clock-there, short-there}
 
 -- all entries of an image
-pub owned-all : {s : List ℕ} {m : Map} {l : Layout} → Lies s m l → Owned s l.second l.third (entriesIn m)
+pub owned-all : {s : List ℕ} {m : Map} {l : Layout} → Lies s m l → Owned s l.second l.third (entries_in m)
 owned-all {s} {m} {l} h = record {
   order = h.places.second;
   within = (sections-end h.places).third;
@@ -44,28 +44,28 @@ owned-all {s} {m} {l} h = record {
 
 -- none is left at the end
 pub owned-end : {s : List ℕ} {at end : ℕ} (l : List Entry) → Owned s at end l → end ≤ at → l ≡ []
-unfolding flatFrom
+unfolding flat_from
 owned-end [] h n = refl
 owned-end {s} {at} {end} (e ∷ l) h n =
     absurd (let z = ap length (sym h.records ∙ part_end s at end n) in
-    let k = some-length (dotsIn e) (h.some e (Memᴰ.head refl)) in
-    omega (arith, length-append (dotRecords 2 0 e.key (dotsIn e)) (flatFrom (entryRecords 2) 1 l), length-map (dotsIn e) (dotRecord 2 0 e.key)))
+    let k = some-length (dots_in e) (h.some e (Memᴰ.head refl)) in
+    omega (arith, length-append (dot_records 2 0 e.key (dots_in e)) (flat_from (entry_records 2) 1 l), length-map (dots_in e) (dot_record 2 0 e.key)))
 
 -- the first record is of the first entry, and the search behind its key ends where the next begins
-module _ {s : List ℕ} {at end : ℕ} (room : at < end) (r : Record) (er : r ≡ recordFrom s (at * 16)) (next : ℕ) (before : at ≤ next)
+module _ {s : List ℕ} {at end : ℕ} (room : at < end) (r : Record) (er : r ≡ record_from s (at * 16)) (next : ℕ) (before : at ≤ next)
     (within : next ≤ end)
     (found : (at' : ℕ) → Splits s 1 (r.key + 1) at end at' → next ≡ at') where
-  pub stops : (l : List Entry) → Owned s at end l → (length (take (next * 16 - at * 16) (drop (at * 16) s)) ≤ dotLimit * 16)
-      × ((clock : Clock) → clock ≡ clockOf (runDots (take (next * 16 - at * 16) (drop (at * 16) s)))
+  pub stops : (l : List Entry) → Owned s at end l → (length (take (next * 16 - at * 16) (drop (at * 16) s)) ≤ dot_limit * 16)
+      × ((clock : Clock) → clock ≡ clock_of (run_dots (take (next * 16 - at * 16) (drop (at * 16) s)))
       → Stops s at end l (record { key = r.key; clock = clock; next = next }))
-  unfolding flatFrom
+  unfolding flat_from
   stops [] h = absurd (let z = ap length (sym h.records ∙ part-on s at end room) in omega arith)
   stops (e ∷ l) h =
-      let ds = dotsIn e in
-      let own = dotRecords 2 0 e.key ds in
-      let rest = flatFrom (entryRecords 2) 1 l in
+      let ds = dots_in e in
+      let own = dot_records 2 0 e.key ds in
+      let rest = flat_from (entry_records 2) 1 l in
       let some = h.some e (Memᴰ.head refl) in
-      let key : r.key ≡ e.key = ap (λ (x : Record). x.key) er ∙ ap (λ k. (get_or k 0 noRecord).key) (sym (part-on s at end room) ∙ h.records)
+      let key : r.key ≡ e.key = ap (λ (x : Record). x.key) er ∙ ap (λ k. (get_or k 0 no_record).key) (sym (part-on s at end room) ∙ h.records)
       ∙ (first_key e.key ds rest some).0 in
       let cut = cut_at s 1 (r.key + 1) at end own rest next h.order h.records
       (λ x m. let q = record-key 2 0 e x m in omega arith)
@@ -82,7 +82,7 @@ module _ {s : List ℕ} {at end : ℕ} (room : at < end) (r : Record) (er : r �
             arith,
             ap length cut.first,
             length_part s at next,
-            length-map ds (dotRecord 2 0 e.key),
+            length-map ds (dot_record 2 0 e.key),
           );
           rest = record {
             order = within;

@@ -1,13 +1,13 @@
 // A key's records where they lie, and the clock of its entry.
 ghost use Rattle.std.specs.Prelude.{◌≡◌, List, ℕ, ◌*◌, ◌≤◌, ◌<◌, length};
 ghost use Rattle.listlaws.specs.Order.{Ascending, by};
-ghost use Rattle.clock.specs.Dots.{clockOf};
+ghost use Rattle.clock.specs.Dots.{clock_of};
 ghost use Rattle.entries.specs.declared.Entry.{Entry};
 ghost use Rattle.entries.specs.Entries.{entry_at};
-ghost use Rattle.map.specs.Model.{entriesIn};
-ghost use Rattle.asking.specs.Asking.{clockAt};
-ghost use Rattle.mapimage.specs.MapImage.{flatFrom, entryRecords};
-ghost use Rattle.maprecords.specs.Related.{readMap};
+ghost use Rattle.map.specs.Model.{entries_in};
+ghost use Rattle.asking.specs.Asking.{clock_at};
+ghost use Rattle.mapimage.specs.MapImage.{flat_from, entry_records};
+ghost use Rattle.maprecords.specs.Related.{read_map};
 ghost use Rattle.walks.specs.Walk.{part};
 ghost use Rattle.layout.specs.Whole.{Lies};
 ghost use Rattle.keyed.specs.Keyed.{EntryLies, Owned, Stops};
@@ -35,8 +35,8 @@ pub struct Stop {
 fn key_span(s: &[u8], key: u32, from: usize, end: usize) -> Span
     requires { (from ≤ end) × (end * 16 ≤ length s.now) }
     ensures { ((from ≤ result.from) × ((result.from ≤ result.to) × (result.to ≤ end)))
-        × ((kind : ℕ) (l : List Entry) → Ascending (by (λ e. e.key)) l → part s.now from end ≡ flatFrom (entryRecords kind) 0 l
-        → part s.now result.from result.to ≡ entryRecords kind 0 (entry_at key l)) }
+        × ((kind : ℕ) (l : List Entry) → Ascending (by (λ e. e.key)) l → part s.now from end ≡ flat_from (entry_records kind) 0 l
+        → part s.now result.from result.to ≡ entry_records kind 0 (entry_at key l)) }
 {
     let bound = key as u64;
     let first = walks::first_from(s, BY_KEY, bound, from, end);
@@ -49,8 +49,8 @@ fn key_span(s: &[u8], key: u32, from: usize, end: usize) -> Span
 
 // Where the records of a key's entry stand; nowhere where there is none.
 pub fn spans_of(s: &[u8], l: Layout, key: u32) -> Spans
-    requires { Lies s.now (readMap s.now).map l }
-    ensures { EntryLies s.now (entry_at key (entriesIn (readMap s.now).map)) result }
+    requires { Lies s.now (read_map s.now).map l }
+    ensures { EntryLies s.now (entry_at key (entries_in (read_map s.now).map)) result }
 {
     let third = l.third;
     let fourth = l.fourth;
@@ -66,8 +66,8 @@ pub fn spans_of(s: &[u8], l: Layout, key: u32) -> Spans
 
 // The clock of a key's entry, empty where there is none.
 pub fn clock_at(s: &[u8], l: Layout, key: u32) -> Clock
-    requires { Lies s.now (readMap s.now).map l }
-    ensures { result ≡ clockOf (clockAt (readMap s.now).map key) }
+    requires { Lies s.now (read_map s.now).map l }
+    ensures { result ≡ clock_of (clock_at (read_map s.now).map key) }
 {
     let at = spans_of(s, l, key);
     let dots = at.dots;

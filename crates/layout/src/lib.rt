@@ -1,8 +1,8 @@
 // A map's image recognised where it stands, and the places of its sections.
 ghost use Rattle.std.specs.Prelude.{◌≡◌, ◌+◌, ◌<◌};
-ghost use Rattle.records.specs.Records.{recordsOf};
-ghost use Rattle.maprecords.specs.Related.{readMap};
-ghost use Rattle.layout.specs.Whole.{Parted, slowNumber, LaidOut};
+ghost use Rattle.records.specs.Records.{records_of};
+ghost use Rattle.maprecords.specs.Related.{read_map};
+ghost use Rattle.layout.specs.Whole.{Parted, slow_number, LaidOut};
 
 use clock::Clock;
 use limits::{ENTRIES, WAITING};
@@ -32,7 +32,7 @@ fn sections(s: &[u8]) -> Layout
 
 // Of an image that is refused: 1 or 2 where its records show it one by one, else 3.
 fn slow_number(s: &[u8]) -> u8
-    ensures { result ≡ slowNumber (recordsOf s.now) }
+    ensures { result ≡ slow_number (records_of s.now) }
 {
     let n = s.len() / 16;
     let mut scan = Scan::new();
@@ -82,7 +82,7 @@ fn refused(number: u8) -> Laid
 
 // What an image is, and where its parts stand.
 pub fn lay_out(s: &[u8]) -> Laid
-    ensures { (result.number ≡ (readMap s.now).number) × (result.number ≡ 0 → LaidOut s.now (readMap s.now).map result) }
+    ensures { (result.number ≡ (read_map s.now).number) × (result.number ≡ 0 → LaidOut s.now (read_map s.now).map result) }
 {
     let number = maprecords::length_number(s.len());
     if number != 0 {

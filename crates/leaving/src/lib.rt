@@ -3,21 +3,21 @@ ghost use Rattle.std.specs.Prelude.{◌≡◌, true, cond, List, ◌++◌, ℕ, 
 ghost use Rattle.listlaws.specs.First.{some};
 ghost use Rattle.listlaws.specs.Sift.{sift};
 ghost use Rattle.clock.specs.declared.Dot.{Dot};
-ghost use Rattle.limits.specs.Limits.{dotLimit, valueLimit, waitingLimit};
-ghost use Rattle.clock.specs.Dots.{dotsOf, cutDots};
+ghost use Rattle.limits.specs.Limits.{dot_limit, value_limit, waiting_limit};
+ghost use Rattle.clock.specs.Dots.{dots_of, cut_dots};
 ghost use Rattle.clock.specs.Lawful.{Lawful};
 ghost use Rattle.register.specs.declared.Value.{Value};
-ghost use Rattle.register.specs.Values.{noValue, alive};
+ghost use Rattle.register.specs.Values.{no_value, alive};
 ghost use Rattle.entries.specs.declared.Entry.{Entry};
 ghost use Rattle.removals.specs.declared.Removal.{Removal};
-ghost use Rattle.entries.specs.Model.{valuesIn};
-ghost use Rattle.mapimage.specs.MapImage.{mapLongest};
-ghost use Rattle.runs.specs.Run.{runDots};
+ghost use Rattle.entries.specs.Model.{values_in};
+ghost use Rattle.mapimage.specs.MapImage.{map_longest};
+ghost use Rattle.runs.specs.Run.{run_dots};
 ghost use Rattle.marks.specs.Marks.{picked};
-ghost use Rattle.queued.specs.Queue.{cutsFor, Queued, Marked};
+ghost use Rattle.queued.specs.Queue.{cuts_for, Queued, Marked};
 ghost use Rattle.entrywalk.specs.Walking.{LiesAt};
-ghost use Rattle.leaving.specs.Left.{valueLeft, NothingCuts};
-ghost use Rattle.sketch.specs.Drawn.{valueNamed, Placed, Draws};
+ghost use Rattle.leaving.specs.Left.{value_left, NothingCuts};
+ghost use Rattle.sketch.specs.Drawn.{value_named, Placed, Draws};
 
 use clock::Clock;
 use entrywalk::Lain;
@@ -27,7 +27,7 @@ use sketch::{Sketched, Source};
 
 // Whether one of n removals lists a key.
 fn any_listed(under: [bool; WAITING], n: usize) -> bool
-    requires { n ≤ waitingLimit }
+    requires { n ≤ waiting_limit }
     ensures { result ≡ some (λ b. b) (take n under) }
 {
     let mut i: usize = 0;
@@ -48,7 +48,7 @@ fn stay_whole(
     n: usize,
     ours: [bool; WAITING],
 ) -> bool
-    requires { (m ≤ waitingLimit) × (n ≤ waitingLimit) }
+    requires { (m ≤ waiting_limit) × (n ≤ waiting_limit) }
     ensures { result ≡ true → NothingCuts gone m theirs n ours }
 {
     if gone.is_empty() {
@@ -72,12 +72,12 @@ fn marks_left(
     cs: Queue,
     ours: [bool; WAITING],
 ) -> [bool; DOTS]
-    requires { ((length run.now ≤ dotLimit * 16) × ((whole ≡ true → NothingCuts gone ds.len theirs cs.len ours)
-        × (Lawful (runDots run.now) × Lawful (dotsOf gone)))) × (((w : List Removal) × Queued t.now ds w)
+    requires { ((length run.now ≤ dot_limit * 16) × ((whole ≡ true → NothingCuts gone ds.len theirs cs.len ours)
+        × (Lawful (run_dots run.now) × Lawful (dots_of gone)))) × (((w : List Removal) × Queued t.now ds w)
         × ((w : List Removal) × Queued s.now cs w)) }
     ensures { (v w : List Removal) (key : ℕ) → Queued t.now ds v → Queued s.now cs w → Marked v key theirs
         → Marked w key ours
-        → picked result (runDots run.now) ≡ cutsFor w key (cutsFor v key (cutDots (dotsOf gone) (runDots run.now))) }
+        → picked result (run_dots run.now) ≡ cuts_for w key (cuts_for v key (cut_dots (dots_of gone) (run_dots run.now))) }
 {
     if whole {
         return [true; DOTS];
@@ -102,14 +102,14 @@ fn source_of(
     cs: Queue,
     ours: [bool; WAITING],
 ) -> Source
-    requires { ((e : Entry) × LiesAt v.now e x × (k < length (valuesIn e)))
-        × (((whole ≡ true → NothingCuts gone ds.len theirs cs.len ours) × (Lawful (dotsOf gone) × (length v.now ≤ mapLongest)))
+    requires { ((e : Entry) × LiesAt v.now e x × (k < length (values_in e)))
+        × (((whole ≡ true → NothingCuts gone ds.len theirs cs.len ours) × (Lawful (dots_of gone) × (length v.now ≤ map_longest)))
         × (((w : List Removal) × Queued t.now ds w) × ((w : List Removal) × Queued s.now cs w))) }
-    ensures { ((result.second ≡ second) × ((result.from ≤ result.to) × (result.to ≤ result.from + dotLimit)))
-        × ((e : Entry) (u w : List Removal) → LiesAt v.now e x → k < length (valuesIn e) → Queued t.now ds u
+    ensures { ((result.second ≡ second) × ((result.from ≤ result.to) × (result.to ≤ result.from + dot_limit)))
+        × ((e : Entry) (u w : List Removal) → LiesAt v.now e x → k < length (values_in e) → Queued t.now ds u
         → Queued s.now cs w
         → Marked u e.key theirs → Marked w e.key ours → Placed v.now result
-        × (valueNamed v.now result ≡ valueLeft w u e.key (dotsOf gone) (get_or (valuesIn e) k noValue))) }
+        × (value_named v.now result ≡ value_left w u e.key (dots_of gone) (get_or (values_in e) k no_value))) }
 {
     let starts = x.starts;
     let from = starts[k];
@@ -143,13 +143,13 @@ pub fn draw_values(
     cs: Queue,
     ours: [bool; WAITING],
 ) -> Sketched
-    requires { (before.len ≤ valueLimit) × (((e : Entry) × LiesAt v.now e x)
-        × ((Lawful (dotsOf gone) × (length v.now ≤ mapLongest)) × (((w : List Removal) × Queued t.now ds w)
+    requires { (before.len ≤ value_limit) × (((e : Entry) × LiesAt v.now e x)
+        × ((Lawful (dots_of gone) × (length v.now ≤ map_longest)) × (((w : List Removal) × Queued t.now ds w)
         × ((w : List Removal) × Queued s.now cs w)))) }
-    ensures { (result.len ≤ before.len + valueLimit) × ((a b : List ℕ) (key : ℕ) (d : List Dot) (l : List Value) (e : Entry) (u w : List Removal)
+    ensures { (result.len ≤ before.len + value_limit) × ((a b : List ℕ) (key : ℕ) (d : List Dot) (l : List Value) (e : Entry) (u w : List Removal)
         → cond second b a ≡ v.now → Draws a b key d l before → LiesAt v.now e x
         → Queued t.now ds u → Queued s.now cs w → Marked u e.key theirs → Marked w e.key ours
-        → Draws a b key d (l ++ sift alive (valueLeft w u e.key (dotsOf gone)) (picked stand (valuesIn e))) result) }
+        → Draws a b key d (l ++ sift alive (value_left w u e.key (dots_of gone)) (picked stand (values_in e))) result) }
 {
     let whole = stay_whole(gone, ds.len, theirs, cs.len, ours);
     let values = x.values;

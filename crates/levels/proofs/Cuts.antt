@@ -11,7 +11,7 @@ use Rattle.listlaws.proofs.Sides.{sift-ascends}
 use Rattle.listlaws.proofs.Those.{sift-means, those-all}
 use Rattle.listlaws.proofs.Twice.{sift-same, sift-sift}
 use Rattle.clock.specs.declared.Dot.{Dot}
-use Rattle.clock.specs.Dots.{is_empty, cutDots, joinDots}
+use Rattle.clock.specs.Dots.{is_empty, cut_dots, join_dots}
 use Rattle.clock.specs.Lawful.{Lawful}
 use Rattle.clock.proofs.Cuts.{cut-trade, cut-none, lawful-cut}
 use Rattle.clock.proofs.Joins.{cut-cut}
@@ -22,16 +22,16 @@ use Rattle.entries.specs.Valid.{ValidValue}
 use Rattle.entries.proofs.Cuts.{valid-cut-value, cut-none-values}
 use Rattle.register.proofs.Kept.{cut-each}
 use Rattle.removals.proofs.WaitingValid.{valid-reset-waiting}
-use Rattle.levels.specs.MapOver.{EntryOf, MapOf, entryWith, stays_of, cutEntryOf, resetOf, mapRules}
+use Rattle.levels.specs.MapOver.{EntryOf, MapOf, entry_with, stays_of, cut_entry_of, reset_of, map_rules}
 use Rattle.rules.specs.OneEntry.{Holds}
-use Rattle.levels.specs.Level.{rulesAt}
+use Rattle.levels.specs.Level.{rules_at}
 use Rattle.entries.specs.Entries.{registers}
 use Rattle.levels.specs.Good.{GoodEntry, GoodOver, GoodValues, GoodAt}
 use Rattle.levels.specs.Laws.{CutLaws}
 use Rattle.levels.proofs.Regroup.{reset-trade, reset-both, reset-none}
 
-registerLaws : CutLaws registers GoodValues
-registerLaws = record {
+register_laws : CutLaws registers GoodValues
+register_laws = record {
   trade = λ c d {v} g. cut-values-trade c d v;
   both = λ h k {v} g. cut-values-cut h k v;
   good = λ c {v} g. cut-each ValidValue c v (λ w i m. valid-cut-value c w (g w i) m);
@@ -40,43 +40,43 @@ registerLaws = record {
 
 module _ {A O : Type 0} {r : Holds A O} {Good : A → Type 0} (laws : CutLaws r Good) where
   -- an emptied entry does not come back
-  entry_gone : (c : List Dot) (e : EntryOf A) → stays_of e ≡ false → stays_of (cutEntryOf r c e) ≡ false
-  unfolding cutEntryOf
+  entry_gone : (c : List Dot) (e : EntryOf A) → stays_of e ≡ false → stays_of (cut_entry_of r c e) ≡ false
+  unfolding cut_entry_of
   entry_gone c e t = ap not (empty-cut c e.dots (not-false (is_empty e.dots) t))
 
-  entries_twice : (c d : List Dot) (l : List (EntryOf A)) → sift stays_of (cutEntryOf r c) (sift stays_of (cutEntryOf r d) l)
-      ≡ sift stays_of (λ e. cutEntryOf r c (cutEntryOf r d e)) l
-  entries_twice c d l = sift-sift stays_of (cutEntryOf r d) (cutEntryOf r c) l (λ e i t. entry_gone c (cutEntryOf r d e) t)
+  entries_twice : (c d : List Dot) (l : List (EntryOf A)) → sift stays_of (cut_entry_of r c) (sift stays_of (cut_entry_of r d) l)
+      ≡ sift stays_of (λ e. cut_entry_of r c (cut_entry_of r d e)) l
+  entries_twice c d l = sift-sift stays_of (cut_entry_of r d) (cut_entry_of r c) l (λ e i t. entry_gone c (cut_entry_of r d e) t)
 
   module _ {m : MapOf A} (g : GoodOver Good m) where
-    map-trade : (c d : List Dot) → resetOf r c (resetOf r d m) ≡ resetOf r d (resetOf r c m)
-    unfolding resetOf cutEntryOf
+    map-trade : (c d : List Dot) → reset_of r c (reset_of r d m) ≡ reset_of r d (reset_of r c m)
+    unfolding reset_of cut_entry_of
     map-trade c d =
         let entries =
         entries_twice c d m.entries
-        ∙ sift-same stays_of _ _ m.entries (λ e i. ap₂ (entryWith e.key) (cut-trade c d e.dots) (laws.trade c d (g.each e i).val))
+        ∙ sift-same stays_of _ _ m.entries (λ e i. ap₂ (entry_with e.key) (cut-trade c d e.dots) (laws.trade c d (g.each e i).val))
         ∙ sym (entries_twice d c m.entries) in
         λ i. record { seen = cut-trade c d m.seen i; entries = entries i; waiting = reset-trade g.waiting c d i }
 
-    map_both : {c d : List Dot} → Lawful c → Lawful d → resetOf r d (resetOf r c m) ≡ resetOf r (joinDots c d) m
-    unfolding resetOf cutEntryOf
+    map_both : {c d : List Dot} → Lawful c → Lawful d → reset_of r d (reset_of r c m) ≡ reset_of r (join_dots c d) m
+    unfolding reset_of cut_entry_of
     map_both {c} {d} h k =
         let entries =
         entries_twice d c m.entries
-        ∙ sift-same stays_of _ _ m.entries (λ e i. ap₂ (entryWith e.key) (cut-cut h k e.dots) (laws.both h k (g.each e i).val)) in
+        ∙ sift-same stays_of _ _ m.entries (λ e i. ap₂ (entry_with e.key) (cut-cut h k e.dots) (laws.both h k (g.each e i).val)) in
         λ i. record { seen = cut-cut h k m.seen i; entries = entries i; waiting = reset-both g.waiting h k i }
 
-    map-good : (c : List Dot) → GoodOver Good (resetOf r c m)
-    unfolding resetOf cutEntryOf
+    map-good : (c : List Dot) → GoodOver Good (reset_of r c m)
+    unfolding reset_of cut_entry_of
     map-good c = record {
       clock = lawful-cut c g.clock;
-      rising = sift-ascends (by-strict (λ (e : EntryOf A). e.key)) (by-steady (λ (e : EntryOf A). e.key)) stays_of (cutEntryOf r c)
-          (λ e. level_by (λ (x : EntryOf A). x.key) e (cutEntryOf r c e) refl) g.rising;
+      rising = sift-ascends (by-strict (λ (e : EntryOf A). e.key)) (by-steady (λ (e : EntryOf A). e.key)) stays_of (cut_entry_of r c)
+          (λ e. level_by (λ (x : EntryOf A). x.key) e (cut_entry_of r c e) refl) g.rising;
       each = λ z i.
-          let s = sift-means stays_of (cutEntryOf r c) m.entries i in
+          let s = sift-means stays_of (cut_entry_of r c) m.entries i in
           let o = g.each s.source s.stands in
           let some = not-true (is_empty z.dots) s.passes in
-          let left : GoodEntry Good (cutDots c m.seen) (cutEntryOf r c s.source) = record {
+          let left : GoodEntry Good (cut_dots c m.seen) (cut_entry_of r c s.source) = record {
             clock = lawful-cut c o.clock;
             some = ap (λ x. is_empty x.dots) (sym s.changed) ∙ some;
             covered = covers-cuts g.clock o.clock o.covered c;
@@ -86,18 +86,18 @@ module _ {A O : Type 0} {r : Holds A O} {Good : A → Type 0} (laws : CutLaws r 
       waiting = valid-reset-waiting g.waiting.each c;
     }
 
-    map-none : resetOf r [] m ≡ m
-    unfolding resetOf cutEntryOf
+    map-none : reset_of r [] m ≡ m
+    unfolding reset_of cut_entry_of
     map-none =
         let entries =
-        sift-same stays_of (cutEntryOf r []) (λ e. e) m.entries
-        (λ e i. ap₂ (entryWith e.key) (cut-none (g.each e i).clock) (laws.none (g.each e i).val))
+        sift-same stays_of (cut_entry_of r []) (λ e. e) m.entries
+        (λ e i. ap₂ (entry_with e.key) (cut-none (g.each e i).clock) (laws.none (g.each e i).val))
         ∙ those-all stays_of m.entries (λ e i. ap not (g.each e i).some) in
         λ i. record { seen = cut-none g.clock i; entries = entries i; waiting = reset-none g.waiting i }
 
-  mapLaws : CutLaws (mapRules r) (GoodOver Good)
-  unfolding mapRules
-  mapLaws = record {
+  map_laws : CutLaws (map_rules r) (GoodOver Good)
+  unfolding map_rules
+  map_laws = record {
     trade = λ c d g. map-trade g c d;
     both = λ h k g. map_both g h k;
     good = λ c g. map-good g c;
@@ -105,7 +105,7 @@ module _ {A O : Type 0} {r : Holds A O} {Good : A → Type 0} (laws : CutLaws r 
   }
 
 -- at every level
-pub cutLaws : (n : ℕ) → CutLaws (rulesAt n) (GoodAt n)
-unfolding rulesAt
-cutLaws zero = registerLaws
-cutLaws (suc n) = mapLaws (cutLaws n)
+pub cut_laws : (n : ℕ) → CutLaws (rules_at n) (GoodAt n)
+unfolding rules_at
+cut_laws zero = register_laws
+cut_laws (suc n) = map_laws (cut_laws n)

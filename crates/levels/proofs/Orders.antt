@@ -12,13 +12,13 @@ use Rattle.listlaws.proofs.Perms.{perm_in}
 use Rattle.listlaws.proofs.Those.{those-all}
 use Rattle.listlaws.proofs.Twice.{sift-same}
 use Rattle.removals.specs.declared.Removal.{Removal}
-use Rattle.removals.specs.Waits.{waits, uniteInto}
+use Rattle.removals.specs.Waits.{waits, unite_into}
 use Rattle.removals.specs.Valid.{ValidRemoval}
-use Rattle.removals.proofs.ListingClocks.{supOf, Clocked}
-use Rattle.levels.specs.MapOver.{stays_of, cutEntryOf, removeOf, mapWith}
-use Rattle.levels.specs.Level.{Val, rulesAt}
+use Rattle.removals.proofs.ListingClocks.{sup_of, Clocked}
+use Rattle.levels.specs.MapOver.{stays_of, cut_entry_of, remove_of, map_with}
+use Rattle.levels.specs.Level.{Val, rules_at}
 use Rattle.levels.specs.Good.{GoodAt}
-use Rattle.levels.proofs.Cuts.{cutLaws}
+use Rattle.levels.proofs.Cuts.{cut_laws}
 use Rattle.levels.proofs.Closed.{runs, removes, removes-run}
 use Rattle.levels.proofs.Merges.{run-closed}
 use Rattle.levels.proofs.Removes.{removes-trade}
@@ -39,16 +39,16 @@ module _ {A S : Type 0} (step : S → A → S) (P : S → Type 0) (Q : A → Typ
 
 -- "all end in the same map"
 pub same_end : (n : ℕ) {ws vs : List Removal} → Permᴰ ws vs → ((w : Removal) → w ∈ ws → ValidRemoval w) → (m : Val (suc n)) → GoodAt (suc n) m
-    → fold (removeOf (rulesAt n)) m ws ≡ fold (removeOf (rulesAt n)) m vs
+    → fold (remove_of (rules_at n)) m ws ≡ fold (remove_of (rules_at n)) m vs
 same_end n d f m g =
-    fold-perm (removeOf (rulesAt n)) (GoodAt (suc n)) ValidRemoval (λ s w p q. removal-good n p q) (λ s v w p q u. removes-trade n p q u) d f m g
+    fold-perm (remove_of (rules_at n)) (GoodAt (suc n)) ValidRemoval (λ s w p q. removal-good n p q) (λ s v w p q u. removes-trade n p q u) d f m g
 
 -- "each key loses exactly the dots at or below the largest counters among the clocks that list it", and its subtree is cut by these
 pub end-closed : (n : ℕ) (ws : List Removal) → Clocked ws → (m : Val (suc n)) → GoodAt (suc n) m
-    → fold (removeOf (rulesAt n)) m ws ≡ mapWith m.seen (sift stays_of (λ e. cutEntryOf (rulesAt n) (supOf ws e.key) e) m.entries)
-    (fold uniteInto m.waiting (those (waits m.seen) ws))
+    → fold (remove_of (rules_at n)) m ws ≡ map_with m.seen (sift stays_of (λ e. cut_entry_of (rules_at n) (sup_of ws e.key) e) m.entries)
+    (fold unite_into m.waiting (those (waits m.seen) ws))
 end-closed n ws f m g =
-    removes (rulesAt n) ws m.seen m.entries m.waiting
-    ∙ ap (λ l. mapWith m.seen l (fold uniteInto m.waiting (those (waits m.seen) ws)))
-    (ap (runs (rulesAt n) ws) (sym (those-all stays_of m.entries (λ e i. ap not (g.each e i).some))) ∙ removes-run (rulesAt n) ws m.entries
-    ∙ sift-same stays_of _ _ m.entries (λ e i. run-closed (cutLaws n) ws f (record { clock = (g.each e i).clock; val = (g.each e i).val })))
+    removes (rules_at n) ws m.seen m.entries m.waiting
+    ∙ ap (λ l. map_with m.seen l (fold unite_into m.waiting (those (waits m.seen) ws)))
+    (ap (runs (rules_at n) ws) (sym (those-all stays_of m.entries (λ e i. ap not (g.each e i).some))) ∙ removes-run (rules_at n) ws m.entries
+    ∙ sift-same stays_of _ _ m.entries (λ e i. run-closed (cut_laws n) ws f (record { clock = (g.each e i).clock; val = (g.each e i).val })))

@@ -7,7 +7,7 @@ use native.Mathlib.Omega.{arith}
 use borrow.Author.Tests.{ltb-true, ltb-false}
 use lib.Dec.{ltb}
 use Rattle.clock.specs.declared.Dot.{Dot}
-use Rattle.clock.specs.Dots.{counterIn, cutDots, joinDots}
+use Rattle.clock.specs.Dots.{counter_in, cut_dots, join_dots}
 use Rattle.clock.specs.Lawful.{Lawful}
 use Rattle.clock.proofs.Counters.{same-clock}
 use Rattle.clock.proofs.Cuts.{lawful-cut, counter-cut}
@@ -25,9 +25,9 @@ larger c a b = go (ltb c (max a b)) (ltb c a) (ltb c b) refl refl refl
     go false false true t u v = absurd (omega (arith, ltb-false c (max a b) t, ltb-true c b v))
     go false false false t u v = omega arith
 
-pub cut-join : (c : List Dot) {a b : List Dot} → Lawful a → Lawful b → cutDots c (joinDots a b) ≡ joinDots (cutDots c a) (cutDots c b)
+pub cut-join : (c : List Dot) {a b : List Dot} → Lawful a → Lawful b → cut_dots c (join_dots a b) ≡ join_dots (cut_dots c a) (cut_dots c b)
 cut-join c {a} {b} h k =
     same-clock (lawful-cut c (lawful-join h k)) (lawful-join (lawful-cut c h) (lawful-cut c k))
     (λ x.
-    counter-cut c (lawful-join h k) x ∙ rw (counter-join h k x) (larger (counterIn c x) (counterIn a x) (counterIn b x))
+    counter-cut c (lawful-join h k) x ∙ rw (counter-join h k x) (larger (counter_in c x) (counter_in a x) (counter_in b x))
     ∙ sym (counter-join (lawful-cut c h) (lawful-cut c k) x ∙ ap₂ max (counter-cut c h x) (counter-cut c k x)))

@@ -4,7 +4,7 @@ use mathlib.Core.Bool.{Bool, true, false, cond}
 use mathlib.Core.List.{List, [], ◌∷◌, ◌++◌, map, map-map, map-append, flatten}
 use Prim.Native.Nat.{ℕ, ◌+◌}
 use Rattle.listlaws.specs.Sift.{sift}
-use Rattle.listlaws.specs.First.{firstIn}
+use Rattle.listlaws.specs.First.{first_in}
 use Rattle.listlaws.specs.Fold.{total_of}
 use Rattle.listlaws.specs.Weave.{weave, against}
 use Rattle.listlaws.proofs.Twice.{sift-same, sift-map}
@@ -24,19 +24,19 @@ module _ {A B : Type 0} (g : A → B) where
   sift-through keep f h e l =
       sift-out keep f l ∙ sift-same keep (λ x. g (f x)) (λ x. h (g x)) l (λ x i. e x) ∙ sym (sift-map keep h g l)
 
-  pub first-through : (test : B → Bool) (z : A) (l : List A) → g (firstIn (λ x. test (g x)) (λ x. x) z l) ≡ firstIn test (λ x. x) (g z) (map g l)
-  unfolding firstIn
+  pub first-through : (test : B → Bool) (z : A) (l : List A) → g (first_in (λ x. test (g x)) (λ x. x) z l) ≡ first_in test (λ x. x) (g z) (map g l)
+  unfolding first_in
   first-through test z [] = refl
   first-through test z (x ∷ l) =
-      go (test (g x)) (firstIn (λ y. test (g y)) (λ y. y) z l) (firstIn test (λ y. y) (g z) (map g l)) (first-through test z l)
+      go (test (g x)) (first_in (λ y. test (g y)) (λ y. y) z l) (first_in test (λ y. y) (g z) (map g l)) (first-through test z l)
     where
       go : (b : Bool) (s : A) (t : B) → g s ≡ t → g (cond b x s) ≡ cond b (g x) t
       go true s t e = refl
       go false s t e = e
 
   pub first-map : {R : Type 0} (test : B → Bool) (give : B → R) (z : R) (l : List A)
-      → firstIn test give z (map g l) ≡ firstIn (λ x. test (g x)) (λ x. give (g x)) z l
-  unfolding firstIn
+      → first_in test give z (map g l) ≡ first_in (λ x. test (g x)) (λ x. give (g x)) z l
+  unfolding first_in
   first-map test give z [] = refl
   first-map test give z (x ∷ l) = ap (cond (test (g x)) (give (g x))) (first-map test give z l)
 

@@ -10,10 +10,10 @@ use Rattle.listlaws.specs.Weave.{weave}
 use Rattle.listlaws.proofs.Orders.{by-strict, same-members}
 use Rattle.listlaws.proofs.Levels.{Level, Steady, before-then, then-before, before-before}
 use Rattle.listlaws.proofs.Uniting.{united, united-nil, united-next}
-use Rattle.clock.specs.Dots.{clockOf}
+use Rattle.clock.specs.Dots.{clock_of}
 use Rattle.removals.specs.declared.Removal.{Removal}
-use Rattle.removals.specs.Model.{keysAs, underOf, listedIn}
-use Rattle.removals.specs.Waits.{removalBefore, unionKeys, unite, uniteAll, uniteInto}
+use Rattle.removals.specs.Model.{keys_as, under_of, listed_in}
+use Rattle.removals.specs.Waits.{removal_before, union_keys, unite, unite_all, unite_into}
 use Rattle.removals.specs.Valid.{ValidRemoval}
 use Rattle.removals.proofs.ClockOrder.{removal-strict, removal-steady, removal-level}
 use Rattle.removals.proofs.Uniting.{keeps, unite-keys}
@@ -98,13 +98,13 @@ module _ {A : Type 0} (before : A → A → Bool) (both : A → A → A) (strict
 
 -- unions of keys
 module _ {k h : List ℕ} (a : Ascending (by (λ x. x)) k) (b : Ascending (by (λ x. x)) h) where
-  pub union_comm : unionKeys k h ≡ unionKeys h k
+  pub union_comm : union_keys k h ≡ union_keys h k
   union_comm =
       same-members (by-strict (λ x. x)) _ _ (union-ascends a b) (union-ascends b a)
       (λ n i. ⊎_elim (λ j. union_right b a j) (λ j. union_left b a j) (union-means a b n i))
       (λ n i. ⊎_elim (λ j. union_right a b j) (λ j. union_left a b j) (union-means b a n i))
 
-  pub union_assoc : {g : List ℕ} → Ascending (by (λ x. x)) g → unionKeys (unionKeys k h) g ≡ unionKeys k (unionKeys h g)
+  pub union_assoc : {g : List ℕ} → Ascending (by (λ x. x)) g → union_keys (union_keys k h) g ≡ union_keys k (union_keys h g)
   union_assoc {g} c =
       same-members (by-strict (λ x. x)) _ _ (union-ascends (union-ascends a b) c) (union-ascends a (union-ascends b c))
       (λ n i.
@@ -119,21 +119,21 @@ module _ {k h : List ℕ} (a : Ascending (by (λ x. x)) k) (b : Ascending (by (�
       (union-means a (union-ascends b c) n i))
 
 module _ {x y : Removal} (h : ValidRemoval x) (k : ValidRemoval y) where
-  pub unite-comm : underOf x ≡ underOf y → unite x y ≡ unite y x
+  pub unite-comm : under_of x ≡ under_of y → unite x y ≡ unite y x
   unite-comm e =
-      let c : x.clock ≡ y.clock = ap (λ r. r.clock) h.laid ∙ ap clockOf e ∙ sym (ap (λ r. r.clock) k.laid) in
-      λ i. record { clock = c i; keys = keysAs (union_comm h.keys k.keys i) }
+      let c : x.clock ≡ y.clock = ap (λ r. r.clock) h.laid ∙ ap clock_of e ∙ sym (ap (λ r. r.clock) k.laid) in
+      λ i. record { clock = c i; keys = keys_as (union_comm h.keys k.keys i) }
 
   pub unite-assoc : {z : Removal} → ValidRemoval z → unite (unite x y) z ≡ unite x (unite y z)
   unite-assoc {z} q =
-      let e = ap (λ s. unionKeys s (listedIn z)) (unite-keys x y) ∙ union_assoc h.keys k.keys q.keys
-      ∙ ap (unionKeys (listedIn x)) (sym (unite-keys y z)) in
-      λ i. record { clock = x.clock; keys = keysAs (e i) }
+      let e = ap (λ s. union_keys s (listed_in z)) (unite-keys x y) ∙ union_assoc h.keys k.keys q.keys
+      ∙ ap (union_keys (listed_in x)) (sym (unite-keys y z)) in
+      λ i. record { clock = x.clock; keys = keys_as (e i) }
 
 -- two removals are united into those that wait in either order
 pub unite-trade : {y z : Removal} (l : List Removal) → ((x : Removal) → x ∈ l → ValidRemoval x) → ValidRemoval y → ValidRemoval z
-    → uniteInto (uniteInto l y) z ≡ uniteInto (uniteInto l z) y
-unfolding uniteAll
+    → unite_into (unite_into l y) z ≡ unite_into (unite_into l z) y
+unfolding unite_all
 unite-trade {y} {z} l f h k =
-    united-trade removalBefore unite removal-strict removal-steady keeps y z l
+    united-trade removal_before unite removal-strict removal-steady keeps y z l
     (λ x i e q. unite-assoc (f x i) h k) (λ x i e q. unite-assoc (f x i) k h) (λ e. unite-comm h k (removal-level y z e))

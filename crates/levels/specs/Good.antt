@@ -2,7 +2,7 @@
 use Rattle.std.specs.Prelude.{◌≡◌, true, false, List, ℕ, zero, suc, ◌<◌}
 use Rattle.listlaws.specs.Order.{◌∈◌, Ascending, by}
 use Rattle.clock.specs.declared.Dot.{Dot}
-use Rattle.clock.specs.Dots.{dotsOf, is_empty, covers}
+use Rattle.clock.specs.Dots.{dots_of, is_empty, covers}
 use Rattle.clock.specs.Lawful.{Lawful}
 use Rattle.register.specs.declared.Value.{Value}
 use Rattle.removals.specs.Valid.{ValidRemoval, ValidWaiting}
@@ -36,5 +36,5 @@ GoodOpOf GoodO (up d k o) = (0 < d.counter) × GoodO o
 GoodOpOf GoodO (rm w) = ValidRemoval w
 
 abbrev pub GoodOpAt : (n : ℕ) → Op n → Type 0
-GoodOpAt zero o = is_empty (dotsOf o.clock) ≡ false → ValidValue o
+GoodOpAt zero o = is_empty (dots_of o.clock) ≡ false → ValidValue o
 GoodOpAt (suc n) o = GoodOpOf (GoodOpAt n) o

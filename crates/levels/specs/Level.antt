@@ -3,7 +3,7 @@ use Rattle.std.specs.Prelude.{List, ℕ, zero, suc}
 use Rattle.register.specs.declared.Value.{Value}
 use Rattle.rules.specs.OneEntry.{Holds}
 use Rattle.entries.specs.Entries.{registers}
-use Rattle.levels.specs.MapOver.{MapOf, OpOf, mapRules}
+use Rattle.levels.specs.MapOver.{MapOf, OpOf, map_rules}
 
 abbrev pub Val : ℕ → Type 0
 Val zero = List Value
@@ -14,6 +14,6 @@ abbrev pub Op : ℕ → Type 0
 Op zero = Value
 Op (suc n) = OpOf (Op n)
 
-unfoldable pub rulesAt : (n : ℕ) → Holds (Val n) (Op n)
-rulesAt zero = registers
-rulesAt (suc n) = mapRules (rulesAt n)
+unfoldable pub rules_at : (n : ℕ) → Holds (Val n) (Op n)
+rules_at zero = registers
+rules_at (suc n) = map_rules (rules_at n)

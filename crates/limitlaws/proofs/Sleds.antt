@@ -3,10 +3,10 @@ use mathlib.Core.Path.{◌≡◌, refl, sym, ◌∙◌}
 use native.Mathlib.Omega.{arith}
 use Rattle.map.specs.declared.Map.{Map}
 use Rattle.scan.specs.Limits.{Limits, today}
-use Rattle.mapimage.specs.MapImage.{longestBy, mapImage}
+use Rattle.mapimage.specs.MapImage.{longest_by, map_image}
 use Rattle.oneimagelaws.specs.One.{OneImage}
-use Rattle.limitlaws.specs.Readers.{readUnder, numberUnder}
-use Rattle.limitlaws.specs.Sleds.{oldSleds, newSleds}
+use Rattle.limitlaws.specs.Readers.{read_under, number_under}
+use Rattle.limitlaws.specs.Sleds.{old_sleds, new_sleds}
 use Rattle.limitlaws.specs.Widening.{Below, UnderLimits, Over, Widening}
 use Rattle.limitlaws.proofs.Accepting.{accepted-means, accepted-holds, still_read, over-refused, larger-refused}
 use Rattle.limitlaws.proofs.Maps.{image-read, image-map, image-reads}
@@ -27,27 +27,27 @@ widening old new b = record {
     larger p = record { good = p.good; entries = omega (arith, p.entries, b.entries); waiting = omega (arith, p.waiting, b.waiting) }
 
 -- end theorems from here on: of the old sleds and the new ones, and of this one
-pub bigger-sleds : Widening oldSleds newSleds
-bigger-sleds = widening oldSleds newSleds (record { entries = omega arith; waiting = omega arith })
+pub bigger-sleds : Widening old_sleds new_sleds
+bigger-sleds = widening old_sleds new_sleds (record { entries = omega arith; waiting = omega arith })
 
 -- this sled is not smaller than the old ones
-room-here : Below oldSleds today
+room-here : Below old_sleds today
 room-here = record { entries = omega arith; waiting = omega arith }
 
 -- this sled is a new one
-pub is-new : today ≡ newSleds
+pub is-new : today ≡ new_sleds
 is-new = refl
 
-pub this-sled : Widening oldSleds today
-this-sled = widening oldSleds today room-here
+pub this-sled : Widening old_sleds today
+this-sled = widening old_sleds today room-here
 
 -- what the old sleds accept is exactly the images of maps within the old limits, the very images that this sled writes
-pub old-images : OneImage (UnderLimits oldSleds) mapImage (numberUnder oldSleds) (λ s. (readUnder oldSleds s).map)
-old-images = one-image-under oldSleds room-here
+pub old-images : OneImage (UnderLimits old_sleds) map_image (number_under old_sleds) (λ s. (read_under old_sleds s).map)
+old-images = one-image-under old_sleds room-here
 
 -- "The longest map image becomes 28,800 bytes."
-pub longest-old : longestBy oldSleds ≡ 14464
+pub longest-old : longest_by old_sleds ≡ 14464
 longest-old = refl
 
-pub longest-new : longestBy newSleds ≡ 28800
+pub longest-new : longest_by new_sleds ≡ 28800
 longest-new = refl

@@ -8,7 +8,7 @@ use native.Mathlib.Omega.{arith}
 use borrow.Author.Tests.{ltb-true, eq-eqb, ne_eqb}
 use lib.Dec.{eqb}
 use lib.ListN.{length, take, drop, get_or}
-use Rattle.listlaws.specs.First.{firstIn}
+use Rattle.listlaws.specs.First.{first_in}
 use Rattle.listlaws.specs.Order.{◌∈◌, Ascending, by}
 use Rattle.listlaws.proofs.Orders.{tail-ascends, head-before}
 use Rattle.listlaws.proofs.Firsts.{first-none}
@@ -22,14 +22,14 @@ below rank {k} {y} a h w i =
 -- `give` says what is found of an element with the number, and z that there is none
 module _ {A R : Type 0} (rank : A → ℕ) (give : A → R) (z : R) where
   abbrev pub look : List A → ℕ → R
-  look l k = firstIn (λ x. eqb (rank x) k) give z l
+  look l k = first_in (λ x. eqb (rank x) k) give z l
 
   look-past : (x : A) (l : List A) (k : ℕ) → rank x < k → look (x ∷ l) k ≡ look l k
-  unfolding firstIn
+  unfolding first_in
   look-past x l k h = rw (ne_eqb (rank x) k (λ e. omega arith))
 
   look-here : (x : A) (l : List A) (k : ℕ) → rank x ≡ k → look (x ∷ l) k ≡ give x
-  unfolding firstIn
+  unfolding first_in
   look-here x l k e = rw (eq-eqb (rank x) k e)
 
   look_none : {y : A} {m : List A} {k : ℕ} → Ascending (by rank) (y ∷ m) → k < rank y → look (y ∷ m) k ≡ z
@@ -81,7 +81,7 @@ module _ {A R : Type 0} {rank : A → ℕ} {give : A → R} {z : R} {xs : List A
 
     -- the first list is used up
     pub beside_end : length (take n xs) ≤ i → look rank give z (take n xs) (rank (get_or ys j d)) ≡ z
-    unfolding firstIn
+    unfolding first_in
     beside_end h =
         opened.left (get_or ys j d) (Memᴰ.head refl) ∙ ap (λ l. look rank give z l (rank (get_or ys j d))) (drop-end (take n xs) i h)
 

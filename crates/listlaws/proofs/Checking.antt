@@ -6,7 +6,7 @@ use Prim.Native.Nat.{ℕ, ◌+◌, ◌≤◌, ◌<◌}
 use borrow.Author.Tests.{leb-true, leb-false}
 use lib.Dec.{leb}
 use lib.ListN.{length, take, drop, get_or}
-use Rattle.listlaws.specs.First.{firstIn, none}
+use Rattle.listlaws.specs.First.{first_in, none}
 use Rattle.listlaws.proofs.Rests.{first-here, first-later, drop-end}
 
 -- i of the n places in use are passed, and the flag says whether none of them passed the test
@@ -36,7 +36,7 @@ module _ {A : Type 0} {test : A → Bool} {xs : List A} {n : ℕ} where
 
     -- at the end of all places, or at one that passes
     pub checking-end : (i < length (take n xs) → test (get_or xs i d) ≡ true) → (flag && leb (length (take n xs)) i) ≡ none test (take n xs)
-    unfolding firstIn
+    unfolding first_in
     checking-end f = go (leb (length (take n xs)) i) refl
       where
         go : (t : Bool) → leb (length (take n xs)) i ≡ t → (flag && t) ≡ none test (take n xs)
@@ -45,7 +45,7 @@ module _ {A : Type 0} {test : A → Bool} {xs : List A} {n : ℕ} where
 
   -- at the end of all places
   pub checking-all : {i : ℕ} {flag : Bool} → Checking test xs n i flag → length (take n xs) ≤ i → flag ≡ none test (take n xs)
-  unfolding firstIn
+  unfolding first_in
   checking-all {i} {flag} g h = sym (g.left ∙ ap (λ l. flag && none test l) (drop-end (take n xs) i h) ∙ and-true flag)
 
   -- a flag that is gone has decided

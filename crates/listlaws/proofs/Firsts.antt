@@ -7,7 +7,7 @@ use mathlib.Core.List.{List, [], ◌∷◌}
 use lib.Dec.{eqb, eqb-suc-zero}
 use lib.ListN.{length}
 use Rattle.listlaws.specs.Sift.{sift, those}
-use Rattle.listlaws.specs.First.{firstIn, none}
+use Rattle.listlaws.specs.First.{first_in, none}
 use Rattle.listlaws.specs.Order.{◌∈◌}
 use Rattle.listlaws.proofs.Orders.{apart}
 
@@ -17,11 +17,11 @@ module _ {A R : Type 0} (test : A → Bool) (give : A → R) (z : R) where
     pub found : A
     pub stands : found ∈ l
     pub passes : test found ≡ true
-    pub given : firstIn test give z l ≡ give found
+    pub given : first_in test give z l ≡ give found
 
   -- some element decides, or none passes
   pub first-cases : (l : List A) → Hit l ⊎ ((x : A) → x ∈ l → test x ≡ false)
-  unfolding firstIn
+  unfolding first_in
   first-cases [] = inr (λ x i. absurd (Memᴰ.not-nil i))
   first-cases (x ∷ l) = go (test x) refl (first-cases l)
     where
@@ -31,8 +31,8 @@ module _ {A R : Type 0} (test : A → Bool) (give : A → R) (z : R) where
           inl (record { found = h.found; stands = Memᴰ.tail h.stands; passes = h.passes; given = rw t h.given })
       go false t (inr f) = inr (λ y i. ⊎_elim (λ (e : y ≡ x). rw e t) (λ j. f y j) (Memᴰ.cases_cons i))
 
-  pub first-none : (l : List A) → ((x : A) → x ∈ l → test x ≡ false) → firstIn test give z l ≡ z
-  unfolding firstIn
+  pub first-none : (l : List A) → ((x : A) → x ∈ l → test x ≡ false) → first_in test give z l ≡ z
+  unfolding first_in
   first-none [] f = refl
   first-none (x ∷ l) f = rw (f x (Memᴰ.head refl)) (first-none l (λ y i. f y (Memᴰ.tail i)))
 
@@ -45,7 +45,7 @@ module _ {A : Type 0} (p : A → Bool) where
 
   -- none passes where those that pass are none
   pub none-those : (l : List A) → eqb (length (those p l)) 0 ≡ none p l
-  unfolding firstIn sift
+  unfolding first_in sift
   none-those [] = refl
   none-those (x ∷ l) = go (p x) (none-those l)
     where

@@ -6,27 +6,27 @@ use Prim.Native.Nat.{ℕ, ◌≤◌, ◌<◌}
 use borrow.Author.Tests.{le-leb, lt-leb, leb-true, leb-false, le-ltb, lt-ltb}
 use lib.Dec.{leb, ltb}
 use lib.ListN.{length}
-use Rattle.listlaws.specs.Limit.{ifWithin}
+use Rattle.listlaws.specs.Limit.{if_within}
 use Rattle.listlaws.proofs.Orders.{apart}
 
 module _ {A S : Type 0} (limit : ℕ) (good : List A → S) (bad : S) where
-  pub within-fits : (l : List A) → length l ≤ limit → ifWithin limit good bad l ≡ good l
-  unfolding ifWithin
+  pub within-fits : (l : List A) → length l ≤ limit → if_within limit good bad l ≡ good l
+  unfolding if_within
   within-fits l h = rw (le-leb (length l) limit h)
 
-  pub within-exceeds : (l : List A) → limit < length l → ifWithin limit good bad l ≡ bad
-  unfolding ifWithin
+  pub within-exceeds : (l : List A) → limit < length l → if_within limit good bad l ≡ bad
+  unfolding if_within
   within-exceeds l h = rw (lt-leb (length l) limit h)
 
   module _ (over : S → Bool) (none : (l : List A) → over (good l) ≡ false) (set : over bad ≡ true) where
-    pub flag-set : {s : S} (l : List A) → s ≡ ifWithin limit good bad l → over s ≡ true → limit < length l
+    pub flag-set : {s : S} (l : List A) → s ≡ if_within limit good bad l → over s ≡ true → limit < length l
     flag-set {s} l e t = go (leb (length l) limit) refl
       where
         go : (b : Bool) → leb (length l) limit ≡ b → limit < length l
         go true q = apart (sym t ∙ ap over (e ∙ within-fits l (leb-true _ _ q)) ∙ none l)
         go false q = leb-false _ _ q
 
-    pub flag-clear : {s : S} (l : List A) → s ≡ ifWithin limit good bad l → over s ≡ false → length l ≤ limit
+    pub flag-clear : {s : S} (l : List A) → s ≡ if_within limit good bad l → over s ≡ false → length l ≤ limit
     flag-clear {s} l e t = go (leb (length l) limit) refl
       where
         go : (b : Bool) → leb (length l) limit ≡ b → length l ≤ limit
@@ -34,9 +34,9 @@ module _ {A S : Type 0} (limit : ℕ) (good : List A → S) (bad : S) where
         go false q = apart (sym set ∙ sym (ap over (e ∙ within-exceeds l (leb-false _ _ q))) ∙ t)
 
     -- the flag is the test of the limit
-    pub flag_is : (l : List A) → over (ifWithin limit good bad l) ≡ ltb limit (length l)
+    pub flag_is : (l : List A) → over (if_within limit good bad l) ≡ ltb limit (length l)
     flag_is l = go (leb (length l) limit) refl
       where
-        go : (b : Bool) → leb (length l) limit ≡ b → over (ifWithin limit good bad l) ≡ ltb limit (length l)
+        go : (b : Bool) → leb (length l) limit ≡ b → over (if_within limit good bad l) ≡ ltb limit (length l)
         go true q = ap over (within-fits l (leb-true _ _ q)) ∙ none l ∙ sym (le-ltb limit (length l) (leb-true _ _ q))
         go false q = ap over (within-exceeds l (leb-false _ _ q)) ∙ set ∙ sym (lt-ltb limit (length l) (leb-false _ _ q))

@@ -8,7 +8,7 @@ use native.Mathlib.Omega.{arith}
 use borrow.Author.Tests.{ltb-true, ltb-false, le-ltb, eq-eqb, ne_eqb}
 use lib.Dec.{eqb}
 use lib.ListN.{length, length-map}
-use Rattle.listlaws.specs.First.{firstIn}
+use Rattle.listlaws.specs.First.{first_in}
 use Rattle.listlaws.specs.Order.{◌∈◌, Ascending, nil, next, by}
 use Rattle.listlaws.proofs.Orders.{by-strict, no_longer}
 use Rattle.listlaws.proofs.Levels.{Level, Steady, level-same}
@@ -30,8 +30,8 @@ same_rank rank a {x} {y} i j e = level-same a i j (level_by rank x y e)
 
 -- the first with a member's number is the member
 pub first_member : {A R : Type 0} (rank : A → ℕ) (give : A → R) (z : R) {l : List A} {x : A} → Ascending (by rank) l → x ∈ l
-    → firstIn (λ y. eqb (rank y) (rank x)) give z l ≡ give x
-unfolding firstIn
+    → first_in (λ y. eqb (rank y) (rank x)) give z l ≡ give x
+unfolding first_in
 first_member rank give z nil i = absurd (Memᴰ.not-nil i)
 first_member rank give z {x = x} (next {x = y} {l = l} f a) i =
     ⊎_elim

@@ -9,7 +9,7 @@ use native.Mathlib.Omega.{arith}
 use lib.ListN.{length, take, drop, get_or, length-take, drop_of_length-le, take-append-drop}
 use lib.Seq.{drop-cons, get_or-take}
 use Rattle.listlaws.specs.Sift.{sift}
-use Rattle.listlaws.specs.First.{firstIn}
+use Rattle.listlaws.specs.First.{first_in}
 use Rattle.listlaws.specs.Fold.{fold}
 use Rattle.listlaws.specs.Weave.{weave}
 use Rattle.listlaws.specs.Order.{◌∈◌}
@@ -40,12 +40,12 @@ module _ {A : Type 0} (xs : List A) (n i : ℕ) (d : A) (h : i < length (take n 
   map_on f = rw drop-step
 
   module _ {R : Type 0} (test : A → Bool) (give : A → R) (z : R) where
-    pub first-here : test (get_or xs i d) ≡ true → firstIn test give z (drop i (take n xs)) ≡ give (get_or xs i d)
-    unfolding firstIn
+    pub first-here : test (get_or xs i d) ≡ true → first_in test give z (drop i (take n xs)) ≡ give (get_or xs i d)
+    unfolding first_in
     first-here t = rw (drop-step, t)
 
-    pub first-later : test (get_or xs i d) ≡ false → firstIn test give z (drop i (take n xs)) ≡ firstIn test give z (drop (i + 1) (take n xs))
-    unfolding firstIn
+    pub first-later : test (get_or xs i d) ≡ false → first_in test give z (drop i (take n xs)) ≡ first_in test give z (drop (i + 1) (take n xs))
+    unfolding first_in
     first-later t = rw (drop-step, t)
 
   pub fold_on : {S : Type 0} (step : S → A → S) (s : S) → fold step s (drop i (take n xs)) ≡ fold step (step s (get_or xs i d))

@@ -7,12 +7,12 @@ use native.Mathlib.Numerals.{add-one}
 use borrow.Author.Tests.{ltb-true}
 use lib.Dec.{ltb, leb}
 use lib.ListN.{length}
-use Rattle.listlaws.specs.First.{firstIn, some}
+use Rattle.listlaws.specs.First.{first_in, some}
 use Rattle.listlaws.proofs.Orders.{apart}
 use Rattle.listlaws.proofs.Pads.{length-snoc}
 
 pub some-snoc : {A : Type 0} (p : A → Bool) (l : List A) (x : A) → some p (l ++ (x ∷ [])) ≡ (some p l || p x)
-unfolding firstIn
+unfolding first_in
 some-snoc p [] x = go (p x)
   where
     go : (b : Bool) → cond b true false ≡ b

@@ -8,7 +8,7 @@ use native.Mathlib.Omega.{arith}
 use lib.Dec.{eqb, ltb, eqb-suc-zero}
 use lib.ListN.{length}
 use borrow.Author.Tests.{eq-eqb, ne_eqb, ltb-true, ltb-false}
-use Rattle.listlaws.specs.First.{firstIn, some}
+use Rattle.listlaws.specs.First.{first_in, some}
 use Rattle.listlaws.specs.Fold.{fold}
 use Rattle.listlaws.proofs.Folds.{fold-append}
 use Rattle.listlaws.proofs.Pads.{length-snoc}
@@ -18,7 +18,7 @@ use Rattle.listlaws.proofs.Orders.{apart}
 use Rattle.scan.proofs.Eachs.{decide}
 use Rattle.register.specs.declared.Value.{Value}
 use Rattle.loader.specs.declared.Report.{Report}
-use Rattle.loader.specs.Choice.{smallest, another, differ, reportOn}
+use Rattle.loader.specs.Choice.{smallest, another, differ, report_on}
 use Rattle.loader.proofs.Smallest.{lower, smallest-stands, differ-smallest}
 
 module _ (w : Value) (m : List Value) (v : Value) where
@@ -63,16 +63,16 @@ module _ (w : Value) (m : List Value) (v : Value) where
             (λ f. let h = ltb-false a b f in rw f (ap not (eq-eqb a b (omega arith))))
 
 -- where something is found there is a value
-some-there : {r : Report} (l : List Value) → r ≡ reportOn l → r.found ≡ true → (w : Value) × (m : List Value) × (l ≡ w ∷ m)
+some-there : {r : Report} (l : List Value) → r ≡ report_on l → r.found ≡ true → (w : Value) × (m : List Value) × (l ≡ w ∷ m)
 some-there [] e z = apart (sym z ∙ ap (λ (x : Report). x.found) e)
 some-there (w ∷ m) e z = (w, m, refl)
 
 -- a report, and what it becomes
 module _ {r : Report} {n : ℕ} where
   -- of the first value
-  pub first_more : (l : List Value) (v : Value) → r ≡ reportOn l → n ≡ v.value.number → r.found ≡ false
-      → record { count = r.count + 1; differ = false; found = true; value = n } ≡ reportOn (l ++ (v ∷ []))
-  unfolding smallest differ fold firstIn
+  pub first_more : (l : List Value) (v : Value) → r ≡ report_on l → n ≡ v.value.number → r.found ≡ false
+      → record { count = r.count + 1; differ = false; found = true; value = n } ≡ report_on (l ++ (v ∷ []))
+  unfolding smallest differ fold first_in
   first_more [] v e f z =
       let alone : not (eqb v.value.number v.value.number) ≡ false = ap not (eq-eqb v.value.number v.value.number refl) in
       let c : r.count + 1 ≡ 1 = ap (λ (x : Report). x.count + 1) e in
@@ -80,14 +80,14 @@ module _ {r : Report} {n : ℕ} where
   first_more (w ∷ m) v e f z = apart (ap not (sym (eqb-suc-zero (length m))) ∙ sym (ap (λ (x : Report). x.found) e) ∙ z)
 
   -- of a value more
-  module _ (l : List Value) (v : Value) (e : r ≡ reportOn l) (f : n ≡ v.value.number) (z : r.found ≡ true) where
+  module _ (l : List Value) (v : Value) (e : r ≡ report_on l) (f : n ≡ v.value.number) (z : r.found ≡ true) where
     count-more : r.count + 1 ≡ length (l ++ (v ∷ []))
     count-more = ap (λ (x : Report). x.count + 1) e ∙ sym (length-snoc l v)
 
     found-more : true ≡ not (eqb (length (l ++ (v ∷ []))) 0)
     found-more = sym (ap not (ne_eqb (length (l ++ (v ∷ []))) 0 (λ (q : length (l ++ (v ∷ [])) ≡ 0). omega (arith, count-more))))
 
-    pub lower-more : n < r.value → record { count = r.count + 1; differ = true; found = true; value = n } ≡ reportOn (l ++ (v ∷ []))
+    pub lower-more : n < r.value → record { count = r.count + 1; differ = true; found = true; value = n } ≡ report_on (l ++ (v ∷ []))
     lower-more h =
         let (w, m, q) = some-there l e z in
         let k : v.value.number < smallest (w ∷ m) = let s = ap (λ (x : Report). x.value) e in omega (arith, ap smallest q) in
@@ -98,7 +98,7 @@ module _ {r : Report} {n : ℕ} where
           value = (f ∙ sym (now-smallest w m v k) ∙ ap (λ x. smallest (x ++ (v ∷ []))) (sym q)) i;
         }
 
-    pub upper-more : r.value ≤ n → record { count = r.count + 1; differ = r.differ || ltb r.value n; found = true; value = r.value } ≡ reportOn
+    pub upper-more : r.value ≤ n → record { count = r.count + 1; differ = r.differ || ltb r.value n; found = true; value = r.value } ≡ report_on
         (l ++ (v ∷ []))
     upper-more h =
         let (w, m, q) = some-there l e z in

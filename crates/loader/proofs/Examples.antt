@@ -4,15 +4,15 @@ use mathlib.Core.Bool.{true}
 use mathlib.Core.List.{List, [], ◌∷◌}
 use Rattle.listlaws.specs.Pad.{pad}
 use Rattle.listlaws.specs.Sift.{sift}
-use Rattle.listlaws.specs.First.{firstIn}
+use Rattle.listlaws.specs.First.{first_in}
 use Rattle.listlaws.specs.Fold.{fold}
-use Rattle.clock.specs.Dots.{counterIn, covers, order_of}
+use Rattle.clock.specs.Dots.{counter_in, covers, order_of}
 use Rattle.clock.proofs.Examples.{one}
 use Rattle.register.specs.declared.Value.{Value}
 use Rattle.register.specs.Values.{yields}
 use Rattle.register.proofs.Examples.{value}
-use Rattle.loader.specs.Choice.{isBelow, undropped, smallest, differ, reportOf}
-use Rattle.loader.specs.Reports.{reportBytes}
+use Rattle.loader.specs.Choice.{is_below, undropped, smallest, differ, report_of}
+use Rattle.loader.specs.Reports.{report_bytes}
 
 abbrev register : List Value
 register =
@@ -22,9 +22,9 @@ register =
     ∷ []
 
 -- end theorems, both: 5 is dropped though it is the smallest
-two-remain : reportOf register ≡ record { count = 2; differ = true; found = true; value = 300 }
-unfolding reportOf undropped isBelow smallest differ yields order_of covers counterIn sift firstIn fold pad
+two-remain : report_of register ≡ record { count = 2; differ = true; found = true; value = 300 }
+unfolding report_of undropped is_below smallest differ yields order_of covers counter_in sift first_in fold pad
 two-remain = refl
 
-two_bytes : reportBytes (record { count = 2; differ = true; found = true; value = 300 }) ≡ 2 ∷ 1 ∷ 1 ∷ 44 ∷ 1 ∷ 0 ∷ 0 ∷ 0 ∷ 0 ∷ 0 ∷ 0 ∷ []
+two_bytes : report_bytes (record { count = 2; differ = true; found = true; value = 300 }) ≡ 2 ∷ 1 ∷ 1 ∷ 44 ∷ 1 ∷ 0 ∷ 0 ∷ 0 ∷ 0 ∷ 0 ∷ 0 ∷ []
 two_bytes = refl

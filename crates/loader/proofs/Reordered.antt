@@ -10,7 +10,7 @@ use native.Mathlib.Nat.{le_antisymm}
 use native.Mathlib.Omega.{arith}
 use lib.ListN.{length-map}
 use Rattle.listlaws.specs.Sift.{sift, those}
-use Rattle.listlaws.specs.First.{firstIn, some}
+use Rattle.listlaws.specs.First.{first_in, some}
 use Rattle.listlaws.specs.Fold.{fold}
 use Rattle.listlaws.specs.Order.{◌∈◌}
 use Rattle.listlaws.proofs.Often.{perm-length}
@@ -19,16 +19,16 @@ use Rattle.listlaws.proofs.Perms.{perm_in, perm-those}
 use Rattle.listlaws.proofs.Somes.{some-cases, some_holds, false-some}
 use Rattle.listlaws.proofs.Those.{those-same}
 use Rattle.clock.specs.declared.Dot.{Dot}
-use Rattle.limits.specs.Limits.{dotLimit}
-use Rattle.clock.specs.Dots.{noDot, dotsOf, clockOf}
+use Rattle.limits.specs.Limits.{dot_limit}
+use Rattle.clock.specs.Dots.{no_dot, dots_of, clock_of}
 use Rattle.register.specs.declared.Value.{Value}
 use Rattle.register.specs.Values.{yields}
-use Rattle.entries.specs.Model.{valuesIn}
+use Rattle.entries.specs.Model.{values_in}
 use Rattle.entries.specs.Entries.{entry_at}
 use Rattle.map.specs.declared.Map.{Map}
-use Rattle.map.specs.Model.{entriesIn}
-use Rattle.loader.specs.Choice.{isBelow, undropped, smallest, another, differ, reportOn, reportOf, pairsOf}
-use Rattle.loader.specs.Reports.{reportAt}
+use Rattle.map.specs.Model.{entries_in}
+use Rattle.loader.specs.Choice.{is_below, undropped, smallest, another, differ, report_on, report_of, pairs_of}
+use Rattle.loader.specs.Reports.{report_at}
 use Rattle.loader.proofs.Smallest.{lower, smallest-least, smallest-stands, differ-smallest}
 
 -- the same values, in another order
@@ -40,10 +40,10 @@ module _ {l m : List Value} (d : Permᴰ l m) where
       (some-cases p l)
 
   remaining-perm : Permᴰ (undropped l) (undropped m)
-  unfolding undropped isBelow
+  unfolding undropped is_below
   remaining-perm =
-      let e = those-same (λ v. not (isBelow l v)) (λ v. not (isBelow m v)) m (λ v i. ap not (some-perm (yields false v))) in
-      rw (← e) (perm-those (λ v. not (isBelow l v)) d)
+      let e = those-same (λ v. not (is_below l v)) (λ v. not (is_below m v)) m (λ v i. ap not (some-perm (yields false v))) in
+      rw (← e) (perm-those (λ v. not (is_below l v)) d)
 
 smallest-within : (l m : List Value) {w : Value} → w ∈ m → ((z : Value) → z ∈ m → z ∈ l) → smallest l ≤ smallest m
 smallest-within l m i f =
@@ -64,19 +64,19 @@ differ-perm : (l m : List Value) → Permᴰ l m → differ l ≡ differ m
 differ-perm l m d =
     differ-smallest l ∙ ap (λ n. some (another n) l) (smallest-perm l m d) ∙ some-perm d (another (smallest m)) ∙ sym (differ-smallest m)
 
-report-perm : {l m : List Value} → Permᴰ l m → reportOf l ≡ reportOf m
-unfolding reportOf
+report-perm : {l m : List Value} → Permᴰ l m → report_of l ≡ report_of m
+unfolding report_of
 report-perm d = on (remaining-perm d)
   where
-    on : {l m : List Value} → Permᴰ l m → reportOn l ≡ reportOn m
+    on : {l m : List Value} → Permᴰ l m → report_on l ≡ report_on m
     on {l} {m} p = rw (perm-length p, differ-perm l m p, smallest-perm l m p)
 
 -- a report is one of pairs: of a clock it sees its dots alone
 abbrev laid : Value → Value
-laid v = record { clock = clockOf (dotsOf v.clock); value = record { number = v.value.number; origin = 0 } }
+laid v = record { clock = clock_of (dots_of v.clock); value = record { number = v.value.number; origin = 0 } }
 
 some-map : {A B : Type 0} (p : B → Bool) (q : A → Bool) (g : A → B) (l : List A) → ((x : A) → p (g x) ≡ q x) → some p (map g l) ≡ some q l
-unfolding firstIn
+unfolding first_in
 some-map p q g [] f = refl
 some-map p q g (x ∷ l) f = rw (f x, some-map p q g l f)
 
@@ -91,12 +91,12 @@ those-map p q g (x ∷ l) f = rw (f x) (go (q x) (those-map p q g l f))
 
 yields-laid : (v w : Value) → yields false (laid v) (laid w) ≡ yields false v w
 unfolding yields
-yields-laid v w = rw (take-pad noDot dotLimit (dotsOf v.clock), take-pad noDot dotLimit (dotsOf w.clock))
+yields-laid v w = rw (take-pad no_dot dot_limit (dots_of v.clock), take-pad no_dot dot_limit (dots_of w.clock))
 
 remaining-laid : (l : List Value) → undropped (map laid l) ≡ map laid (undropped l)
-unfolding undropped isBelow
+unfolding undropped is_below
 remaining-laid l =
-    those-map (λ v. not (isBelow (map laid l) v)) (λ v. not (isBelow l v)) laid l
+    those-map (λ v. not (is_below (map laid l) v)) (λ v. not (is_below l v)) laid l
     (λ v. ap not (some-map (yields false (laid v)) (yields false v) laid l (yields-laid v)))
 
 smallest-laid : (l : List Value) → smallest (map laid l) ≡ smallest l
@@ -113,27 +113,27 @@ differ-laid l =
     differ-smallest (map laid l) ∙ ap (λ n. some (another n) (map laid l)) (smallest-laid l)
     ∙ some-map (another (smallest l)) (another (smallest l)) laid l (λ v. refl) ∙ sym (differ-smallest l)
 
-report-laid : (l : List Value) → reportOf (map laid l) ≡ reportOf l
-unfolding reportOf
-report-laid l = ap reportOn (remaining-laid l) ∙ on (undropped l)
+report-laid : (l : List Value) → report_of (map laid l) ≡ report_of l
+unfolding report_of
+report-laid l = ap report_on (remaining-laid l) ∙ on (undropped l)
   where
-    on : (k : List Value) → reportOn (map laid k) ≡ reportOn k
+    on : (k : List Value) → report_on (map laid k) ≡ report_on k
     on k = rw (length-map k laid, differ-laid k, smallest-laid k)
 
-pub same-report : (l m : List Value) → Permᴰ (pairsOf l) (pairsOf m) → reportOf l ≡ reportOf m
+pub same-report : (l m : List Value) → Permᴰ (pairs_of l) (pairs_of m) → report_of l ≡ report_of m
 same-report l m d =
     let e = Permᴰ.map back d in
     let p = rw (map-map back pair l, map-map back pair m) at e in
     sym (report-laid l) ∙ report-perm p ∙ report-laid m
   where
     back : List Dot × ℕ → Value
-    back p = record { clock = clockOf p.0; value = record { number = p.1; origin = 0 } }
+    back p = record { clock = clock_of p.0; value = record { number = p.1; origin = 0 } }
 
     pair : Value → List Dot × ℕ
-    pair v = (dotsOf v.clock, v.value.number)
+    pair v = (dots_of v.clock, v.value.number)
 
 -- so of a bay in two maps
-pub same-bay : (m n : Map) (bay : ℕ) → Permᴰ (pairsOf (valuesIn (entry_at bay (entriesIn m)))) (pairsOf (valuesIn (entry_at bay (entriesIn n))))
-    → reportAt m bay ≡ reportAt n bay
-unfolding reportAt
+pub same-bay : (m n : Map) (bay : ℕ) → Permᴰ (pairs_of (values_in (entry_at bay (entries_in m)))) (pairs_of (values_in (entry_at bay (entries_in n))))
+    → report_at m bay ≡ report_at n bay
+unfolding report_at
 same-bay m n bay d = same-report _ _ d

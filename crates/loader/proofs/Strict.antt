@@ -10,19 +10,19 @@ use Rattle.listlaws.proofs.Somes.{false-some}
 use Rattle.listlaws.proofs.Those.{those-holds}
 use Rattle.scan.proofs.Eachs.{decide}
 use Rattle.clock.specs.declared.Dot.{Dot}
-use Rattle.clock.specs.Dots.{dotsOf, covers, outcome, order_of}
+use Rattle.clock.specs.Dots.{dots_of, covers, outcome, order_of}
 use Rattle.clock.proofs.Covers.{covers-trans}
 use Rattle.register.specs.declared.Value.{Value}
 use Rattle.register.specs.Values.{yielding, yields}
-use Rattle.loader.specs.Choice.{isBelow, undropped}
+use Rattle.loader.specs.Choice.{is_below, undropped}
 
 -- a clock strictly below another is covered by it and does not cover it
 abbrev Under : List Dot → List Dot → Type 0
 Under a b = (covers a b ≡ false) × (covers b a ≡ true)
 
-under-means : (v w : Value) → yields false v w ≡ true → Under (dotsOf v.clock) (dotsOf w.clock)
+under-means : (v w : Value) → yields false v w ≡ true → Under (dots_of v.clock) (dots_of w.clock)
 unfolding yields order_of
-under-means v w t = go (covers (dotsOf v.clock) (dotsOf w.clock)) (covers (dotsOf w.clock) (dotsOf v.clock)) t
+under-means v w t = go (covers (dots_of v.clock) (dots_of w.clock)) (covers (dots_of w.clock) (dots_of v.clock)) t
   where
     go : (a b : Bool) → yielding false (outcome a b) ≡ true → (a ≡ false) × (b ≡ true)
     go true true e = apart (sym e)
@@ -30,13 +30,13 @@ under-means v w t = go (covers (dotsOf v.clock) (dotsOf w.clock)) (covers (dotsO
     go false true e = (refl, refl)
     go false false e = apart (sym e)
 
-under-holds : (v w : Value) → Under (dotsOf v.clock) (dotsOf w.clock) → yields false v w ≡ true
+under-holds : (v w : Value) → Under (dots_of v.clock) (dots_of w.clock) → yields false v w ≡ true
 unfolding yields order_of
 under-holds v w u = rw (u.0, u.1)
 
 pub strict-self : (v : Value) → yields false v v ≡ false
 unfolding yields order_of
-strict-self v = go (covers (dotsOf v.clock) (dotsOf v.clock))
+strict-self v = go (covers (dots_of v.clock) (dots_of v.clock))
   where
     go : (a : Bool) → yielding false (outcome a a) ≡ false
     go true = refl
@@ -44,9 +44,9 @@ strict-self v = go (covers (dotsOf v.clock) (dotsOf v.clock))
 
 pub strict_on : (v w x : Value) → yields false v w ≡ true → yields false w x ≡ true → yields false v x ≡ true
 strict_on v w x s t =
-    let a = dotsOf v.clock in
-    let b = dotsOf w.clock in
-    let c = dotsOf x.clock in
+    let a = dots_of v.clock in
+    let b = dots_of w.clock in
+    let c = dots_of x.clock in
     let p = under-means v w s in
     let q = under-means w x t in
     under-holds v x
@@ -72,9 +72,9 @@ top x (y ∷ l) = go (top y l)
         (λ n. (v, Memᴰ.tail i, λ w j. ⊎_elim (λ (e : w ≡ x). rw e n) (λ k. f w k) (Memᴰ.cases_cons j)))
 
 pub some-remain : (l : List Value) {w : Value} → w ∈ l → (v : Value) × (v ∈ undropped l)
-unfolding undropped isBelow
+unfolding undropped is_below
 some-remain [] i = absurd (Memᴰ.not-nil i)
 some-remain (x ∷ l) i =
     let (v, j, f) = top x l in
-    let n : isBelow (x ∷ l) v ≡ false = false-some (yields false v) (x ∷ l) f in
-    (v, those-holds (λ u. not (isBelow (x ∷ l) u)) j (rw n))
+    let n : is_below (x ∷ l) v ≡ false = false-some (yields false v) (x ∷ l) f in
+    (v, those-holds (λ u. not (is_below (x ∷ l) u)) j (rw n))

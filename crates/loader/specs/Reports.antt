@@ -1,26 +1,26 @@
 -- The report of a bay, and the bytes of reports.
 use Rattle.std.specs.Prelude.{Bool, false, cond, List, [], ◌++◌, ℕ, zero, suc, ◌+◌}
-use Rattle.entries.specs.Model.{valuesIn}
+use Rattle.entries.specs.Model.{values_in}
 use Rattle.entries.specs.Entries.{entry_at}
 use Rattle.map.specs.declared.Map.{Map}
-use Rattle.map.specs.Model.{entriesIn}
-use Rattle.records.specs.Bytes.{numBytes, flagOf}
+use Rattle.map.specs.Model.{entries_in}
+use Rattle.records.specs.Bytes.{num_bytes, flag_of}
 use Rattle.loader.specs.declared.Report.{Report}
-use Rattle.loader.specs.Choice.{reportOf}
+use Rattle.loader.specs.Choice.{report_of}
 
 -- the report of a bay: its entry's register; a missing entry is one with no value
-unfoldable pub reportAt : Map → ℕ → Report
-reportAt m bay = reportOf (valuesIn (entry_at bay (entriesIn m)))
+unfoldable pub report_at : Map → ℕ → Report
+report_at m bay = report_of (values_in (entry_at bay (entries_in m)))
 
 -- "eleven bytes each: remaining count, differ flag, found flag, value (little-endian)"
-abbrev pub reportBytes : Report → List ℕ
-reportBytes r = numBytes 0 r.count ++ (numBytes 0 (flagOf r.differ) ++ (numBytes 0 (flagOf r.found) ++ numBytes 3 r.value))
+abbrev pub report_bytes : Report → List ℕ
+report_bytes r = num_bytes 0 r.count ++ (num_bytes 0 (flag_of r.differ) ++ (num_bytes 0 (flag_of r.found) ++ num_bytes 3 r.value))
 
 -- "reports none, all bytes zero"
-abbrev pub noReport : Report
-noReport = record { count = 0; differ = false; found = false; value = 0 }
+abbrev pub no_report : Report
+no_report = record { count = 0; differ = false; found = false; value = 0 }
 
 -- the reports of n bays in bay order, behind the bays up to `after`
-unfoldable pub reportsAfter : Map → ℕ → ℕ → List ℕ
-reportsAfter m after zero = []
-reportsAfter m after (suc n) = reportBytes (reportAt m (after + 1)) ++ reportsAfter m (after + 1) n
+unfoldable pub reports_after : Map → ℕ → ℕ → List ℕ
+reports_after m after zero = []
+reports_after m after (suc n) = report_bytes (report_at m (after + 1)) ++ reports_after m (after + 1) n

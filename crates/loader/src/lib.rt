@@ -1,18 +1,18 @@
 // The boot loader's choice: for a bay, the smallest of the values that no other has overwritten, as a report of eleven bytes.
 ghost use Rattle.std.specs.Prelude.{◌≡◌, false, List, [], ◌∷◌, ◌++◌, ℕ, ◌*◌, ◌+◌, ◌≤◌, ◌<◌, length, get_or};
 ghost use Rattle.register.specs.declared.Value.{Value};
-ghost use Rattle.limits.specs.Limits.{valueLimit};
-ghost use Rattle.register.specs.Values.{noValue, yielding};
+ghost use Rattle.limits.specs.Limits.{value_limit};
+ghost use Rattle.register.specs.Values.{no_value, yielding};
 ghost use Rattle.records.specs.Writing.{Wrote};
-ghost use Rattle.records.specs.Kinds.{valueKind};
-ghost use Rattle.mapimage.specs.MapImage.{flatFrom, valueRecords};
-ghost use Rattle.maprecords.specs.Related.{readMap};
+ghost use Rattle.records.specs.Kinds.{value_kind};
+ghost use Rattle.mapimage.specs.MapImage.{flat_from, value_records};
+ghost use Rattle.maprecords.specs.Related.{read_map};
 ghost use Rattle.layout.specs.Whole.{Lies};
 ghost use Rattle.keyed.specs.Keyed.{RecordsLie, Registered};
 ghost use Rattle.comparing.specs.Registers.{RunsOf};
-ghost use Rattle.loader.specs.Choice.{isBelow, reportOn, reportOf};
-ghost use Rattle.loader.specs.Reports.{reportAt, reportBytes, reportsAfter};
-ghost use Rattle.loader.specs.Calls.{bayCount, isBay, BayPromise, BaysPromise};
+ghost use Rattle.loader.specs.Choice.{is_below, report_on, report_of};
+ghost use Rattle.loader.specs.Reports.{report_at, report_bytes, reports_after};
+ghost use Rattle.loader.specs.Calls.{bay_count, is_bay, BayPromise, BaysPromise};
 
 use clock::Order;
 use entrywalk::VALUE_STARTS;
@@ -50,7 +50,7 @@ fn is_less(o: Order) -> bool
 // Whether the clock of the value at place k is strictly below that of another, by the runs of their dots where they lie.
 fn is_below(map: &[u8], starts: [usize; VALUE_STARTS], n: usize, k: usize) -> bool
     requires { (k < n) × ((l : List Value) × RunsOf map.now starts n l) }
-    ensures { (l : List Value) → RunsOf map.now starts n l → result ≡ isBelow l (get_or l k noValue) }
+    ensures { (l : List Value) → RunsOf map.now starts n l → result ≡ is_below l (get_or l k no_value) }
 {
     let from = starts[k] * 16;
     let to = starts[k + 1] * 16;
@@ -69,18 +69,18 @@ fn is_below(map: &[u8], starts: [usize; VALUE_STARTS], n: usize, k: usize) -> bo
 
 // The number that the record of the value at place k says.
 fn number_at(map: &[u8], values: Span, k: usize) -> u64
-    requires { (key : ℕ) × (l : List Value) × RecordsLie map.now (flatFrom (valueRecords valueKind key) 0 l) values × (k < length l) }
-    ensures { (key : ℕ) (l : List Value) → RecordsLie map.now (flatFrom (valueRecords valueKind key) 0 l) values → k < length l
-        → result ≡ (get_or l k noValue).value.number }
+    requires { (key : ℕ) × (l : List Value) × RecordsLie map.now (flat_from (value_records value_kind key) 0 l) values × (k < length l) }
+    ensures { (key : ℕ) (l : List Value) → RecordsLie map.now (flat_from (value_records value_kind key) 0 l) values → k < length l
+        → result ≡ (get_or l k no_value).value.number }
 {
     records::read64(map, (values.from + k) * 16 + 8)
 }
 
 // A report with one value more.
 fn with_value(r: Report, value: u64) -> Report
-    requires { r.count < valueLimit }
-    ensures { (result.count ≡ r.count + 1) × ((l : List Value) (v : Value) → r ≡ reportOn l → value ≡ v.value.number
-        → result ≡ reportOn (l ++ (v ∷ []))) }
+    requires { r.count < value_limit }
+    ensures { (result.count ≡ r.count + 1) × ((l : List Value) (v : Value) → r ≡ report_on l → value ≡ v.value.number
+        → result ≡ report_on (l ++ (v ∷ []))) }
 {
     let count = r.count + 1;
     let found = true;
@@ -111,7 +111,7 @@ fn with_value(r: Report, value: u64) -> Report
 // The choice on a register where it lies.
 fn choose(map: &[u8], values: Span, clocks: Span) -> Report
     requires { (l : List Value) × Registered map.now l values clocks }
-    ensures { (l : List Value) → Registered map.now l values clocks → result ≡ reportOf l }
+    ensures { (l : List Value) → Registered map.now l values clocks → result ≡ report_of l }
 {
     let n = values.to - values.from;
     let starts = entrywalk::starts_of(map, n, clocks.from, clocks.to);
@@ -134,8 +134,8 @@ fn choose(map: &[u8], values: Span, clocks: Span) -> Report
 
 // The report of a bay of an image.
 fn report_at(map: &[u8], l: Layout, bay: u32) -> Report
-    requires { Lies map.now (readMap map.now).map l }
-    ensures { result ≡ reportAt (readMap map.now).map bay }
+    requires { Lies map.now (read_map map.now).map l }
+    ensures { result ≡ report_at (read_map map.now).map bay }
 {
     let at = keyed::spans_of(map, l, bay);
     choose(map, at.values, at.clocks)
@@ -144,7 +144,7 @@ fn report_at(map: &[u8], l: Layout, bay: u32) -> Report
 // Writes a report at `at`, and answers the place behind it.
 fn write_report(out: &mut [u8], at: usize, r: Report) -> usize
     requires { at + 11 ≤ length out.old }
-    ensures { Wrote at (reportBytes r) out.old out.new result }
+    ensures { Wrote at (report_bytes r) out.old out.new result }
 {
     records::put8(out, at, r.count);
     records::put8(out, at + 1, records::flag(r.differ));
@@ -155,8 +155,8 @@ fn write_report(out: &mut [u8], at: usize, r: Report) -> usize
 
 // Writes the reports of all bays.
 fn write_reports(map: &[u8], l: Layout, out: &mut [u8]) -> usize
-    requires { Lies map.now (readMap map.now).map l × (bayCount * 11 ≤ length out.old) }
-    ensures { Wrote 0 (reportsAfter (readMap map.now).map 0 bayCount) out.old out.new result }
+    requires { Lies map.now (read_map map.now).map l × (bay_count * 11 ≤ length out.old) }
+    ensures { Wrote 0 (reports_after (read_map map.now).map 0 bay_count) out.old out.new result }
 {
     let mut next: usize = 0;
     let mut bay: u32 = 0;
@@ -168,7 +168,7 @@ fn write_reports(map: &[u8], l: Layout, out: &mut [u8]) -> usize
 }
 
 fn is_bay(key: u32) -> bool
-    ensures { result ≡ isBay key }
+    ensures { result ≡ is_bay key }
 {
     (1 <= key) & (key <= BAYS)
 }

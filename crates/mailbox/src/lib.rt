@@ -1,7 +1,7 @@
 // A map's image that comes in pieces: a reader in memory that is lent, changed in place, byte by byte.
 ghost use Rattle.std.specs.Prelude.{◌≡◌, ◌<◌, set};
-ghost use Rattle.memory.specs.Memory.{readerRoom};
-ghost use Rattle.mailbox.specs.Machine.{recordIn, byteIn, takeWord, takeIn, begun};
+ghost use Rattle.memory.specs.Memory.{reader_room};
+ghost use Rattle.mailbox.specs.Machine.{record_in, byte_in, take_word, take_in, begun};
 
 use mapimage::MAP_LONGEST;
 use memory::{CLOCK, HELD, LENGTH, LOST, OPEN, READER, UNDER};
@@ -9,7 +9,7 @@ use records::{CLOCK_DOT, Record, WAITING_KEY};
 
 // A whole record.
 fn take_record(mem: &mut [u8; READER], r: Record)
-    ensures { mem.new ≡ recordIn mem.old r }
+    ensures { mem.new ≡ record_in mem.old r }
 {
     let at = UNDER + memory::wide(r.index);
     let n = mem[at];
@@ -27,7 +27,7 @@ fn take_record(mem: &mut [u8; READER], r: Record)
 
 // A byte. What is longer than the longest image is only counted, to one more.
 fn take_byte(mem: &mut [u8; READER], b: u8)
-    ensures { mem.new ≡ byteIn mem.old b }
+    ensures { mem.new ≡ byte_in mem.old b }
 {
     let n = records::read32(mem, LENGTH);
     if n < MAP_LONGEST as u32 {
@@ -45,7 +45,7 @@ fn take_byte(mem: &mut [u8; READER], b: u8)
 
 // A piece of any length; 13 after the end.
 pub fn take(mem: &mut [u8; READER], piece: &[u8]) -> u64
-    ensures { (result ≡ takeWord mem.old) × (mem.new ≡ takeIn mem.old piece.now) }
+    ensures { (result ≡ take_word mem.old) × (mem.new ≡ take_in mem.old piece.now) }
 {
     if mem[OPEN] != 1 {
         return 13 * 0x1_0000_0000;
@@ -62,7 +62,7 @@ pub fn take(mem: &mut [u8; READER], piece: &[u8]) -> u64
 
 // A zero. One that stands there already is not written: a loop that writes them all is compiled to a call of memset, which no caller has.
 fn clear(mem: &mut [u8; READER], at: usize)
-    requires { at < readerRoom }
+    requires { at < reader_room }
     ensures { mem.new ≡ set mem.old at 0 }
 {
     if mem[at] != 0 {

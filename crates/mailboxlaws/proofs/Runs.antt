@@ -8,25 +8,25 @@ use lib.ListN.{length, drop}
 use Rattle.listlaws.specs.Order.{◌∈◌}
 use Rattle.listlaws.specs.Fold.{fold}
 use Rattle.records.specs.Bytes.{num_at, Bytes}
-use Rattle.maprecords.specs.Related.{readMap}
+use Rattle.maprecords.specs.Related.{read_map}
 use Rattle.oneimagelaws.proofs.Rewritten.{writes-read}
 use Rattle.answers.specs.Answer.{number_of, word_of, out_of, Answered}
 use Rattle.answers.proofs.Answers.{number-done, Same, same_answer}
-use Rattle.memory.specs.Memory.{openPlace}
-use Rattle.mailbox.specs.Machine.{takeWord, takeIn}
+use Rattle.memory.specs.Memory.{open_place}
+use Rattle.mailbox.specs.Machine.{take_word, take_in}
 use Rattle.mailbox.specs.Held.{Came, joined}
 use Rattle.mailbox.proofs.Coming.{came-piece}
 use Rattle.mailbox.proofs.Begins.{came-none}
 use Rattle.mailbox.proofs.Cuts.{takes_none, takes_one, joined_bytes, came-all}
 use Rattle.delivery.specs.Delivery.{Ended}
 use Rattle.delivery.proofs.Ends.{end-closed, end-marks}
-use Rattle.delivery.proofs.Whole.{wholeAnswer, same_number, ended-as-read, SameEnd, same_end}
+use Rattle.delivery.proofs.Whole.{whole_answer, same_number, ended-as-read, SameEnd, same_end}
 use Rattle.mailboxlaws.specs.Run.{Taking, last, more, Run}
 
-taken_is : {w u words : List ℕ} {pieces : List (List ℕ)} → Taking w pieces words u → u ≡ fold takeIn w pieces
+taken_is : {w u words : List ℕ} {pieces : List (List ℕ)} → Taking w pieces words u → u ≡ fold take_in w pieces
 unfolding fold
 taken_is last = refl
-taken_is (more {pieces = pieces} e t) = taken_is t ∙ ap (λ v. fold takeIn v pieces) e.1
+taken_is (more {pieces = pieces} e t) = taken_is t ∙ ap (λ v. fold take_in v pieces) e.1
 
 zeros-taken : {s w u words : List ℕ} {pieces : List (List ℕ)} → Came s w → ((p : List ℕ) → p ∈ pieces → Bytes p) → Taking w pieces words u
     → words ≡ map (λ p. 0) pieces
@@ -38,7 +38,7 @@ zeros-taken {s} {w} c h (more {v = v} {p = p} e t) =
 
 module _ {memory : List ℕ} {pieces : List (List ℕ)} {entry left exit : List ℕ} {word : ℕ} (x : Run memory pieces entry left exit word) where
   came : Came (joined pieces) x.taken
-  came = rw (taken_is x.takes ∙ ap (λ v. fold takeIn v pieces) x.began.1)
+  came = rw (taken_is x.takes ∙ ap (λ v. fold take_in v pieces) x.began.1)
       (came-all memory x.lent.long x.lent.bytes pieces x.lent.each)
 
   -- end theorems from here on: each piece is taken with 0, however many they are and however long
@@ -46,26 +46,26 @@ module _ {memory : List ℕ} {pieces : List (List ℕ)} {entry left exit : List 
   all-taken = zeros-taken {s = []} (rw x.began.1 (came-none memory x.lent.long x.lent.bytes)) x.lent.each x.takes
 
   -- the word and every byte of the output are those of the joined bytes read at once
-  pub ends-as-whole : Answered (wholeAnswer (joined pieces)) entry exit word
+  pub ends-as-whole : Answered (whole_answer (joined pieces)) entry exit word
   ends-as-whole = ended-as-read came entry x.ended
 
   -- what is delivered is what came
-  pub delivers : (readMap (joined pieces)).number ≡ 0 → length (joined pieces) ≤ length entry
+  pub delivers : (read_map (joined pieces)).number ≡ 0 → length (joined pieces) ≤ length entry
       → (word ≡ length (joined pieces)) × (exit ≡ joined pieces ++ drop (length (joined pieces)) entry)
   unfolding word_of out_of
   delivers z h =
       let b = writes-read (joined pieces) (joined_bytes pieces x.lent.each) z in
-      let n = number-done (wholeAnswer (joined pieces)) entry z refl refl (omega (arith, ap length b, h)) in
+      let n = number-done (whole_answer (joined pieces)) entry z refl refl (omega (arith, ap length b, h)) in
       (ends-as-whole.packed ∙ rw n (omega (arith, ap length b)), ends-as-whole.left ∙ rw (n, b))
 
   -- where the answer was not 10 the reader has ended: a piece and an end after it are answered 13 and change nothing
-  module _ (n : number_of (wholeAnswer (joined pieces)) entry ≡ 10 → ⊥) where
-    closed : num_at 0 openPlace left ≡ 1 → ⊥
+  module _ (n : number_of (whole_answer (joined pieces)) entry ≡ 10 → ⊥) where
+    closed : num_at 0 open_place left ≡ 1 → ⊥
     closed e =
         let z = end-marks x.taken entry came.is_open x.ended (λ q. n (sym (same_number came entry) ∙ q)) in
         absurd (omega arith)
 
-    pub no-piece-after : (p : List ℕ) → (takeWord left ≡ 13 * 2 ^ 32) × (takeIn left p ≡ left)
+    pub no-piece-after : (p : List ℕ) → (take_word left ≡ 13 * 2 ^ 32) × (take_in left p ≡ left)
     no-piece-after p = takes_none left p closed
 
     pub no-end-after : {o v q : List ℕ} {t : ℕ} → Ended left o v q t → SameEnd v left q o t (13 * 2 ^ 32)

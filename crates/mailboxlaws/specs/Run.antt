@@ -2,7 +2,7 @@
 use Rattle.std.specs.Prelude.{◌≡◌, List, [], ◌∷◌, ℕ, length}
 use Rattle.listlaws.specs.Order.{◌∈◌}
 use Rattle.records.specs.Bytes.{Bytes}
-use Rattle.memory.specs.Memory.{readerRoom}
+use Rattle.memory.specs.Memory.{reader_room}
 use Rattle.promises.specs.Promises.{PiecesBeginPromise, PiecesTakePromise, PiecesEndPromise}
 
 -- pieces are taken one after the other: the memory before, the pieces, the words, the memory behind
@@ -13,7 +13,7 @@ pub data Taking : List ℕ → List (List ℕ) → List ℕ → List ℕ → Typ
 
 -- memory of a reader's size, whatever stands in it, and pieces of bytes
 pub record Lent (memory : List ℕ) (pieces : List (List ℕ)) : Type 0 where
-  pub long : length memory ≡ readerRoom
+  pub long : length memory ≡ reader_room
   pub bytes : Bytes memory
   pub each : (p : List ℕ) → p ∈ pieces → Bytes p
 

@@ -8,27 +8,27 @@ use native.Mathlib.Omega.{arith}
 use Prim.Native.Nat.{◌<◌}
 use Rattle.listlaws.specs.Pad.{pad}
 use Rattle.listlaws.specs.Sift.{sift}
-use Rattle.listlaws.specs.First.{firstIn}
+use Rattle.listlaws.specs.First.{first_in}
 use Rattle.listlaws.specs.Fold.{fold}
 use Rattle.listlaws.specs.Weave.{weave}
 use Rattle.listlaws.specs.Order.{◌∈◌, Ascending, nil, next, by}
 use Rattle.listlaws.proofs.Sides.{one-ascends}
 use Rattle.clock.specs.declared.Dot.{Dot}
-use Rattle.clock.specs.Dots.{is_empty, counterIn, covers, order_of, cutDots}
+use Rattle.clock.specs.Dots.{is_empty, counter_in, covers, order_of, cut_dots}
 use Rattle.clock.proofs.Joins.{lawful-one}
 use Rattle.clock.proofs.Examples.{dot}
-use Rattle.removals.specs.Model.{removalAs}
-use Rattle.removals.specs.Waits.{waits, clockBefore, unionKeys, uniteAll, resetWaiting}
+use Rattle.removals.specs.Model.{removal_as}
+use Rattle.removals.specs.Waits.{waits, clock_before, union_keys, unite_all, reset_waiting}
 use Rattle.removals.proofs.WaitingValid.{valid-one}
 use Rattle.map.specs.declared.Map.{Map}
-use Rattle.map.specs.Model.{mapAs}
+use Rattle.map.specs.Model.{map_as}
 use Rattle.map.specs.Resetting.{reset}
 use Rattle.map.specs.Valid.{Valid}
 use Rattle.map.proofs.Kept.{valid-as}
 
 -- {1:5, 2:1} waits at {2:1}; reset by {1:5}, what is left of it is covered
 abbrev resting : Map
-resting = mapAs (dot 2 1 ∷ []) [] (removalAs (dot 1 5 ∷ dot 2 1 ∷ []) (5 ∷ []) ∷ [])
+resting = map_as (dot 2 1 ∷ []) [] (removal_as (dot 1 5 ∷ dot 2 1 ∷ []) (5 ∷ []) ∷ [])
 
 resting-valid : Valid resting
 unfolding pad is_empty
@@ -46,10 +46,10 @@ resting-valid =
 
 pub record ResetCovers : Type 0 where
   pub valid : Valid resting
-  pub before : waits (dot 2 1 ∷ []) (removalAs (dot 1 5 ∷ dot 2 1 ∷ []) (5 ∷ [])) ≡ true
-  pub after : reset resting (dot 1 5 ∷ []) ≡ mapAs (dot 2 1 ∷ []) [] (removalAs (dot 2 1 ∷ []) (5 ∷ []) ∷ [])
+  pub before : waits (dot 2 1 ∷ []) (removal_as (dot 1 5 ∷ dot 2 1 ∷ []) (5 ∷ [])) ≡ true
+  pub after : reset resting (dot 1 5 ∷ []) ≡ map_as (dot 2 1 ∷ []) [] (removal_as (dot 2 1 ∷ []) (5 ∷ []) ∷ [])
   pub covered : covers (dot 2 1 ∷ []) (dot 2 1 ∷ []) ≡ true
 
 pub reset-covers : ResetCovers
-unfolding pad sift firstIn fold weave is_empty counterIn covers order_of cutDots waits clockBefore unionKeys uniteAll resetWaiting reset
+unfolding pad sift first_in fold weave is_empty counter_in covers order_of cut_dots waits clock_before union_keys unite_all reset_waiting reset
 reset-covers = record { valid = resting-valid; before = refl; after = refl; covered = refl }

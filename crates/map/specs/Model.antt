@@ -2,43 +2,43 @@
 use Rattle.std.specs.Prelude.{List, []}
 use Rattle.clock.specs.declared.Dot.{Dot}
 use Rattle.clock.specs.declared.Clock.{Clock}
-use Rattle.clock.specs.Dots.{dotsOf, clockOf}
+use Rattle.clock.specs.Dots.{dots_of, clock_of}
 use Rattle.removals.specs.declared.Removal.{Removal}
 use Rattle.removals.specs.declared.Waiting.{Waiting}
 use Rattle.rules.specs.WholeMap.{StoredMap}
 use Rattle.entries.specs.declared.Entry.{Entry}
 use Rattle.entries.specs.declared.Entries.{Entries}
-use Rattle.entries.specs.Model.{entriesOf, entriesAs}
-use Rattle.removals.specs.Model.{waitingOf, waitingAs}
+use Rattle.entries.specs.Model.{entries_of, entries_as}
+use Rattle.removals.specs.Model.{waiting_of, waiting_as}
 use Rattle.map.specs.declared.Map.{Map}
 
 -- a map's three parts
-abbrev pub seenBy : Map → List Dot
-seenBy m = dotsOf m.clock
+abbrev pub seen_by : Map → List Dot
+seen_by m = dots_of m.clock
 
-abbrev pub entriesIn : Map → List Entry
-entriesIn m = entriesOf m.entries
+abbrev pub entries_in : Map → List Entry
+entries_in m = entries_of m.entries
 
-abbrev pub waitingIn : Map → List Removal
-waitingIn m = waitingOf m.waiting
+abbrev pub waiting_in : Map → List Removal
+waiting_in m = waiting_of m.waiting
 
-abbrev pub mapAs : List Dot → List Entry → List Removal → Map
-mapAs c e w = record { clock = clockOf c; entries = entriesAs e; waiting = waitingAs w }
+abbrev pub map_as : List Dot → List Entry → List Removal → Map
+map_as c e w = record { clock = clock_of c; entries = entries_as e; waiting = waiting_as w }
 
-abbrev pub noMap : Map
-noMap = mapAs [] [] []
+abbrev pub no_map : Map
+no_map = map_as [] [] []
 
 -- a map's three parts laid into arrays
-abbrev pub packedMap : StoredMap Entry Clock Entries Waiting Map
-packedMap = record {
+abbrev pub packed_map : StoredMap Entry Clock Entries Waiting Map
+packed_map = record {
   clock = λ m. m.clock;
   entries = λ m. m.entries;
   waiting = λ m. m.waiting;
   whole = λ c l w. record { clock = c; entries = l; waiting = w };
-  dotsOut = dotsOf;
-  dotsIn = clockOf;
-  entriesOut = entriesOf;
-  entriesIn = entriesAs;
-  waitingOut = waitingOf;
-  waitingIn = waitingAs;
+  dots_out = dots_of;
+  dots_in = clock_of;
+  entries_out = entries_of;
+  entries_in = entries_as;
+  waiting_out = waiting_of;
+  waiting_in = waiting_as;
 }

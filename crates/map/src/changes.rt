@@ -1,7 +1,7 @@
 // What changes a map: the Rust's `apply` with its removal and its update, `merge` and `reset_remove`.
 ghost use Rattle.std.specs.Prelude.{◌≡◌};
-ghost use Rattle.clock.specs.Dots.{dotsOf};
-ghost use Rattle.map.specs.Model.{noMap};
+ghost use Rattle.clock.specs.Dots.{dots_of};
+ghost use Rattle.map.specs.Model.{no_map};
 ghost use Rattle.map.specs.Removing.{remove};
 ghost use Rattle.map.specs.Updating.{update};
 ghost use Rattle.map.specs.Applying.{apply};
@@ -18,7 +18,7 @@ use removals::{Removal, Waiting};
 
 impl Map {
     pub fn new() -> Map
-        ensures { result ≡ noMap }
+        ensures { result ≡ no_map }
     {
         let clock = Clock::new();
         let entries = Entries::new();
@@ -138,7 +138,7 @@ impl Map {
 
     pub fn reset_remove(self, by: Clock) -> Judged
         requires { Within self }
-        ensures { result ≡ judged (reset self (dotsOf by)) }
+        ensures { result ≡ judged (reset self (dots_of by)) }
     {
         let clock = self.clock.cut(by).clock;
         let entries = self.entries.reset(by);
@@ -166,7 +166,7 @@ impl Judged {
     }
 
     pub fn refused(number: u8) -> Judged
-        ensures { result ≡ record { number = number; map = noMap } }
+        ensures { result ≡ record { number = number; map = no_map } }
     {
         let map = Map::new();
         Judged { number, map }

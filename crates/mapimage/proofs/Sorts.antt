@@ -15,8 +15,8 @@ use Rattle.listlaws.proofs.Orders.{head-before, tail-ascends}
 use Rattle.listlaws.proofs.Those.{those-same}
 use Rattle.scan.specs.Each.{every}
 use Rattle.scan.proofs.Eachs.{decide, every-at, both_left, both_right}
-use Rattle.mapimage.specs.Sorted.{insert, inOrder}
-use Rattle.mapimage.specs.Least.{lesser, leastFrom}
+use Rattle.mapimage.specs.Sorted.{insert, in_order}
+use Rattle.mapimage.specs.Least.{lesser, least_from}
 
 -- members of what is put in order
 pub inserted : (x : ℕ) (l : List ℕ) (z : ℕ) → z ∈ insert x l → (z ≡ x) ⊎ (z ∈ l)
@@ -87,22 +87,22 @@ from-has s (x ∷ l) z i =
     (from-has (insert x s) l z i)
 
 module _ (l : List ℕ) where
-  pub order-ascends : Ascending (by (λ n. n)) (inOrder l)
-  unfolding inOrder
+  pub order-ascends : Ascending (by (λ n. n)) (in_order l)
+  unfolding in_order
   order-ascends = order_from [] l nil
 
-  pub order-has : (z : ℕ) → z ∈ l → z ∈ inOrder l
-  unfolding inOrder
+  pub order-has : (z : ℕ) → z ∈ l → z ∈ in_order l
+  unfolding in_order
   order-has z i = has-from [] l z (inr i)
 
-  pub order-from-list : (z : ℕ) → z ∈ inOrder l → z ∈ l
-  unfolding inOrder
+  pub order-from-list : (z : ℕ) → z ∈ in_order l → z ∈ l
+  unfolding in_order
   order-from-list z i = ⊎_elim (λ j. absurd (Memᴰ.not-nil j)) (λ j. j) (from-has [] l z i)
 
 -- the least from `low` on
 module _ (low : ℕ) where
-  pub least-most : (m : ℕ) (l : List ℕ) → leastFrom low m l ≤ m
-  unfolding leastFrom fold
+  pub least-most : (m : ℕ) (l : List ℕ) → least_from low m l ≤ m
+  unfolding least_from fold
   least-most m [] = omega arith
   least-most m (x ∷ l) = let h = least-most (lesser low m x) l in let k = one m x in omega arith
     where
@@ -110,8 +110,8 @@ module _ (low : ℕ) where
       one m x = decide (leb low x && ltb x m) (λ t. rw t (let h = ltb-true x m (both_right (leb low x) (ltb x m) t) in omega arith))
           (λ f. rw f (omega arith))
 
-  pub least-least : (m : ℕ) (l : List ℕ) (x : ℕ) → x ∈ l → low ≤ x → leastFrom low m l ≤ x
-  unfolding leastFrom fold
+  pub least-least : (m : ℕ) (l : List ℕ) (x : ℕ) → x ∈ l → low ≤ x → least_from low m l ≤ x
+  unfolding least_from fold
   least-least m [] x i h = absurd (Memᴰ.not-nil i)
   least-least m (y ∷ l) x i h =
       ⊎_elim
@@ -125,8 +125,8 @@ module _ (low : ℕ) where
           (λ t. rw (le-leb low y h, t) (omega arith))
           (λ f. rw (le-leb low y h, f) (ltb-false y m f))
 
-  pub least-one : (m : ℕ) (l : List ℕ) → (leastFrom low m l ≡ m) ⊎ ((leastFrom low m l ∈ l) × (low ≤ leastFrom low m l))
-  unfolding leastFrom fold
+  pub least-one : (m : ℕ) (l : List ℕ) → (least_from low m l ≡ m) ⊎ ((least_from low m l ∈ l) × (low ≤ least_from low m l))
+  unfolding least_from fold
   least-one m [] = inl refl
   least-one m (x ∷ l) =
       ⊎_elim
@@ -162,18 +162,18 @@ none_left low (y ∷ w) f = rw (lt-leb low y (f y (Memᴰ.head refl))) (none_lef
 
 module _ (end low : ℕ) (l : List ℕ) (below : every (λ x. ltb x end) l ≡ true) where
   -- there is one left
-  pub next-least : leastFrom low end l < end → those (leb low) (inOrder l) ≡ leastFrom low end l ∷ those (leb (leastFrom low end l + 1)) (inOrder l)
+  pub next-least : least_from low end l < end → those (leb low) (in_order l) ≡ least_from low end l ∷ those (leb (least_from low end l + 1)) (in_order l)
   next-least h =
       ⊎_elim
       (λ e. absurd (omega arith))
-      (λ p. split-least low (leastFrom low end l) (inOrder l) (order-ascends l) (order-has l _ p.0) p.1
+      (λ p. split-least low (least_from low end l) (in_order l) (order-ascends l) (order-has l _ p.0) p.1
       (λ x i k. least-least low end l x (order-from-list l x i) k))
       (least-one low end l)
 
   -- there is none left
-  pub no-least : end ≤ leastFrom low end l → those (leb low) (inOrder l) ≡ []
+  pub no-least : end ≤ least_from low end l → those (leb low) (in_order l) ≡ []
   no-least h =
-      none_left low (inOrder l)
+      none_left low (in_order l)
       (λ x i. let j = order-from-list l x i in
       decide (leb low x)
       (λ t. absurd (let k = least-least low end l x j (leb-true low x t) in let b = ltb-true x end (every-at (λ x. ltb x end) l x below j) in
@@ -186,5 +186,5 @@ from_start [] = refl
 from_start (x ∷ w) = rw (le-leb 0 x (omega arith)) (ap (λ t. x ∷ t) (from_start w))
 
 -- the least of numbers goes up with the bound
-pub least_above : (low m : ℕ) (l : List ℕ) → low ≤ m → low ≤ leastFrom low m l
+pub least_above : (low m : ℕ) (l : List ℕ) → low ≤ m → low ≤ least_from low m l
 least_above low m l h = ⊎_elim (λ e. rw e h) (λ p. p.1) (least-one low m l)

@@ -6,5 +6,5 @@ use Rattle.listlaws.specs.Fold.{fold}
 abbrev pub lesser : ℕ → ℕ → ℕ → ℕ
 lesser low m x = cond (leb low x && ltb x m) x m
 
-unfoldable pub leastFrom : ℕ → ℕ → List ℕ → ℕ
-leastFrom low m l = fold (lesser low) m l
+unfoldable pub least_from : ℕ → ℕ → List ℕ → ℕ
+least_from low m l = fold (lesser low) m l

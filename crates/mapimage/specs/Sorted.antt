@@ -6,5 +6,5 @@ unfoldable pub insert : ℕ → List ℕ → List ℕ
 insert x [] = x ∷ []
 insert x (y ∷ l) = cond (ltb x y) (x ∷ (y ∷ l)) (cond (eqb x y) (y ∷ l) (y ∷ insert x l))
 
-unfoldable pub inOrder : List ℕ → List ℕ
-inOrder l = fold (λ s x. insert x s) [] l
+unfoldable pub in_order : List ℕ → List ℕ
+in_order l = fold (λ s x. insert x s) [] l

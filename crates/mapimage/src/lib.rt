@@ -2,12 +2,12 @@
 ghost use Rattle.std.specs.Prelude.{◌≡◌, true, ◌+◌, ◌*◌, ◌^◌, ◌≤◌, ◌<◌, ltb, length};
 ghost use Rattle.scan.specs.Each.{every};
 ghost use Rattle.register.specs.Values.{values_of};
-ghost use Rattle.entries.specs.Model.{entriesOf};
-ghost use Rattle.removals.specs.Model.{waitingOf};
+ghost use Rattle.entries.specs.Model.{entries_of};
+ghost use Rattle.removals.specs.Model.{waiting_of};
 ghost use Rattle.records.specs.Records.{bytes_of};
 ghost use Rattle.records.specs.Writing.{Wrote};
-ghost use Rattle.mapimage.specs.Least.{lesser, leastFrom};
-ghost use Rattle.mapimage.specs.MapImage.{flatFrom, valueRecords, entryRecords, waitingDots, keyNumber, keyNumbers, waitingKeys, mapImage};
+ghost use Rattle.mapimage.specs.Least.{lesser, least_from};
+ghost use Rattle.mapimage.specs.MapImage.{flat_from, value_records, entry_records, waiting_dots, key_number, key_numbers, waiting_keys, map_image};
 
 use entries::{Entries, Entry};
 use limits::{DOTS, ENTRIES, KEYS, VALUES, WAITING};
@@ -26,8 +26,8 @@ pub const MAP_LONGEST: usize = (DOTS
 pub const NO_KEY: u64 = 0x100_0000_0000;
 
 fn write_value(out: &mut [u8], at: usize, kind: u8, key: u32, index: u8, v: Value) -> usize
-    requires { at + length (valueRecords kind key index v) * 16 ≤ length out.old }
-    ensures { Wrote at (bytes_of (valueRecords kind key index v)) out.old out.new result }
+    requires { at + length (value_records kind key index v) * 16 ≤ length out.old }
+    ensures { Wrote at (bytes_of (value_records kind key index v)) out.old out.new result }
 {
     if kind == VALUE {
         let x = v.value;
@@ -45,8 +45,8 @@ fn write_value(out: &mut [u8], at: usize, kind: u8, key: u32, index: u8, v: Valu
 }
 
 fn write_values(out: &mut [u8], at: usize, kind: u8, key: u32, register: Register) -> usize
-    requires { at + length (flatFrom (valueRecords kind key) 0 (values_of register)) * 16 ≤ length out.old }
-    ensures { Wrote at (bytes_of (flatFrom (valueRecords kind key) 0 (values_of register))) out.old out.new result }
+    requires { at + length (flat_from (value_records kind key) 0 (values_of register)) * 16 ≤ length out.old }
+    ensures { Wrote at (bytes_of (flat_from (value_records kind key) 0 (values_of register))) out.old out.new result }
 {
     let n = register.size();
     let mut next = at;
@@ -61,8 +61,8 @@ fn write_values(out: &mut [u8], at: usize, kind: u8, key: u32, register: Registe
 }
 
 pub fn write_entry(out: &mut [u8], at: usize, kind: u8, e: Entry) -> usize
-    requires { at + length (entryRecords kind 0 e) * 16 ≤ length out.old }
-    ensures { Wrote at (bytes_of (entryRecords kind 0 e)) out.old out.new result }
+    requires { at + length (entry_records kind 0 e) * 16 ≤ length out.old }
+    ensures { Wrote at (bytes_of (entry_records kind 0 e)) out.old out.new result }
 {
     if kind == ENTRY_DOT {
         let clock = e.clock;
@@ -73,8 +73,8 @@ pub fn write_entry(out: &mut [u8], at: usize, kind: u8, e: Entry) -> usize
 }
 
 fn write_entries(out: &mut [u8], at: usize, kind: u8, entries: Entries) -> usize
-    requires { at + length (flatFrom (entryRecords kind) 0 (entriesOf entries)) * 16 ≤ length out.old }
-    ensures { Wrote at (bytes_of (flatFrom (entryRecords kind) 0 (entriesOf entries))) out.old out.new result }
+    requires { at + length (flat_from (entry_records kind) 0 (entries_of entries)) * 16 ≤ length out.old }
+    ensures { Wrote at (bytes_of (flat_from (entry_records kind) 0 (entries_of entries))) out.old out.new result }
 {
     let n = entries.size();
     let mut next = at;
@@ -88,8 +88,8 @@ fn write_entries(out: &mut [u8], at: usize, kind: u8, entries: Entries) -> usize
 }
 
 fn write_waiting(out: &mut [u8], at: usize, waiting: Waiting) -> usize
-    requires { at + length (flatFrom waitingDots 0 (waitingOf waiting)) * 16 ≤ length out.old }
-    ensures { Wrote at (bytes_of (flatFrom waitingDots 0 (waitingOf waiting))) out.old out.new result }
+    requires { at + length (flat_from waiting_dots 0 (waiting_of waiting)) * 16 ≤ length out.old }
+    ensures { Wrote at (bytes_of (flat_from waiting_dots 0 (waiting_of waiting))) out.old out.new result }
 {
     let n = waiting.size();
     let mut next = at;
@@ -106,7 +106,7 @@ fn write_waiting(out: &mut [u8], at: usize, waiting: Waiting) -> usize
 
 // A waiting key and its index as one number.
 pub fn key_number(index: u8, k: u32) -> u64
-    ensures { (result ≡ keyNumber index k) × (result < 2 ^ 40) }
+    ensures { (result ≡ key_number index k) × (result < 2 ^ 40) }
 {
     k as u64 * 256 + index as u64
 }
@@ -120,7 +120,7 @@ pub fn lesser(low: u64, m: u64, x: u64) -> u64
 
 // The least number of a removal's keys from `low` on, where there is one below `m`, else `m`.
 fn least_in(removal: Removal, index: u8, low: u64, m: u64) -> u64
-    ensures { (result ≡ leastFrom low m (keyNumbers index removal)) × (every (λ x. ltb x (2 ^ 40)) (keyNumbers index removal) ≡ true) }
+    ensures { (result ≡ least_from low m (key_numbers index removal)) × (every (λ x. ltb x (2 ^ 40)) (key_numbers index removal) ≡ true) }
 {
     let keys = removal.keys;
     let n = keys.size();
@@ -136,8 +136,8 @@ fn least_in(removal: Removal, index: u8, low: u64, m: u64) -> u64
 
 // The least number of a waiting key from `low` on.
 fn least(waiting: Waiting, low: u64) -> u64
-    ensures { (result ≡ leastFrom low (2 ^ 40) (flatFrom keyNumbers 0 (waitingOf waiting)))
-        × (every (λ x. ltb x (2 ^ 40)) (flatFrom keyNumbers 0 (waitingOf waiting)) ≡ true) }
+    ensures { (result ≡ least_from low (2 ^ 40) (flat_from key_numbers 0 (waiting_of waiting)))
+        × (every (λ x. ltb x (2 ^ 40)) (flat_from key_numbers 0 (waiting_of waiting)) ≡ true) }
 {
     let n = waiting.size();
     let mut best = NO_KEY;
@@ -153,8 +153,8 @@ fn least(waiting: Waiting, low: u64) -> u64
 
 // Writes the keys of waiting removals, by key and then by index; answers the place behind them.
 fn write_waiting_keys(out: &mut [u8], at: usize, waiting: Waiting) -> usize
-    requires { at + length (waitingKeys (waitingOf waiting)) * 16 ≤ length out.old }
-    ensures { Wrote at (bytes_of (waitingKeys (waitingOf waiting))) out.old out.new result }
+    requires { at + length (waiting_keys (waiting_of waiting)) * 16 ≤ length out.old }
+    ensures { Wrote at (bytes_of (waiting_keys (waiting_of waiting))) out.old out.new result }
 {
     let mut next = at;
     let mut best = least(waiting, 0);
@@ -174,8 +174,8 @@ fn write_waiting_keys(out: &mut [u8], at: usize, waiting: Waiting) -> usize
 
 // Writes the image of a map at the start of `out`; answers its length.
 pub fn write_map(map: Map, out: &mut [u8]) -> usize
-    requires { length (mapImage map) ≤ length out.old }
-    ensures { Wrote 0 (mapImage map) out.old out.new result }
+    requires { length (map_image map) ≤ length out.old }
+    ensures { Wrote 0 (map_image map) out.old out.new result }
 {
     let clock = map.clock;
     let entries = map.entries;

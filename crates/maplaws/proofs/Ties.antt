@@ -9,16 +9,16 @@ use Rattle.listlaws.specs.Order.{◌∈◌}
 use Rattle.listlaws.proofs.Pads.{take-pad}
 use Rattle.listlaws.proofs.Those.{sift-means, sift-holds}
 use Rattle.clock.specs.declared.Dot.{Dot}
-use Rattle.limits.specs.Limits.{dotLimit}
-use Rattle.clock.specs.Dots.{noDot, is_empty, cutDots}
+use Rattle.limits.specs.Limits.{dot_limit}
+use Rattle.clock.specs.Dots.{no_dot, is_empty, cut_dots}
 use Rattle.removals.specs.declared.Removal.{Removal}
-use Rattle.removals.specs.Model.{underOf}
-use Rattle.removals.specs.Waits.{cutRemoval, remains, resetWaiting}
+use Rattle.removals.specs.Model.{under_of}
+use Rattle.removals.specs.Waits.{cut_removal, remains, reset_waiting}
 use Rattle.removals.specs.Valid.{ValidRemoval}
 use Rattle.removals.proofs.Packs.{waiting-of}
 use Rattle.removals.proofs.WaitingValid.{valid-none, ready-cut, valid-reset-waiting}
 use Rattle.map.specs.declared.Map.{Map}
-use Rattle.map.specs.Model.{waitingIn}
+use Rattle.map.specs.Model.{waiting_in}
 use Rattle.map.specs.Resetting.{reset}
 use Rattle.map.specs.Valid.{Valid}
 use Rattle.maplaws.specs.Among.{OneOf, Exactly}
@@ -27,28 +27,28 @@ use Rattle.maplaws.proofs.United.{Shared, united-exactly, one-clock, shared-cloc
 
 module _ (c : List Dot) {l : List Removal} (f : (r : Removal) → r ∈ l → ValidRemoval r) where
   abbrev cuts : List Removal
-  cuts = sift remains (cutRemoval c) l
+  cuts = sift remains (cut_removal c) l
 
-  cut-clock : (r : Removal) → underOf (cutRemoval c r) ≡ cutDots c (underOf r)
-  cut-clock r = take-pad noDot dotLimit (cutDots c (underOf r))
+  cut-clock : (r : Removal) → under_of (cut_removal c r) ≡ cut_dots c (under_of r)
+  cut-clock r = take-pad no_dot dot_limit (cut_dots c (under_of r))
 
   -- one of those that are left, or one of those that were cut
   module _ {Such : Removal → Type 0} (s : Shared Such) where
-    left-exactly : Exactly (OneOf (resetWaiting c l) Such) (OneOf l (λ r. (remains (cutRemoval c r) ≡ true) × Such (cutRemoval c r)))
-    unfolding resetWaiting
+    left-exactly : Exactly (OneOf (reset_waiting c l) Such) (OneOf l (λ r. (remains (cut_removal c r) ≡ true) × Such (cut_removal c r)))
+    unfolding reset_waiting
     left-exactly =
         let u = united-exactly s cuts valid-none (ready-cut c f) in (
           λ q. ⊎_elim (λ t. absurd (Memᴰ.not-nil t.1))
-              (λ t. let w = sift-means remains (cutRemoval c) l t.1 in
+              (λ t. let w = sift-means remains (cut_removal c) l t.1 in
               (w.source, w.stands, (ap remains (sym w.changed) ∙ w.passes, rw w.changed at t.2))) (u.0 q),
-          λ q. u.1 (inr (cutRemoval c q.0, sift-holds remains (cutRemoval c) q.1 q.2.0, q.2.1)),
+          λ q. u.1 (inr (cut_removal c q.0, sift-holds remains (cut_removal c) q.1 q.2.0, q.2.1)),
         )
 
-  stays : (r : Removal) (d : List Dot) → is_empty d ≡ false → cutDots c (underOf r) ≡ d → remains (cutRemoval c r) ≡ true
+  stays : (r : Removal) (d : List Dot) → is_empty d ≡ false → cut_dots c (under_of r) ≡ d → remains (cut_removal c r) ≡ true
   stays r d n e = ap not (ap is_empty (cut-clock r ∙ e) ∙ n)
 
   -- any removals, under any clocks
-  pub breaks-ties : TieBreak c l (resetWaiting c l)
+  pub breaks-ties : TieBreak c l (reset_waiting c l)
   breaks-ties = record {
     listed = λ d n k. let u = left-exactly (shared-key d k) in (
       λ q. let t = u.0 q in (t.0, t.1, (sym (cut-clock t.0) ∙ t.2.1.0, t.2.1.1)),
@@ -63,6 +63,6 @@ module _ (c : List Dot) {l : List Removal} (f : (r : Removal) → r ∈ l → Va
   }
 
 -- of a map
-pub reset-breaks-ties : {m : Map} → Valid m → (c : List Dot) → TieBreak c (waitingIn m) (waitingIn (reset m c))
+pub reset-breaks-ties : {m : Map} → Valid m → (c : List Dot) → TieBreak c (waiting_in m) (waiting_in (reset m c))
 unfolding reset
-reset-breaks-ties {m} v c = rw (waiting-of (resetWaiting c (waitingIn m))) (breaks-ties c v.waiting.each)
+reset-breaks-ties {m} v c = rw (waiting-of (reset_waiting c (waiting_in m))) (breaks-ties c v.waiting.each)

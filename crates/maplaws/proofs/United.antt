@@ -10,8 +10,8 @@ use Rattle.listlaws.proofs.Levels.{level-same}
 use Rattle.listlaws.proofs.Sides.{one-ascends}
 use Rattle.clock.specs.declared.Dot.{Dot}
 use Rattle.removals.specs.declared.Removal.{Removal}
-use Rattle.removals.specs.Model.{underOf}
-use Rattle.removals.specs.Waits.{unite, uniteInto}
+use Rattle.removals.specs.Model.{under_of}
+use Rattle.removals.specs.Waits.{unite, unite_into}
 use Rattle.removals.specs.Valid.{ValidRemoval, ValidWaiting}
 use Rattle.removals.proofs.ClockOrder.{level-removal}
 use Rattle.removals.proofs.Uniting.{unite-each, unite-left, unite-right, unite-keys}
@@ -21,13 +21,13 @@ use Rattle.maplaws.specs.Among.{OneOf, UnderClock, Lists, Exactly}
 
 -- what two removals under one clock share with their union
 pub record Shared (Such : Removal → Type 0) : Type 0 where
-  pub split : (x y : Removal) → ValidRemoval x → ValidRemoval y → underOf x ≡ underOf y → Such (unite x y) → Such x ⊎ Such y
-  pub left : (x y : Removal) → ValidRemoval x → ValidRemoval y → underOf x ≡ underOf y → Such x → Such (unite x y)
-  pub right : (x y : Removal) → ValidRemoval x → ValidRemoval y → underOf x ≡ underOf y → Such y → Such (unite x y)
+  pub split : (x y : Removal) → ValidRemoval x → ValidRemoval y → under_of x ≡ under_of y → Such (unite x y) → Such x ⊎ Such y
+  pub left : (x y : Removal) → ValidRemoval x → ValidRemoval y → under_of x ≡ under_of y → Such x → Such (unite x y)
+  pub right : (x y : Removal) → ValidRemoval x → ValidRemoval y → under_of x ≡ under_of y → Such y → Such (unite x y)
 
 module _ {Such : Removal → Type 0} (s : Shared Such) where
   module _ {l : List Removal} {r : Removal} (h : ValidWaiting l) (k : ValidRemoval r) where
-    into-means : OneOf (uniteInto l r) Such → OneOf l Such ⊎ Such r
+    into-means : OneOf (unite_into l r) Such → OneOf l Such ⊎ Such r
     into-means q =
         unite-each h.rising (one-ascends r) (λ z. Such z → OneOf l Such ⊎ Such r)
         (λ x i p. inl (x, i, p))
@@ -36,19 +36,19 @@ module _ {Such : Removal → Type 0} (s : Shared Such) where
         ⊎_elim (λ t. inl (x, i, t)) (λ t. inr (rw same at t)) (s.split x y (h.each x i) (rw same k) e p))
         q.0 q.1 q.2
 
-    into-old : OneOf l Such → OneOf (uniteInto l r) Such
+    into-old : OneOf l Such → OneOf (unite_into l r) Such
     into-old q =
         ⊎_elim (λ i. (q.0, i, q.2))
         (λ t. let same : t.0 ≡ r = Memᴰ.eq_of_singleton t.1 in
         (unite q.0 t.0, t.3, s.left q.0 t.0 (h.each q.0 q.1) (rw same k) t.2 q.2))
         (unite-left h.rising (one-ascends r) q.1)
 
-    into_new : Such r → OneOf (uniteInto l r) Such
+    into_new : Such r → OneOf (unite_into l r) Such
     into_new p =
         ⊎_elim (λ i. (r, i, p)) (λ t. (unite t.0 r, t.3, s.right t.0 r (h.each t.0 t.1) k t.2 p))
         (unite-right h.rising (one-ascends r) (Memᴰ.head refl))
 
-  all-means : (ws : List Removal) {l : List Removal} → ValidWaiting l → Ready ws → OneOf (fold uniteInto l ws) Such → OneOf l Such ⊎ OneOf ws Such
+  all-means : (ws : List Removal) {l : List Removal} → ValidWaiting l → Ready ws → OneOf (fold unite_into l ws) Such → OneOf l Such ⊎ OneOf ws Such
   unfolding fold
   all-means [] h g q = inl q
   all-means (w ∷ ws) h g q =
@@ -56,14 +56,14 @@ module _ {Such : Removal → Type 0} (s : Shared Such) where
       ⊎_elim (λ p. ⊎_elim (λ t. inl t) (λ t. inr (w, Memᴰ.head refl, t)) (into-means h k.0 p)) (λ p. inr (p.0, Memᴰ.tail p.1, p.2))
       (all-means ws (valid-unite-into h k.0 k.1) (λ v i. g v (Memᴰ.tail i)) q)
 
-  all_old : (ws : List Removal) {l : List Removal} → ValidWaiting l → Ready ws → OneOf l Such → OneOf (fold uniteInto l ws) Such
+  all_old : (ws : List Removal) {l : List Removal} → ValidWaiting l → Ready ws → OneOf l Such → OneOf (fold unite_into l ws) Such
   unfolding fold
   all_old [] h g q = q
   all_old (w ∷ ws) h g q =
       let k = g w (Memᴰ.head refl) in
       all_old ws (valid-unite-into h k.0 k.1) (λ v i. g v (Memᴰ.tail i)) (into-old h k.0 q)
 
-  all_new : (ws : List Removal) {l : List Removal} → ValidWaiting l → Ready ws → (w : Removal) → w ∈ ws → Such w → OneOf (fold uniteInto l ws) Such
+  all_new : (ws : List Removal) {l : List Removal} → ValidWaiting l → Ready ws → (w : Removal) → w ∈ ws → Such w → OneOf (fold unite_into l ws) Such
   unfolding fold
   all_new [] h g w i p = absurd (Memᴰ.not-nil i)
   all_new (v ∷ ws) h g w i p =
@@ -75,7 +75,7 @@ module _ {Such : Removal → Type 0} (s : Shared Such) where
 
   -- of those that waited before, or of those that joined them
   pub united-exactly : (ws : List Removal) {l : List Removal} → ValidWaiting l → Ready ws
-      → Exactly (OneOf (fold uniteInto l ws) Such) (OneOf l Such ⊎ OneOf ws Such)
+      → Exactly (OneOf (fold unite_into l ws) Such) (OneOf l Such ⊎ OneOf ws Such)
   united-exactly ws h g = (all-means ws h g, λ q. ⊎_elim (λ t. all_old ws h g t) (λ t. all_new ws h g t.0 t.1 t.2) q)
 
 -- the clock
@@ -91,5 +91,5 @@ shared-key c k = record {
 }
 
 -- those that wait stand under different clocks
-pub one-clock : {l : List Removal} → ValidWaiting l → {r s : Removal} → r ∈ l → s ∈ l → underOf r ≡ underOf s → r ≡ s
+pub one-clock : {l : List Removal} → ValidWaiting l → {r s : Removal} → r ∈ l → s ∈ l → under_of r ≡ under_of s → r ≡ s
 one-clock h {r} {s} i j e = level-same h.rising i j (level-removal r s e)

@@ -3,7 +3,7 @@ use Rattle.std.specs.Prelude.{◌≡◌, List, ℕ}
 use Rattle.listlaws.specs.Order.{◌∈◌}
 use Rattle.clock.specs.declared.Dot.{Dot}
 use Rattle.removals.specs.declared.Removal.{Removal}
-use Rattle.removals.specs.Model.{underOf, listedIn}
+use Rattle.removals.specs.Model.{under_of, listed_in}
 
 -- one of these removals is such
 abbrev pub OneOf : List Removal → (Removal → Type 0) → Type 0
@@ -11,10 +11,10 @@ OneOf l Such = (r : Removal) × (r ∈ l) × Such r
 
 -- a removal under this clock, and one that lists this key besides
 abbrev pub UnderClock : List Dot → Removal → Type 0
-UnderClock c r = underOf r ≡ c
+UnderClock c r = under_of r ≡ c
 
 abbrev pub Lists : List Dot → ℕ → Removal → Type 0
-Lists c k r = (underOf r ≡ c) × (k ∈ listedIn r)
+Lists c k r = (under_of r ≡ c) × (k ∈ listed_in r)
 
 -- the one exactly when the other
 abbrev pub Exactly : Type 0 → Type 0 → Type 0

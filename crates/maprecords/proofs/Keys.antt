@@ -10,11 +10,11 @@ use lib.Dec.{eqb}
 use lib.ListN.{length, get_or, set, length-set, length-map, length-append, get_or-map, get_or-append}
 use lib.Seq.{ext_get_or, get_or-set_same, get_or-set_other, get_or_at}
 use borrow.Author.Tests.{eq-eqb, eqb-true, eqb-false}
-use Rattle.listlaws.specs.First.{firstIn, some}
+use Rattle.listlaws.specs.First.{first_in, some}
 use Rattle.listlaws.specs.Fold.{fold}
 use Rattle.listlaws.proofs.Orders.{apart}
 use Rattle.scan.proofs.Eachs.{decide}
-use Rattle.maprecords.specs.Reading.{addNew, placesFrom, numbersBelow}
+use Rattle.maprecords.specs.Reading.{add_new, places_from, numbers_below}
 
 -- what each step keeps, a fold keeps
 pub fold-keeps : {A S : Type 0} (P : S → Type 0) (step : S → A → S) (s : S) (l : List A) → P s → ((t : S) (x : A) → P t → P (step t x))
@@ -24,7 +24,7 @@ fold-keeps P step s [] p h = p
 fold-keeps P step s (x ∷ l) p h = fold-keeps P step (step s x) l (h s x p) h
 
 pub some_at : {A : Type 0} (test : A → Bool) (l : List A) (i : ℕ) (d : A) → i < length l → test (get_or l i d) ≡ true → some test l ≡ true
-unfolding firstIn
+unfolding first_in
 some_at test [] i d h t = absurd (not-suc-le-zero h)
 some_at test (x ∷ l) zero d h t = rw t
 some_at test (x ∷ l) (suc i) d h t = rw (some_at test l i d (le_of_suc-le-suc h) t) (go (test x))
@@ -60,7 +60,7 @@ unique-snoc ks k u n = record { same = λ i j hi hj e. go i j (where-is i hi) (w
         (λ p. ⊎_elim (λ (q : j ≡ length ks). differs i p (sym (old i p) ∙ e ∙ new j q)) (λ q. u.same i j p q (sym (old i p) ∙ e ∙ old j q)) b)
         a
 
-pub unique-add : (ks : List ℕ) (k : ℕ) → Unique ks → Unique (addNew ks k)
+pub unique-add : (ks : List ℕ) (k : ℕ) → Unique ks → Unique (add_new ks k)
 unique-add ks k u = decide (some (λ x. eqb x k) ks) (λ t. rw t u) (λ f. rw f (unique-snoc ks k u f))
 
 pub unique-none : Unique []
@@ -98,41 +98,41 @@ map_same f g [] h = refl
 map_same f g (k ∷ ks) h = rw (h k, map_same f g ks h)
 
 -- what each place gives
-pub length-places : {A B : Type 0} (f : ℕ → A → B) (i : ℕ) (l : List A) → length (placesFrom f i l) ≡ length l
-unfolding placesFrom
+pub length-places : {A B : Type 0} (f : ℕ → A → B) (i : ℕ) (l : List A) → length (places_from f i l) ≡ length l
+unfolding places_from
 length-places f i [] = refl
 length-places f i (x ∷ l) = ap suc (length-places f (i + 1) l)
 
 pub places-snoc : {A B : Type 0} (f : ℕ → A → B) (i : ℕ) (l : List A) (x : A)
-    → placesFrom f i (l ++ (x ∷ [])) ≡ placesFrom f i l ++ (f (i + length l) x ∷ [])
-unfolding placesFrom
+    → places_from f i (l ++ (x ∷ [])) ≡ places_from f i l ++ (f (i + length l) x ∷ [])
+unfolding places_from
 places-snoc f i [] x = let e : i + 0 ≡ i = omega arith in rw e
 places-snoc f i (y ∷ l) x = let e : i + 1 + length l ≡ i + suc (length l) = omega arith in rw (places-snoc f (i + 1) l x, e)
 
 pub get-places : {A B : Type 0} (f : ℕ → A → B) (i : ℕ) (l : List A) (j : ℕ) (a : A) (d : B) → j < length l
-    → get_or (placesFrom f i l) j d ≡ f (i + j) (get_or l j a)
-unfolding placesFrom
+    → get_or (places_from f i l) j d ≡ f (i + j) (get_or l j a)
+unfolding places_from
 get-places f i [] j a d h = absurd (not-suc-le-zero h)
 get-places f i (x ∷ l) zero a d h = let e : i + 0 ≡ i = omega arith in rw e
 get-places f i (x ∷ l) (suc j) a d h = get-places f (i + 1) l j a d (le_of_suc-le-suc h)
     ∙ (let e : i + 1 + j ≡ i + suc j = omega arith in ap (λ k. f k (get_or l j a)) e)
 
 -- 0, 1, .. n - 1
-pub length-below : (n : ℕ) → length (numbersBelow n) ≡ n
-unfolding numbersBelow
+pub length-below : (n : ℕ) → length (numbers_below n) ≡ n
+unfolding numbers_below
 length-below zero = refl
-length-below (suc n) = length-append (numbersBelow n) (n ∷ []) ∙ (let e = length-below n in omega arith)
+length-below (suc n) = length-append (numbers_below n) (n ∷ []) ∙ (let e = length-below n in omega arith)
 
-pub get-below : (n i : ℕ) → i < n → get_or (numbersBelow n) i 0 ≡ i
-unfolding numbersBelow
+pub get-below : (n i : ℕ) → i < n → get_or (numbers_below n) i 0 ≡ i
+unfolding numbers_below
 get-below zero i h = absurd (not-suc-le-zero h)
 get-below (suc n) i h =
     ⊎_elim
-    (λ (e : i ≡ n). get_or_at (numbersBelow n) n [] 0 i (length-below n ∙ sym e) ∙ sym e)
-    (λ (l : i < n). get_or-append (numbersBelow n) (n ∷ []) 0 i (let k = length-below n in omega arith) ∙ get-below n i l)
+    (λ (e : i ≡ n). get_or_at (numbers_below n) n [] 0 i (length-below n ∙ sym e) ∙ sym e)
+    (λ (l : i < n). get_or-append (numbers_below n) (n ∷ []) 0 i (let k = length-below n in omega arith) ∙ get-below n i l)
     (eq-or-lt_of_le (le_of_suc-le-suc h))
 
-pub unique-below : (n : ℕ) → Unique (numbersBelow n)
+pub unique-below : (n : ℕ) → Unique (numbers_below n)
 unique-below n = record {
   same = λ i j hi hj e. let k = length-below n in let a = get-below n i (omega arith) in
       let b = get-below n j (omega arith) in omega arith;

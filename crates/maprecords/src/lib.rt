@@ -1,6 +1,6 @@
 // What an image was read as, and what its length alone is answered with.
 ghost use Rattle.std.specs.Prelude.{◌≡◌};
-ghost use Rattle.maprecords.specs.Related.{lengthNumber};
+ghost use Rattle.maprecords.specs.Related.{length_number};
 
 use map::Map;
 
@@ -12,7 +12,7 @@ pub struct ReadMap {
 }
 
 pub fn length_number(len: usize) -> u8
-    ensures { result ≡ lengthNumber len }
+    ensures { result ≡ length_number len }
 {
     if mapimage::MAP_LONGEST < len {
         return 2;

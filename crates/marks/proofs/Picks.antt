@@ -9,7 +9,7 @@ use lib.ListN.{length, take, drop, get_or, replicate}
 use lib.Seq.{drop-cons}
 use Rattle.listlaws.specs.Sift.{sift, those}
 use Rattle.listlaws.proofs.Rests.{drop-end}
-use Rattle.marks.specs.Marks.{picked, marksSet}
+use Rattle.marks.specs.Marks.{picked, marks_set}
 
 module _ {A : Type 0} where
   pub picked-nil : (bs : List Bool) → picked {A = A} bs [] ≡ []
@@ -25,7 +25,7 @@ module _ {A : Type 0} where
   picked_all (x ∷ l) (suc n) h = ap (λ m. x ∷ m) (picked_all l n (omega arith))
 
   -- as many are picked as marks are set, of the marks that have an element
-  pub length-picked : (bs : List Bool) (l : List A) → length (picked bs l) ≡ marksSet (take (length l) bs)
+  pub length-picked : (bs : List Bool) (l : List A) → length (picked bs l) ≡ marks_set (take (length l) bs)
   unfolding picked sift
   length-picked [] [] = refl
   length-picked [] (x ∷ l) = refl

@@ -9,5 +9,5 @@ picked (b ∷ bs) [] = []
 picked (b ∷ bs) (x ∷ l) = cond b (x ∷ picked bs l) (picked bs l)
 
 -- how many marks are set
-abbrev pub marksSet : List Bool → ℕ
-marksSet bs = length (those (λ b. b) bs)
+abbrev pub marks_set : List Bool → ℕ
+marks_set bs = length (those (λ b. b) bs)

@@ -1,14 +1,14 @@
 // Marks on the dots of a run, where it lies: which of them are left.
 ghost use Rattle.std.specs.Prelude.{◌≡◌, ◌+◌, ◌*◌, ◌≤◌, length, take};
 ghost use Rattle.listlaws.specs.First.{some};
-ghost use Rattle.limits.specs.Limits.{dotLimit};
-ghost use Rattle.clock.specs.Dots.{dotsOf, clockOf, cutDots};
+ghost use Rattle.limits.specs.Limits.{dot_limit};
+ghost use Rattle.clock.specs.Dots.{dots_of, clock_of, cut_dots};
 ghost use Rattle.clock.specs.Lawful.{Lawful};
-ghost use Rattle.records.specs.Records.{recordFrom, bytes_of};
+ghost use Rattle.records.specs.Records.{record_from, bytes_of};
 ghost use Rattle.records.specs.Writing.{Wrote};
-ghost use Rattle.clockimage.specs.Image.{dotRecords, dotOf};
-ghost use Rattle.runs.specs.Run.{runDots};
-ghost use Rattle.marks.specs.Marks.{picked, marksSet};
+ghost use Rattle.clockimage.specs.Image.{dot_records, dot_of};
+ghost use Rattle.runs.specs.Run.{run_dots};
+ghost use Rattle.marks.specs.Marks.{picked, marks_set};
 
 use clock::{Clock, Dot};
 use limits::DOTS;
@@ -16,8 +16,8 @@ use records::Record;
 
 // How many of the first n marks are set.
 pub fn count_marks(marks: [bool; DOTS], n: usize) -> usize
-    requires { n ≤ dotLimit }
-    ensures { (result ≡ marksSet (take n marks)) × (result ≤ n) }
+    requires { n ≤ dot_limit }
+    ensures { (result ≡ marks_set (take n marks)) × (result ≤ n) }
 {
     let mut count: usize = 0;
     let mut i: usize = 0;
@@ -33,7 +33,7 @@ pub fn count_marks(marks: [bool; DOTS], n: usize) -> usize
 
 // Whether one of the first n marks is set.
 pub fn some_marks(marks: [bool; DOTS], n: usize) -> bool
-    requires { n ≤ dotLimit }
+    requires { n ≤ dot_limit }
     ensures { result ≡ some (λ b. b) (take n marks) }
 {
     let mut i: usize = 0;
@@ -49,7 +49,7 @@ pub fn some_marks(marks: [bool; DOTS], n: usize) -> bool
 // The dot of the record at place i of a run.
 pub fn dot_at(run: &[u8], i: usize) -> Dot
     requires { (i + 1) * 16 ≤ length run.now }
-    ensures { result ≡ dotOf (recordFrom run.now (i * 16)) }
+    ensures { result ≡ dot_of (record_from run.now (i * 16)) }
 {
     let actor = records::read16(run, i * 16 + 2);
     let counter = records::read64(run, i * 16 + 8);
@@ -58,8 +58,8 @@ pub fn dot_at(run: &[u8], i: usize) -> Dot
 
 // The marks of those dots that are left where what `by` has seen is cut: one walk along both.
 pub fn cut_marks(run: &[u8], marks: [bool; DOTS], by: Clock) -> [bool; DOTS]
-    requires { (length run.now ≤ dotLimit * 16) × (Lawful (runDots run.now) × Lawful (dotsOf by)) }
-    ensures { picked result (runDots run.now) ≡ cutDots (dotsOf by) (picked marks (runDots run.now)) }
+    requires { (length run.now ≤ dot_limit * 16) × (Lawful (run_dots run.now) × Lawful (dots_of by)) }
+    ensures { picked result (run_dots run.now) ≡ cut_dots (dots_of by) (picked marks (run_dots run.now)) }
 {
     let n = run.len() / 16;
     let m = by.size();
@@ -87,9 +87,9 @@ pub fn cut_marks(run: &[u8], marks: [bool; DOTS], by: Clock) -> [bool; DOTS]
 
 // The same by the clock of a run, where it lies.
 pub fn cut_marks_by(run: &[u8], marks: [bool; DOTS], by: &[u8]) -> [bool; DOTS]
-    requires { (length run.now ≤ dotLimit * 16) × (Lawful (runDots run.now) × Lawful (runDots by.now)) }
-    ensures { picked result (runDots run.now)
-        ≡ cutDots (runDots by.now) (picked marks (runDots run.now)) }
+    requires { (length run.now ≤ dot_limit * 16) × (Lawful (run_dots run.now) × Lawful (run_dots by.now)) }
+    ensures { picked result (run_dots run.now)
+        ≡ cut_dots (run_dots by.now) (picked marks (run_dots run.now)) }
 {
     let n = run.len() / 16;
     let m = by.len() / 16;
@@ -117,8 +117,8 @@ pub fn cut_marks_by(run: &[u8], marks: [bool; DOTS], by: &[u8]) -> [bool; DOTS]
 
 // The clock of those dots whose marks are set.
 pub fn pick_clock(run: &[u8], marks: [bool; DOTS]) -> Clock
-    requires { length run.now ≤ dotLimit * 16 }
-    ensures { result ≡ clockOf (picked marks (runDots run.now)) }
+    requires { length run.now ≤ dot_limit * 16 }
+    ensures { result ≡ clock_of (picked marks (run_dots run.now)) }
 {
     let n = run.len() / 16;
     let mut clock = Clock::new();
@@ -146,8 +146,8 @@ pub fn write_picked(
     run: &[u8],
     marks: [bool; DOTS],
 ) -> usize
-    requires { (length run.now ≤ dotLimit * 16) × (at + length (picked marks (runDots run.now)) * 16 ≤ length out.old) }
-    ensures { Wrote at (bytes_of (dotRecords kind index key (picked marks (runDots run.now))))
+    requires { (length run.now ≤ dot_limit * 16) × (at + length (picked marks (run_dots run.now)) * 16 ≤ length out.old) }
+    ensures { Wrote at (bytes_of (dot_records kind index key (picked marks (run_dots run.now))))
         out.old out.new result }
 {
     let n = run.len() / 16;

@@ -12,8 +12,8 @@ use lib.Seq.{get_or-append-add, get_or-take, get_or-drop, length-take-le}
 use borrow.Author.Tests.{ltb-true, ltb-false}
 use Rattle.scan.proofs.Eachs.{decide}
 use Rattle.records.specs.declared.Record.{Record}
-use Rattle.records.specs.Bytes.{num_at, numBytes, placed, Bytes}
-use Rattle.records.specs.Records.{recordFrom, recordBytes}
+use Rattle.records.specs.Bytes.{num_at, num_bytes, placed, Bytes}
+use Rattle.records.specs.Records.{record_from, record_bytes}
 use Rattle.records.proofs.Numbers.{length-num, num-bytes}
 use Rattle.records.proofs.Placing.{length-placed}
 use Rattle.records.proofs.RoundTrips.{Fitting}
@@ -50,8 +50,8 @@ same_then s t = record { at = λ i x y. s.at i x y ∙ t.at i x y }
 pub same-num : (k p : ℕ) {a n : ℕ} {v w : List ℕ} → Same a n v w → a ≤ p → p + 2 ^ k ≤ a + n → num_at k p v ≡ num_at k p w
 same-num k p {v = v} {w = w} s h l = num-like k p p v w (λ i x. s.at (p + i) (omega arith) (omega arith))
 
-pub same-record : (p : ℕ) {a n : ℕ} {v w : List ℕ} → Same a n v w → a ≤ p → p + 16 ≤ a + n → recordFrom v p ≡ recordFrom w p
-unfolding recordFrom
+pub same-record : (p : ℕ) {a n : ℕ} {v w : List ℕ} → Same a n v w → a ≤ p → p + 16 ≤ a + n → record_from v p ≡ record_from w p
+unfolding record_from
 same-record p s h l =
     rw (
       same-num 0 p s (omega arith) (omega arith),
@@ -131,34 +131,34 @@ bytes-append [] b x y i = y i
 bytes-append (n ∷ a) b x y zero = x 0
 bytes-append (n ∷ a) b x y (suc i) = bytes-append a b (λ j. x (suc j)) y i
 
-num-small : (k x : ℕ) → x < 256 ^ (2 ^ k) → Bytes (numBytes k x)
+num-small : (k x : ℕ) → x < 256 ^ (2 ^ k) → Bytes (num_bytes k x)
 num-small zero x h zero = h
 num-small zero x h (suc i) = omega arith
 num-small (suc k) x h i =
     let pos : 0 < 256 ^ (2 ^ k) = one-le-pow (2 ^ k) 256 (omega arith) in
     let square : 256 ^ (2 ^ suc k) ≡ 256 ^ (2 ^ k) * 256 ^ (2 ^ k) = rw (double k) (pow-add 256 (2 ^ k) (2 ^ k)) in
-    bytes-append (numBytes k (x % 256 ^ (2 ^ k))) (numBytes k (x / 256 ^ (2 ^ k)))
+    bytes-append (num_bytes k (x % 256 ^ (2 ^ k))) (num_bytes k (x / 256 ^ (2 ^ k)))
     (num-small k (x % 256 ^ (2 ^ k)) (mod-lt x pos))
     (num-small k (x / 256 ^ (2 ^ k)) ((div-lt_iff_lt-mul pos).1 (rw square at h))) i
 
 -- a number put in place
 module _ (k p x : ℕ) (w : List ℕ) (fits : x < 256 ^ (2 ^ k)) (room : p + 2 ^ k ≤ length w) where
   pub touched-put : Touched p (2 ^ k) w (put k p x w)
-  touched-put = rw (length-num k x) at (touched-placed p (numBytes k x) w (let n = length-num k x in omega arith) (num-small k x fits))
+  touched-put = rw (length-num k x) at (touched-placed p (num_bytes k x) w (let n = length-num k x in omega arith) (num-small k x fits))
 
   pub put-read : num_at k p (put k p x w) ≡ x
   unfolding placed
-  put-read = num-bytes k x p (put k p x w) (take p w) (drop (p + length (numBytes k x)) w) refl (length-take-le p w (omega arith)) fits
+  put-read = num-bytes k x p (put k p x w) (take p w) (drop (p + length (num_bytes k x)) w) refl (length-take-le p w (omega arith)) fits
 
 -- a record put in place
-pub touched-record : (p : ℕ) (r : Record) (w : List ℕ) → Fitting r → p + 16 ≤ length w → Touched p 16 w (placed p (recordBytes r) w)
+pub touched-record : (p : ℕ) (r : Record) (w : List ℕ) → Fitting r → p + 16 ≤ length w → Touched p 16 w (placed p (record_bytes r) w)
 touched-record p r w f room =
-    let i = numBytes 0 r.index in
-    let a = numBytes 1 r.actor in
-    let y = numBytes 2 r.key in
-    let m = numBytes 3 r.number in
-    touched-placed p (recordBytes r) w room
-    (bytes-append (numBytes 0 r.kind) (i ++ (a ++ (y ++ m))) (num-small 0 r.kind f.kind)
+    let i = num_bytes 0 r.index in
+    let a = num_bytes 1 r.actor in
+    let y = num_bytes 2 r.key in
+    let m = num_bytes 3 r.number in
+    touched-placed p (record_bytes r) w room
+    (bytes-append (num_bytes 0 r.kind) (i ++ (a ++ (y ++ m))) (num-small 0 r.kind f.kind)
     (bytes-append i (a ++ (y ++ m)) (num-small 0 r.index f.index)
     (bytes-append a (y ++ m) (num-small 1 r.actor f.actor) (bytes-append y m (num-small 2 r.key f.key)
     (num-small 3 r.number f.number)))))

@@ -1,154 +1,154 @@
 -- The memory of a reader of pieces: where its numbers stand, and the clock, the entries and the waiting removals that it holds.
 use Rattle.std.specs.Prelude.{List, map, ℕ, ◌+◌, ◌*◌, min, eqb}
 use Rattle.clock.specs.declared.Dot.{Dot}
-use Rattle.limits.specs.Limits.{dotLimit, valueLimit, entryLimit, waitingLimit, keyLimit}
-use Rattle.clock.specs.Dots.{clockOf}
+use Rattle.limits.specs.Limits.{dot_limit, value_limit, entry_limit, waiting_limit, key_limit}
+use Rattle.clock.specs.Dots.{clock_of}
 use Rattle.register.specs.declared.Content.{Content}
 use Rattle.register.specs.declared.Value.{Value}
 use Rattle.entries.specs.declared.Entry.{Entry}
 use Rattle.removals.specs.declared.Removal.{Removal}
-use Rattle.entries.specs.Model.{entryAs}
-use Rattle.removals.specs.Model.{removalAs}
+use Rattle.entries.specs.Model.{entry_as}
+use Rattle.removals.specs.Model.{removal_as}
 use Rattle.records.specs.Bytes.{num_at}
-use Rattle.records.specs.Records.{recordFrom}
+use Rattle.records.specs.Records.{record_from}
 use Rattle.scan.specs.declared.Scan.{Scan}
-use Rattle.maprecords.specs.Reading.{numbersBelow}
+use Rattle.maprecords.specs.Reading.{numbers_below}
 
 -- whether it is open (1), the length so far in four bytes, a record that is not whole yet
-abbrev pub openPlace : ℕ
-openPlace = 0
+abbrev pub open_place : ℕ
+open_place = 0
 
-abbrev pub lengthPlace : ℕ
-lengthPlace = openPlace + 1
+abbrev pub length_place : ℕ
+length_place = open_place + 1
 
-abbrev pub heldPlace : ℕ
-heldPlace = lengthPlace + 4
+abbrev pub held_place : ℕ
+held_place = length_place + 4
 
 -- what the scan of the records so far holds: its number, whether there is a last record, that record, three counts of two bytes
-abbrev pub numberPlace : ℕ
-numberPlace = heldPlace + 16
+abbrev pub number_place : ℕ
+number_place = held_place + 16
 
-abbrev pub anyPlace : ℕ
-anyPlace = numberPlace + 1
+abbrev pub any_place : ℕ
+any_place = number_place + 1
 
-abbrev pub lastPlace : ℕ
-lastPlace = anyPlace + 1
+abbrev pub last_place : ℕ
+last_place = any_place + 1
 
-abbrev pub countsPlace : ℕ
-countsPlace = lastPlace + 16
+abbrev pub counts_place : ℕ
+counts_place = last_place + 16
 
 -- the waiting keys under each index; whether a record did not find what it needs, how many entries there are, how many waiting removals
-abbrev pub underPlace : ℕ
-underPlace = countsPlace + 6
+abbrev pub under_place : ℕ
+under_place = counts_place + 6
 
-abbrev pub lostPlace : ℕ
-lostPlace = underPlace + 256
+abbrev pub lost_place : ℕ
+lost_place = under_place + 256
 
-abbrev pub entriesPlace : ℕ
-entriesPlace = lostPlace + 1
+abbrev pub entries_place : ℕ
+entries_place = lost_place + 1
 
-abbrev pub waitsPlace : ℕ
-waitsPlace = entriesPlace + 1
+abbrev pub waits_place : ℕ
+waits_place = entries_place + 1
 
 -- a clock: how many dots, and ten bytes for each
-abbrev pub dotRoom : ℕ
-dotRoom = 10
+abbrev pub dot_room : ℕ
+dot_room = 10
 
-abbrev pub clockRoom : ℕ
-clockRoom = 1 + dotLimit * dotRoom
+abbrev pub clock_room : ℕ
+clock_room = 1 + dot_limit * dot_room
 
-abbrev pub clockPlace : ℕ
-clockPlace = waitsPlace + 1
+abbrev pub clock_place : ℕ
+clock_place = waits_place + 1
 
 -- a value: its number, its clock and its origin; an entry: its key, its clock, how many values, and these
-abbrev pub valueRoom : ℕ
-valueRoom = 8 + clockRoom + 2
+abbrev pub value_room : ℕ
+value_room = 8 + clock_room + 2
 
-abbrev pub entryRoom : ℕ
-entryRoom = 4 + clockRoom + 1 + valueLimit * valueRoom
+abbrev pub entry_room : ℕ
+entry_room = 4 + clock_room + 1 + value_limit * value_room
 
-abbrev pub entryPlace : ℕ → ℕ
-entryPlace j = clockPlace + clockRoom + j * entryRoom
+abbrev pub entry_place : ℕ → ℕ
+entry_place j = clock_place + clock_room + j * entry_room
 
-abbrev pub ownPlace : ℕ → ℕ
-ownPlace j = entryPlace j + 4
+abbrev pub own_place : ℕ → ℕ
+own_place j = entry_place j + 4
 
-abbrev pub valuesPlace : ℕ → ℕ
-valuesPlace j = ownPlace j + clockRoom
+abbrev pub values_place : ℕ → ℕ
+values_place j = own_place j + clock_room
 
-abbrev pub valuePlace : ℕ → ℕ → ℕ
-valuePlace j i = valuesPlace j + 1 + i * valueRoom
+abbrev pub value_place : ℕ → ℕ → ℕ
+value_place j i = values_place j + 1 + i * value_room
 
 -- a waiting removal: its clock, how many keys, and these
-abbrev pub removalRoom : ℕ
-removalRoom = clockRoom + 1 + keyLimit * 4
+abbrev pub removal_room : ℕ
+removal_room = clock_room + 1 + key_limit * 4
 
-abbrev pub removalPlace : ℕ → ℕ
-removalPlace k = entryPlace entryLimit + k * removalRoom
+abbrev pub removal_place : ℕ → ℕ
+removal_place k = entry_place entry_limit + k * removal_room
 
-abbrev pub keysPlace : ℕ → ℕ
-keysPlace k = removalPlace k + clockRoom
+abbrev pub keys_place : ℕ → ℕ
+keys_place k = removal_place k + clock_room
 
-abbrev pub keyPlace : ℕ → ℕ → ℕ
-keyPlace k i = keysPlace k + 1 + i * 4
+abbrev pub key_place : ℕ → ℕ → ℕ
+key_place k i = keys_place k + 1 + i * 4
 
 -- the bytes of a reader
-abbrev pub readerRoom : ℕ
-readerRoom = removalPlace waitingLimit
+abbrev pub reader_room : ℕ
+reader_room = removal_place waiting_limit
 
 -- a count of one byte, or the limit where it is more
-abbrev pub countAt : ℕ → ℕ → List ℕ → ℕ
-countAt limit at w = min (num_at 0 at w) limit
+abbrev pub count_at : ℕ → ℕ → List ℕ → ℕ
+count_at limit at w = min (num_at 0 at w) limit
 
 -- what stands in the memory as a scan
-abbrev pub scanAt : List ℕ → Scan
-scanAt w = record {
-  number = num_at 0 numberPlace w;
-  any = eqb (num_at 0 anyPlace w) 1;
-  last = recordFrom w lastPlace;
-  outer = num_at 1 countsPlace w;
-  middle = num_at 1 (countsPlace + 2) w;
-  inner = num_at 1 (countsPlace + 4) w;
+abbrev pub scan_at : List ℕ → Scan
+scan_at w = record {
+  number = num_at 0 number_place w;
+  any = eqb (num_at 0 any_place w) 1;
+  last = record_from w last_place;
+  outer = num_at 1 counts_place w;
+  middle = num_at 1 (counts_place + 2) w;
+  inner = num_at 1 (counts_place + 4) w;
 }
 
 -- as a clock's dots
-abbrev pub dotAt : List ℕ → ℕ → Dot
-dotAt w at = record { actor = num_at 1 at w; counter = num_at 3 (at + 2) w }
+abbrev pub dot_at : List ℕ → ℕ → Dot
+dot_at w at = record { actor = num_at 1 at w; counter = num_at 3 (at + 2) w }
 
-unfoldable pub dotsAt : List ℕ → ℕ → List Dot
-dotsAt w at = map (λ i. dotAt w (at + 1 + i * dotRoom)) (numbersBelow (countAt dotLimit at w))
+unfoldable pub dots_at : List ℕ → ℕ → List Dot
+dots_at w at = map (λ i. dot_at w (at + 1 + i * dot_room)) (numbers_below (count_at dot_limit at w))
 
 -- as entries
-abbrev pub contentAt : List ℕ → ℕ → Content
-contentAt w at = record { number = num_at 3 at w; origin = num_at 1 (at + 8 + clockRoom) w }
+abbrev pub content_at : List ℕ → ℕ → Content
+content_at w at = record { number = num_at 3 at w; origin = num_at 1 (at + 8 + clock_room) w }
 
 abbrev pub value_at : List ℕ → ℕ → Value
-value_at w at = record { clock = clockOf (dotsAt w (at + 8)); value = contentAt w at }
+value_at w at = record { clock = clock_of (dots_at w (at + 8)); value = content_at w at }
 
-unfoldable pub valuesAt : List ℕ → ℕ → List Value
-valuesAt w j = map (λ i. value_at w (valuePlace j i)) (numbersBelow (countAt valueLimit (valuesPlace j) w))
+unfoldable pub values_at : List ℕ → ℕ → List Value
+values_at w j = map (λ i. value_at w (value_place j i)) (numbers_below (count_at value_limit (values_place j) w))
 
 abbrev pub key_at : List ℕ → ℕ → ℕ
-key_at w j = num_at 2 (entryPlace j) w
+key_at w j = num_at 2 (entry_place j) w
 
-abbrev pub entryHeldAt : List ℕ → ℕ → Entry
-entryHeldAt w j = entryAs (key_at w j) (dotsAt w (ownPlace j)) (valuesAt w j)
+abbrev pub entry_held_at : List ℕ → ℕ → Entry
+entry_held_at w j = entry_as (key_at w j) (dots_at w (own_place j)) (values_at w j)
 
-abbrev pub entryCount : List ℕ → ℕ
-entryCount w = countAt entryLimit entriesPlace w
+abbrev pub entry_count : List ℕ → ℕ
+entry_count w = count_at entry_limit entries_place w
 
 unfoldable pub entries_at : List ℕ → List Entry
-entries_at w = map (entryHeldAt w) (numbersBelow (entryCount w))
+entries_at w = map (entry_held_at w) (numbers_below (entry_count w))
 
 -- as waiting removals
 unfoldable pub listed_at : List ℕ → ℕ → List ℕ
-listed_at w k = map (λ i. num_at 2 (keyPlace k i) w) (numbersBelow (countAt keyLimit (keysPlace k) w))
+listed_at w k = map (λ i. num_at 2 (key_place k i) w) (numbers_below (count_at key_limit (keys_place k) w))
 
-abbrev pub removalAt : List ℕ → ℕ → Removal
-removalAt w k = removalAs (dotsAt w (removalPlace k)) (listed_at w k)
+abbrev pub removal_at : List ℕ → ℕ → Removal
+removal_at w k = removal_as (dots_at w (removal_place k)) (listed_at w k)
 
-abbrev pub waitingCountAt : List ℕ → ℕ
-waitingCountAt w = countAt waitingLimit waitsPlace w
+abbrev pub waiting_count_at : List ℕ → ℕ
+waiting_count_at w = count_at waiting_limit waits_place w
 
-unfoldable pub waitingAt : List ℕ → List Removal
-waitingAt w = map (removalAt w) (numbersBelow (waitingCountAt w))
+unfoldable pub waiting_at : List ℕ → List Removal
+waiting_at w = map (removal_at w) (numbers_below (waiting_count_at w))

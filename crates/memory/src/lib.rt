@@ -1,9 +1,9 @@
 // The memory of a reader of pieces, which is lent: where each part of the map stands in it, and where a record goes.
 ghost use Rattle.std.specs.Prelude.{◌≡◌, ◌+◌, ◌≤◌, ◌<◌};
-ghost use Rattle.limits.specs.Limits.{entryLimit, waitingLimit};
-ghost use Rattle.memory.specs.Memory.{readerRoom, clockRoom, countAt, entryCount, scanAt};
-ghost use Rattle.memory.specs.Putting.{dotPut, lose, entryBegun, valuePut, valueDotPut, entryPlaceOf, knownPut, entryPut, removalBegun, keyPut};
-ghost use Rattle.memory.specs.Putting.{waitingPut, recordPut, scanPut};
+ghost use Rattle.limits.specs.Limits.{entry_limit, waiting_limit};
+ghost use Rattle.memory.specs.Memory.{reader_room, clock_room, count_at, entry_count, scan_at};
+ghost use Rattle.memory.specs.Putting.{dot_put, lose, entry_begun, value_put, value_dot_put, entry_place_of, known_put, entry_put, removal_begun, key_put};
+ghost use Rattle.memory.specs.Putting.{waiting_put, record_put, scan_put};
 
 use limits::{DOTS, ENTRIES, KEYS, VALUES, WAITING};
 use records::{CLOCK_DOT, ENTRY_DOT, Record, VALUE, WAITING_DOT};
@@ -60,8 +60,8 @@ pub fn wide(x: u8) -> usize
 
 // A count of one byte, or the limit where it is more.
 pub fn count(mem: &[u8; READER], at: usize, limit: usize) -> usize
-    requires { at < readerRoom }
-    ensures { (result ≡ countAt limit at mem.now) × (result ≤ limit) }
+    requires { at < reader_room }
+    ensures { (result ≡ count_at limit at mem.now) × (result ≤ limit) }
 {
     let n = wide(mem[at]);
     if n < limit { n } else { limit }
@@ -69,8 +69,8 @@ pub fn count(mem: &[u8; READER], at: usize, limit: usize) -> usize
 
 // A dot behind the last of a clock, where there is room.
 fn put_dot(mem: &mut [u8; READER], at: usize, r: Record)
-    requires { at + clockRoom ≤ readerRoom }
-    ensures { mem.new ≡ dotPut at r mem.old }
+    requires { at + clock_room ≤ reader_room }
+    ensures { mem.new ≡ dot_put at r mem.old }
 {
     let n = mem[at];
     if n < DOTS as u8 {
@@ -90,8 +90,8 @@ fn lose(mem: &mut [u8; READER])
 
 // An entry with its first dot, at the place behind the last.
 fn begin_entry(mem: &mut [u8; READER], j: usize, r: Record)
-    requires { j < entryLimit }
-    ensures { mem.new ≡ entryBegun j r mem.old }
+    requires { j < entry_limit }
+    ensures { mem.new ≡ entry_begun j r mem.old }
 {
     let at = ENTRY_PLACE + j * ENTRY_ROOM;
     records::put32(mem, at, r.key);
@@ -103,8 +103,8 @@ fn begin_entry(mem: &mut [u8; READER], j: usize, r: Record)
 
 // A value of an entry, where it is the next.
 fn put_value(mem: &mut [u8; READER], j: usize, r: Record)
-    requires { j < entryLimit }
-    ensures { mem.new ≡ valuePut j r mem.old }
+    requires { j < entry_limit }
+    ensures { mem.new ≡ value_put j r mem.old }
 {
     let values = ENTRY_PLACE + j * ENTRY_ROOM + 4 + CLOCK_ROOM;
     let k = mem[values];
@@ -125,8 +125,8 @@ fn put_value(mem: &mut [u8; READER], j: usize, r: Record)
 
 // A dot of a value, where that is there.
 fn put_value_dot(mem: &mut [u8; READER], j: usize, r: Record)
-    requires { j < entryLimit }
-    ensures { mem.new ≡ valueDotPut j r mem.old }
+    requires { j < entry_limit }
+    ensures { mem.new ≡ value_dot_put j r mem.old }
 {
     let values = ENTRY_PLACE + j * ENTRY_ROOM + 4 + CLOCK_ROOM;
     let k = r.index;
@@ -143,8 +143,8 @@ fn put_value_dot(mem: &mut [u8; READER], j: usize, r: Record)
 
 // The first entry of a key, or how many there are.
 fn find(mem: &[u8; READER], n: usize, key: u32) -> usize
-    requires { n ≡ entryCount mem.now }
-    ensures { result ≡ entryPlaceOf mem.now key }
+    requires { n ≡ entry_count mem.now }
+    ensures { result ≡ entry_place_of mem.now key }
 {
     let mut j: usize = 0;
     while j < n {
@@ -158,8 +158,8 @@ fn find(mem: &[u8; READER], n: usize, key: u32) -> usize
 
 // A record of the entry at a place.
 fn put_known(mem: &mut [u8; READER], j: usize, r: Record)
-    requires { j < entryLimit }
-    ensures { mem.new ≡ knownPut j r mem.old }
+    requires { j < entry_limit }
+    ensures { mem.new ≡ known_put j r mem.old }
 {
     if r.kind == ENTRY_DOT {
         put_dot(mem, ENTRY_PLACE + j * ENTRY_ROOM + 4, r);
@@ -172,7 +172,7 @@ fn put_known(mem: &mut [u8; READER], j: usize, r: Record)
 
 // A record of the entry of its key.
 fn put_entry(mem: &mut [u8; READER], r: Record)
-    ensures { mem.new ≡ entryPut r mem.old }
+    ensures { mem.new ≡ entry_put r mem.old }
 {
     let n = count(mem, ENTRY_COUNT, ENTRIES);
     let j = find(mem, n, r.key);
@@ -191,8 +191,8 @@ fn put_entry(mem: &mut [u8; READER], r: Record)
 
 // A waiting removal with its first dot, at the place behind the last.
 fn begin_removal(mem: &mut [u8; READER], k: usize, r: Record)
-    requires { k < waitingLimit }
-    ensures { mem.new ≡ removalBegun k r mem.old }
+    requires { k < waiting_limit }
+    ensures { mem.new ≡ removal_begun k r mem.old }
 {
     let at = REMOVAL_PLACE + k * REMOVAL_ROOM;
     records::put8(mem, at, 0);
@@ -203,8 +203,8 @@ fn begin_removal(mem: &mut [u8; READER], k: usize, r: Record)
 
 // A key of a waiting removal, where there is room.
 fn put_key(mem: &mut [u8; READER], k: usize, r: Record)
-    requires { k < waitingLimit }
-    ensures { mem.new ≡ keyPut k r mem.old }
+    requires { k < waiting_limit }
+    ensures { mem.new ≡ key_put k r mem.old }
 {
     let keys = REMOVAL_PLACE + k * REMOVAL_ROOM + CLOCK_ROOM;
     let n = mem[keys];
@@ -216,7 +216,7 @@ fn put_key(mem: &mut [u8; READER], k: usize, r: Record)
 
 // A record of the waiting removal at an index.
 fn put_waiting(mem: &mut [u8; READER], k: usize, r: Record)
-    ensures { mem.new ≡ waitingPut k r mem.old }
+    ensures { mem.new ≡ waiting_put k r mem.old }
 {
     let n = count(mem, WAITING_COUNT, WAITING);
     if k < n {
@@ -242,7 +242,7 @@ fn put_waiting(mem: &mut [u8; READER], k: usize, r: Record)
 
 // A record where it belongs.
 pub fn put_record(mem: &mut [u8; READER], r: Record)
-    ensures { mem.new ≡ recordPut r mem.old }
+    ensures { mem.new ≡ record_put r mem.old }
 {
     if r.kind == CLOCK_DOT {
         put_dot(mem, CLOCK, r);
@@ -255,7 +255,7 @@ pub fn put_record(mem: &mut [u8; READER], r: Record)
 
 // What stands in the memory as a scan.
 pub fn scan_of(mem: &[u8; READER]) -> Scan
-    ensures { result ≡ scanAt mem.now }
+    ensures { result ≡ scan_at mem.now }
 {
     let last = records::read_record(mem, LAST);
     let outer = records::read16(mem, COUNTS);
@@ -272,7 +272,7 @@ pub fn scan_of(mem: &[u8; READER]) -> Scan
 }
 
 pub fn put_scan(mem: &mut [u8; READER], s: Scan)
-    ensures { mem.new ≡ scanPut s mem.old }
+    ensures { mem.new ≡ scan_put s mem.old }
 {
     records::put8(mem, NUMBER, s.number);
     records::put8(mem, ANY, records::flag(s.any));

@@ -2,19 +2,19 @@
 ghost use Rattle.std.specs.Prelude.{◌≡◌, not, ◌&&◌, ℕ, ◌/◌, ◌≤◌, ◌<◌, eqb, ltb, length, take, get_or};
 ghost use Rattle.listlaws.specs.Order.{◌∈◌};
 ghost use Rattle.listlaws.specs.Sift.{those};
-ghost use Rattle.records.specs.Kinds.{valueKind};
-ghost use Rattle.records.specs.Records.{recordsOf};
-ghost use Rattle.removals.specs.Waits.{clockBefore};
-ghost use Rattle.scan.specs.Numbers.{scanNumber};
-ghost use Rattle.mapimage.specs.MapImage.{mapLongest};
-ghost use Rattle.maprecords.specs.Reading.{underKey};
+ghost use Rattle.records.specs.Kinds.{value_kind};
+ghost use Rattle.records.specs.Records.{records_of};
+ghost use Rattle.removals.specs.Waits.{clock_before};
+ghost use Rattle.scan.specs.Numbers.{scan_number};
+ghost use Rattle.mapimage.specs.MapImage.{map_longest};
+ghost use Rattle.maprecords.specs.Reading.{under_key};
 ghost use Rattle.salvagerules.specs.Fates.{staying};
-ghost use Rattle.salvagerules.specs.Indexes.{waitingClock, waitingIndexes, waitingIndex, sameDots, listsAlready, keyRoom, keptByFive, newIndex};
-ghost use Rattle.salvagerules.specs.Steps.{fatesOf};
+ghost use Rattle.salvagerules.specs.Indexes.{waiting_clock, waiting_indexes, waiting_index, same_dots, lists_already, key_room, kept_by_five, new_index};
+ghost use Rattle.salvagerules.specs.Steps.{fates_of};
 ghost use Rattle.salvagelaws.proofs.Fourth.{Supplied};
-ghost use Rattle.culling.specs.Marks.{markedOf, leftItems, Says, afterFour};
-ghost use Rattle.mending.specs.Tables.{fourthOf, DotPlace, Led, LeadsOf, RanksOf};
-ghost use Rattle.mending.specs.Fated.{unitedFates, Tells};
+ghost use Rattle.culling.specs.Marks.{marked_of, left_items, Says, after_four};
+ghost use Rattle.mending.specs.Tables.{fourth_of, DotPlace, Led, LeadsOf, RanksOf};
+ghost use Rattle.mending.specs.Fated.{united_fates, Tells};
 
 use culling::CHANGED;
 use limits::KEYS;
@@ -46,7 +46,7 @@ fn dot_from(image: &[u8], marks: &[u16], index: u8, from: usize) -> usize
 // Whether the clock of a waiting index stands before that of another: dots pair by pair, a prefix first.
 fn waits_before(image: &[u8], marks: &[u16], a: u8, b: u8) -> bool
     requires { length image.now / 16 ≤ length marks.now }
-    ensures { result ≡ clockBefore (waitingClock (fourthOf marks.now image.now) a) (waitingClock (fourthOf marks.now image.now) b) }
+    ensures { result ≡ clock_before (waiting_clock (fourth_of marks.now image.now) a) (waiting_clock (fourth_of marks.now image.now) b) }
 {
     let n = image.len() / 16;
     let mut i = dot_from(image, marks, a, 0);
@@ -69,7 +69,7 @@ fn waits_before(image: &[u8], marks: &[u16], a: u8, b: u8) -> bool
 // Whether two waiting indexes have one clock.
 fn waits_same(image: &[u8], marks: &[u16], a: u8, b: u8) -> bool
     requires { length image.now / 16 ≤ length marks.now }
-    ensures { result ≡ sameDots (waitingClock (fourthOf marks.now image.now) a) (waitingClock (fourthOf marks.now image.now) b) }
+    ensures { result ≡ same_dots (waiting_clock (fourth_of marks.now image.now) a) (waiting_clock (fourth_of marks.now image.now) b) }
 {
     !waits_before(image, marks, a, b) & !waits_before(image, marks, b, a)
 }
@@ -84,10 +84,10 @@ fn is_lead(leads: &[u16], i: usize) -> bool
 
 // The lowest index with the clock of this one, by the leads of those below it.
 fn lead_of(image: &[u8], marks: &[u16], leads: &[u16], index: u8) -> u16
-    requires { (length image.now / 16 ≤ length marks.now) × (length leads.now ≡ 256) × (scanNumber 1 6 (fourthOf marks.now
+    requires { (length image.now / 16 ≤ length marks.now) × (length leads.now ≡ 256) × (scan_number 1 6 (fourth_of marks.now
         image.now) ≡ 0)
-        × ((w : ℕ) → w < index → Led (fourthOf marks.now image.now) w (get_or leads.now w 0)) }
-    ensures { Led (fourthOf marks.now image.now) index result }
+        × ((w : ℕ) → w < index → Led (fourth_of marks.now image.now) w (get_or leads.now w 0)) }
+    ensures { Led (fourth_of marks.now image.now) index result }
 {
     if !culling::has_left(
         image,
@@ -113,9 +113,9 @@ fn lead_of(image: &[u8], marks: &[u16], leads: &[u16], index: u8) -> u16
 
 // The leads of all indexes.
 fn find_leads(image: &[u8], marks: &[u16], leads: &mut [u16])
-    requires { (length image.now / 16 ≤ length marks.now) × (length leads.old ≡ 256) × (scanNumber 1 6 (fourthOf marks.now
+    requires { (length image.now / 16 ≤ length marks.now) × (length leads.old ≡ 256) × (scan_number 1 6 (fourth_of marks.now
         image.now) ≡ 0) }
-    ensures { LeadsOf (fourthOf marks.now image.now) leads.new }
+    ensures { LeadsOf (fourth_of marks.now image.now) leads.new }
 {
     let mut i: usize = 0;
     while i < INDEXES {
@@ -126,9 +126,9 @@ fn find_leads(image: &[u8], marks: &[u16], leads: &mut [u16])
 
 // How many leading indexes have a clock before that of an index.
 fn rank_of(image: &[u8], marks: &[u16], leads: &[u16], index: u8) -> u16
-    requires { (length image.now / 16 ≤ length marks.now) × (scanNumber 1 6 (fourthOf marks.now image.now) ≡ 0) × LeadsOf (fourthOf
+    requires { (length image.now / 16 ≤ length marks.now) × (scan_number 1 6 (fourth_of marks.now image.now) ≡ 0) × LeadsOf (fourth_of
         marks.now image.now) leads.now }
-    ensures { result ≡ waitingIndex (fourthOf marks.now image.now) index }
+    ensures { result ≡ waiting_index (fourth_of marks.now image.now) index }
 {
     let mut count: u16 = 0;
     let mut i: usize = 0;
@@ -146,9 +146,9 @@ fn rank_of(image: &[u8], marks: &[u16], leads: &[u16], index: u8) -> u16
 
 // The ranks of all indexes that have a clock.
 fn find_ranks(image: &[u8], marks: &[u16], leads: &[u16], ranks: &mut [u16])
-    requires { (length image.now / 16 ≤ length marks.now) × (scanNumber 1 6 (fourthOf marks.now image.now) ≡ 0) × LeadsOf (fourthOf
+    requires { (length image.now / 16 ≤ length marks.now) × (scan_number 1 6 (fourth_of marks.now image.now) ≡ 0) × LeadsOf (fourth_of
         marks.now image.now) leads.now × (length ranks.old ≡ 256) }
-    ensures { RanksOf (fourthOf marks.now image.now) ranks.new }
+    ensures { RanksOf (fourth_of marks.now image.now) ranks.new }
 {
     let mut i: usize = 0;
     while i < INDEXES {
@@ -162,11 +162,11 @@ fn find_ranks(image: &[u8], marks: &[u16], leads: &[u16], ranks: &mut [u16])
 
 // Whether a key can join those of its united clock that stay among the first n records: it is not there yet, and the clock has room.
 fn has_room(image: &[u8], marks: &[u16], leads: &[u16], n: usize, r: Record) -> bool
-    requires { (n ≤ length image.now / 16) × (length image.now / 16 ≤ length marks.now) × Supplied (fourthOf marks.now image.now)
-        × LeadsOf (fourthOf marks.now image.now) leads.now
-        × (r.index ∈ waitingIndexes (fourthOf marks.now image.now)) }
-    ensures { result ≡ not (listsAlready (fourthOf marks.now image.now) (leftItems 0 (take n (markedOf marks.now image.now))) r)
-        && keyRoom (fourthOf marks.now image.now) (leftItems 0 (take n (markedOf marks.now image.now))) r }
+    requires { (n ≤ length image.now / 16) × (length image.now / 16 ≤ length marks.now) × Supplied (fourth_of marks.now image.now)
+        × LeadsOf (fourth_of marks.now image.now) leads.now
+        × (r.index ∈ waiting_indexes (fourth_of marks.now image.now)) }
+    ensures { result ≡ not (lists_already (fourth_of marks.now image.now) (left_items 0 (take n (marked_of marks.now image.now))) r)
+        && key_room (fourth_of marks.now image.now) (left_items 0 (take n (marked_of marks.now image.now))) r }
 {
     let lead = leads[r.index as usize];
     let mut count: usize = 0;
@@ -189,10 +189,10 @@ fn has_room(image: &[u8], marks: &[u16], leads: &[u16], n: usize, r: Record) -> 
 
 // Whether the record at place i stays in step 5.
 fn is_united(image: &[u8], marks: &[u16], leads: &[u16], i: usize, r: Record) -> bool
-    requires { (i ≤ length image.now / 16) × (length image.now / 16 ≤ length marks.now) × Supplied (fourthOf marks.now image.now)
-        × LeadsOf (fourthOf marks.now image.now) leads.now
-        × (r ∈ fourthOf marks.now image.now) }
-    ensures { result ≡ keptByFive (fourthOf marks.now image.now) (leftItems 0 (take i (markedOf marks.now
+    requires { (i ≤ length image.now / 16) × (length image.now / 16 ≤ length marks.now) × Supplied (fourth_of marks.now image.now)
+        × LeadsOf (fourth_of marks.now image.now) leads.now
+        × (r ∈ fourth_of marks.now image.now) }
+    ensures { result ≡ kept_by_five (fourth_of marks.now image.now) (left_items 0 (take i (marked_of marks.now
         image.now))) r }
 {
     if r.kind == WAITING_DOT {
@@ -206,10 +206,10 @@ fn is_united(image: &[u8], marks: &[u16], leads: &[u16], i: usize, r: Record) ->
 
 // Step 5, what goes: clocks that a lower index has, keys that their united clock has, and those above its 16 lowest.
 fn mark_united(image: &[u8], marks: &mut [u16], leads: &[u16])
-    requires { (length image.now / 16 ≤ length marks.old) × Says marks.old image.now (afterFour (recordsOf image.now))
-        × LeadsOf (staying (afterFour (recordsOf image.now))) leads.now }
-    ensures { Says marks.new image.now (unitedFates (recordsOf image.now))
-        × (fourthOf marks.new image.now ≡ staying (afterFour (recordsOf image.now))) }
+    requires { (length image.now / 16 ≤ length marks.old) × Says marks.old image.now (after_four (records_of image.now))
+        × LeadsOf (staying (after_four (records_of image.now))) leads.now }
+    ensures { Says marks.new image.now (united_fates (records_of image.now))
+        × (fourth_of marks.new image.now ≡ staying (after_four (records_of image.now))) }
 {
     let n = image.len() / 16;
     let mut i: usize = 0;
@@ -226,8 +226,8 @@ fn mark_united(image: &[u8], marks: &mut [u16], leads: &[u16])
 
 // How many values that step 4 left have this key and a lower index.
 fn values_below(image: &[u8], marks: &[u16], key: u32, index: u8) -> u16
-    requires { (length image.now / 16 ≤ length marks.now) × (length image.now ≤ mapLongest) }
-    ensures { (result ≡ length (those (λ s. underKey valueKind key s && ltb s.index index) (fourthOf marks.now image.now))) × (result ≤ length image.now / 16) }
+    requires { (length image.now / 16 ≤ length marks.now) × (length image.now ≤ map_longest) }
+    ensures { (result ≡ length (those (λ s. under_key value_kind key s && ltb s.index index) (fourth_of marks.now image.now))) × (result ≤ length image.now / 16) }
 {
     let n = image.len() / 16;
     let mut count: u16 = 0;
@@ -247,10 +247,10 @@ fn values_below(image: &[u8], marks: &[u16], key: u32, index: u8) -> u16
 
 // The index that a record takes.
 fn new_index(image: &[u8], marks: &[u16], ranks: &[u16], r: Record) -> u16
-    requires { (length image.now / 16 ≤ length marks.now) × (length image.now ≤ mapLongest) × Supplied (fourthOf marks.now
-        image.now) × RanksOf (fourthOf marks.now image.now) ranks.now
-        × (r ∈ fourthOf marks.now image.now) }
-    ensures { (result ≡ newIndex (fourthOf marks.now image.now) r) × (result < 256) }
+    requires { (length image.now / 16 ≤ length marks.now) × (length image.now ≤ map_longest) × Supplied (fourth_of marks.now
+        image.now) × RanksOf (fourth_of marks.now image.now) ranks.now
+        × (r ∈ fourth_of marks.now image.now) }
+    ensures { (result ≡ new_index (fourth_of marks.now image.now) r) × (result < 256) }
 {
     if (r.kind == VALUE) | (r.kind == VALUE_DOT) {
         return values_below(image, marks, r.key, r.index);
@@ -263,11 +263,11 @@ fn new_index(image: &[u8], marks: &[u16], ranks: &[u16], r: Record) -> u16
 
 // Step 5, what changes: index gaps are closed, and waiting clocks put in order.
 fn mark_changed(image: &[u8], marks: &mut [u16], ranks: &[u16])
-    requires { (length image.now / 16 ≤ length marks.old) × (length image.now ≤ mapLongest)
-        × Says marks.old image.now (unitedFates (recordsOf image.now))
-        × (fourthOf marks.old image.now ≡ staying (afterFour (recordsOf image.now)))
-        × RanksOf (staying (afterFour (recordsOf image.now))) ranks.now }
-    ensures { Tells marks.new image.now (fatesOf (recordsOf image.now)) }
+    requires { (length image.now / 16 ≤ length marks.old) × (length image.now ≤ map_longest)
+        × Says marks.old image.now (united_fates (records_of image.now))
+        × (fourth_of marks.old image.now ≡ staying (after_four (records_of image.now)))
+        × RanksOf (staying (after_four (records_of image.now))) ranks.now }
+    ensures { Tells marks.new image.now (fates_of (records_of image.now)) }
 {
     let n = image.len() / 16;
     let mut i: usize = 0;
@@ -286,9 +286,9 @@ fn mark_changed(image: &[u8], marks: &mut [u16], ranks: &[u16])
 
 // Step 5.
 pub fn mark_indexes(image: &[u8], marks: &mut [u16])
-    requires { (length image.now / 16 ≤ length marks.old) × (length image.now ≤ mapLongest)
-        × Says marks.old image.now (afterFour (recordsOf image.now)) }
-    ensures { Tells marks.new image.now (fatesOf (recordsOf image.now)) }
+    requires { (length image.now / 16 ≤ length marks.old) × (length image.now ≤ map_longest)
+        × Says marks.old image.now (after_four (records_of image.now)) }
+    ensures { Tells marks.new image.now (fates_of (records_of image.now)) }
 {
     let mut leads = [256u16; INDEXES];
     let mut ranks = [256u16; INDEXES];

@@ -6,14 +6,14 @@ use native.Mathlib.Omega.{arith}
 use Rattle.listlaws.specs.Order.{◌∈◌}
 use Rattle.clock.specs.declared.Clock.{Clock}
 use Rattle.clock.specs.declared.Dot.{Dot}
-use Rattle.clock.specs.Dots.{clockOf, cutDots, joinDots}
+use Rattle.clock.specs.Dots.{clock_of, cut_dots, join_dots}
 use Rattle.clock.specs.Lawful.{Lawful}
 use Rattle.clock.proofs.Cuts.{lawful-cut}
 use Rattle.clock.proofs.Joins.{lawful-join}
-use Rattle.register.specs.Values.{cutValues, mergeValues}
+use Rattle.register.specs.Values.{cut_values, merge_values}
 use Rattle.entries.specs.declared.Entry.{Entry}
-use Rattle.entries.specs.Model.{dotsIn, valuesIn, entryAs}
-use Rattle.entries.specs.Entries.{cutAlone, keepDots, mergeBoth}
+use Rattle.entries.specs.Model.{dots_in, values_in, entry_as}
+use Rattle.entries.specs.Entries.{cut_alone, keep_dots, merge_both}
 use Rattle.walks.specs.declared.Layout.{Layout}
 use Rattle.entrywalk.specs.declared.Cursor.{Cursor}
 use Rattle.entrywalk.specs.declared.Lain.{Lain}
@@ -25,26 +25,26 @@ use Rattle.merging.proofs.Weaving.{woven-first, woven-second, woven-both, merge_
 
 module _ (s t : List ℕ) (l m : Layout) (mine yours : List Dot) (x y : Cursor) (es fs : List Entry) (h : Ahead s l x es) (k : Ahead t m y fs) where
   pub comes-ours : (a : Alone) (n : Lain) → GoesAlone s l x yours es a → Lawful yours → ((f : Entry) → f ∈ fs → a.entry.key < f.key)
-      → LiesAt t (entryAs a.entry.key [] []) n → n.next ≡ y
+      → LiesAt t (entry_as a.entry.key [] []) n → n.next ≡ y
       → MergeComes s t l m mine yours x y es fs (record { x = a.entry; y = n; keep = a.keep; gone = a.gone })
-  unfolding cutAlone
+  unfolding cut_alone
   comes-ours a n g lawful above none on =
       let e = g.steps.entry in
       let same = g.steps.lies.key in
       let forward = g.steps.onward in
       let place = ap (λ (c : Cursor). c.own) on in
-      let keep = cutDots yours (dotsIn e) in
-      let gone = cutDots keep yours in
+      let keep = cut_dots yours (dots_in e) in
+      let gone = cut_dots keep yours in
       record {
         ours = e;
-        theirs = entryAs a.entry.key [] [];
+        theirs = entry_as a.entry.key [] [];
         more = g.steps.more;
         others = fs;
         keep = keep;
         gone = gone;
         first = ap (λ z. woven mine yours z fs) g.steps.parts ∙ woven-first mine yours e g.steps.more fs
             (λ f i. omega (arith, same, above f i))
-            ∙ ap₂ (λ z v. entryAs z keep (cutValues gone v) ∷ woven mine yours g.steps.more fs) (sym same) (sym (merge_none (valuesIn e)));
+            ∙ ap₂ (λ z v. entry_as z keep (cut_values gone v) ∷ woven mine yours g.steps.more fs) (sym same) (sym (merge_none (values_in e)));
         kept = g.keep;
         lost = g.gone;
         lawful = lawful-cut keep lawful;
@@ -65,18 +65,18 @@ module _ (s t : List ℕ) (l m : Layout) (mine yours : List Dot) (x y : Cursor) 
       }
 
   pub comes-theirs : (a : Alone) (n : Lain) → GoesAlone t m y mine fs a → Lawful mine → ((e : Entry) → e ∈ es → a.entry.key < e.key)
-      → LiesAt s (entryAs a.entry.key [] []) n → n.key ≡ a.entry.key → n.next ≡ x
+      → LiesAt s (entry_as a.entry.key [] []) n → n.key ≡ a.entry.key → n.next ≡ x
       → MergeComes s t l m mine yours x y es fs (record { x = n; y = a.entry; keep = a.keep; gone = a.gone })
-  unfolding cutAlone
+  unfolding cut_alone
   comes-theirs a n g lawful above none key on =
       let f = g.steps.entry in
       let same = g.steps.lies.key in
       let forward = g.steps.onward in
       let place = ap (λ (c : Cursor). c.own) on in
-      let keep = cutDots mine (dotsIn f) in
-      let gone = cutDots keep mine in
+      let keep = cut_dots mine (dots_in f) in
+      let gone = cut_dots keep mine in
       record {
-        ours = entryAs a.entry.key [] [];
+        ours = entry_as a.entry.key [] [];
         theirs = f;
         more = es;
         others = g.steps.more;
@@ -84,8 +84,8 @@ module _ (s t : List ℕ) (l m : Layout) (mine yours : List Dot) (x y : Cursor) 
         gone = gone;
         first = ap (λ z. woven mine yours es z) g.steps.parts ∙ woven-second mine yours f es g.steps.more
             (λ e i. omega (arith, same, above e i))
-            ∙ ap₂ (λ z v. entryAs z keep (cutValues gone v) ∷ woven mine yours es g.steps.more) (sym same ∙ sym key)
-            (sym (none-merge (valuesIn f)));
+            ∙ ap₂ (λ z v. entry_as z keep (cut_values gone v) ∷ woven mine yours es g.steps.more) (sym same ∙ sym key)
+            (sym (none-merge (values_in f)));
         kept = g.keep;
         lost = g.gone;
         lawful = lawful-cut keep lawful;
@@ -106,26 +106,26 @@ module _ (s t : List ℕ) (l m : Layout) (mine yours : List Dot) (x y : Cursor) 
       }
 
   pub comes-both : {a b : Lain} (g : Steps s l x es a) (i : Steps t m y fs b) → g.entry.key ≡ i.entry.key
-      → {keep gone : Clock} → keep ≡ clockOf (keepDots mine yours (dotsIn g.entry) (dotsIn i.entry))
-      → gone ≡ clockOf (cutDots (keepDots mine yours (dotsIn g.entry) (dotsIn i.entry)) (joinDots (dotsIn g.entry) (dotsIn i.entry)))
+      → {keep gone : Clock} → keep ≡ clock_of (keep_dots mine yours (dots_in g.entry) (dots_in i.entry))
+      → gone ≡ clock_of (cut_dots (keep_dots mine yours (dots_in g.entry) (dots_in i.entry)) (join_dots (dots_in g.entry) (dots_in i.entry)))
       → MergeComes s t l m mine yours x y es fs (record { x = a; y = b; keep = keep; gone = gone })
-  unfolding mergeBoth
+  unfolding merge_both
   comes-both {a} {b} g i level p q =
       let e = g.entry in
       let f = i.entry in
       let same = g.lies.key in
       let forward = g.onward in
       let outward = i.onward in
-      let keep = keepDots mine yours (dotsIn e) (dotsIn f) in
+      let keep = keep_dots mine yours (dots_in e) (dots_in f) in
       record {
         ours = e;
         theirs = f;
         more = g.more;
         others = i.more;
         keep = keep;
-        gone = cutDots keep (joinDots (dotsIn e) (dotsIn f));
+        gone = cut_dots keep (join_dots (dots_in e) (dots_in f));
         first = ap₂ (λ z w. woven mine yours z w) g.parts i.parts ∙ woven-both mine yours e f g.more i.more level
-            ∙ ap (λ z. entryAs z keep (cutValues (cutDots keep (joinDots (dotsIn e) (dotsIn f))) (mergeValues (valuesIn e) (valuesIn f))) ∷ woven mine
+            ∙ ap (λ z. entry_as z keep (cut_values (cut_dots keep (join_dots (dots_in e) (dots_in f))) (merge_values (values_in e) (values_in f))) ∷ woven mine
             yours g.more i.more) (sym same);
         kept = p;
         lost = q;

@@ -4,14 +4,14 @@ use Rattle.listlaws.specs.Order.{◌∈◌, by}
 use Rattle.listlaws.specs.Sift.{sift}
 use Rattle.listlaws.specs.Weave.{weave}
 use Rattle.clock.specs.declared.Dot.{Dot}
-use Rattle.clock.specs.Dots.{clockOf, cutDots}
+use Rattle.clock.specs.Dots.{clock_of, cut_dots}
 use Rattle.clock.specs.Lawful.{Lawful}
-use Rattle.register.specs.Values.{cutValues, mergeValues}
+use Rattle.register.specs.Values.{cut_values, merge_values}
 use Rattle.entries.specs.declared.Entry.{Entry}
-use Rattle.entries.specs.Model.{dotsIn, valuesIn, entryAs}
-use Rattle.entries.specs.Entries.{stays, run, cutAlone, mergeBoth, mergeEntries}
+use Rattle.entries.specs.Model.{dots_in, values_in, entry_as}
+use Rattle.entries.specs.Entries.{stays, run, cut_alone, merge_both, merge_entries}
 use Rattle.map.specs.declared.Map.{Map}
-use Rattle.map.specs.Model.{seenBy, entriesIn, waitingIn}
+use Rattle.map.specs.Model.{seen_by, entries_in, waiting_in}
 use Rattle.walks.specs.declared.Layout.{Layout}
 use Rattle.entrywalk.specs.declared.Cursor.{Cursor}
 use Rattle.entrywalk.specs.Walking.{Ahead, LiesAt, Steps}
@@ -20,13 +20,13 @@ use Rattle.merging.specs.declared.Coming.{Coming}
 
 -- both maps' entries by key, each cut or merged, before any goes
 abbrev pub woven : List Dot → List Dot → List Entry → List Entry → List Entry
-woven mine yours l m = weave (by (λ e. e.key)) (cutAlone yours) (cutAlone mine) (mergeBoth mine yours) l m
+woven mine yours l m = weave (by (λ e. e.key)) (cut_alone yours) (cut_alone mine) (merge_both mine yours) l m
 
 -- the first of some entries, which the other map does not have
 pub record GoesAlone (s : List ℕ) (l : Layout) (x : Cursor) (other : List Dot) (es : List Entry) (r : Alone) : Type 0 where
   pub steps : Steps s l x es r.entry
-  pub keep : r.keep ≡ clockOf (cutDots other (dotsIn steps.entry))
-  pub gone : r.gone ≡ clockOf (cutDots (cutDots other (dotsIn steps.entry)) other)
+  pub keep : r.keep ≡ clock_of (cut_dots other (dots_in steps.entry))
+  pub gone : r.gone ≡ clock_of (cut_dots (cut_dots other (dots_in steps.entry)) other)
 
 -- what comes next of the entries of two maps, es and fs: an entry of each side, empty where that side has none of the key
 pub record MergeComes (s t : List ℕ) (l m : Layout) (mine yours : List Dot) (x y : Cursor) (es fs : List Entry) (r : Coming) : Type 0 where
@@ -36,10 +36,10 @@ pub record MergeComes (s t : List ℕ) (l m : Layout) (mine yours : List Dot) (x
   pub others : List Entry
   pub keep : List Dot
   pub gone : List Dot
-  pub first : woven mine yours es fs ≡ entryAs r.x.key keep (cutValues gone (mergeValues (valuesIn ours) (valuesIn theirs))) ∷ woven mine yours
+  pub first : woven mine yours es fs ≡ entry_as r.x.key keep (cut_values gone (merge_values (values_in ours) (values_in theirs))) ∷ woven mine yours
       more others
-  pub kept : r.keep ≡ clockOf keep
-  pub lost : r.gone ≡ clockOf gone
+  pub kept : r.keep ≡ clock_of keep
+  pub lost : r.gone ≡ clock_of gone
   pub lawful : Lawful gone
   pub here : LiesAt s ours r.x
   pub there : LiesAt t theirs r.y
@@ -57,5 +57,5 @@ pub record MergeComes (s t : List ℕ) (l m : Layout) (mine yours : List Dot) (x
   pub fewer : length more + length others < length es + length fs
 
 -- the entries of a merge: both maps' entries as one, each with their waiting removals and then ours
-abbrev pub mergedEntries : Map → Map → List Entry
-mergedEntries m n = sift stays (λ e. run (waitingIn m) (run (waitingIn n) e)) (mergeEntries (seenBy m) (seenBy n) (entriesIn m) (entriesIn n))
+abbrev pub merged_entries : Map → Map → List Entry
+merged_entries m n = sift stays (λ e. run (waiting_in m) (run (waiting_in n) e)) (merge_entries (seen_by m) (seen_by n) (entries_in m) (entries_in n))

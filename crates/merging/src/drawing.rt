@@ -2,22 +2,22 @@
 ghost use Rattle.std.specs.Prelude.{◌≡◌, false, List, [], ℕ, ◌≤◌, length};
 ghost use Rattle.listlaws.specs.Sift.{sift};
 ghost use Rattle.clock.specs.declared.Dot.{Dot};
-ghost use Rattle.limits.specs.Limits.{dotLimit};
-ghost use Rattle.clock.specs.Dots.{dotsOf, clockOf, is_empty, joinDots};
+ghost use Rattle.limits.specs.Limits.{dot_limit};
+ghost use Rattle.clock.specs.Dots.{dots_of, clock_of, is_empty, join_dots};
 ghost use Rattle.clock.specs.Lawful.{Lawful};
-ghost use Rattle.register.specs.Values.{alive, mergeValues};
+ghost use Rattle.register.specs.Values.{alive, merge_values};
 ghost use Rattle.entries.specs.declared.Entry.{Entry};
 ghost use Rattle.removals.specs.declared.Removal.{Removal};
-ghost use Rattle.entries.specs.Model.{valuesIn};
-ghost use Rattle.map.specs.Model.{seenBy, waitingIn};
-ghost use Rattle.mapimage.specs.MapImage.{mapLongest};
-ghost use Rattle.maprecords.specs.Related.{readMap};
+ghost use Rattle.entries.specs.Model.{values_in};
+ghost use Rattle.map.specs.Model.{seen_by, waiting_in};
+ghost use Rattle.mapimage.specs.MapImage.{map_longest};
+ghost use Rattle.maprecords.specs.Related.{read_map};
 ghost use Rattle.layout.specs.Whole.{LaidOut};
-ghost use Rattle.queued.specs.Queue.{cutsFor, Queued, Marked};
+ghost use Rattle.queued.specs.Queue.{cuts_for, Queued, Marked};
 ghost use Rattle.entrywalk.specs.Walking.{LiesAt};
-ghost use Rattle.sketch.specs.Drawn.{clockApart, Draws, Sketches};
-ghost use Rattle.merging.specs.Coming.{mergedEntries};
-ghost use Rattle.leaving.specs.Left.{valueLeft};
+ghost use Rattle.sketch.specs.Drawn.{clock_apart, Draws, Sketches};
+ghost use Rattle.merging.specs.Coming.{merged_entries};
+ghost use Rattle.leaving.specs.Left.{value_left};
 
 use crate::Coming;
 use clock::Clock;
@@ -39,7 +39,7 @@ fn clock_left(
 ) -> Clock
     requires { ((w : List Removal) × Queued s.now cs w) × ((w : List Removal) × Queued t.now ds w) }
     ensures { (v w : List Removal) (key : ℕ) (d : List Dot) → Queued t.now ds v → Queued s.now cs w
-        → Marked v key theirs → Marked w key ours → clock ≡ clockOf d → result ≡ clockOf (cutsFor w key (cutsFor v key d)) }
+        → Marked v key theirs → Marked w key ours → clock ≡ clock_of d → result ≡ clock_of (cuts_for w key (cuts_for v key d)) }
 {
     let half = queued::cut_listed(t, ds, theirs, clock);
     queued::cut_listed(s, cs, ours, half)
@@ -57,13 +57,13 @@ fn draw_both(
     theirs: [bool; WAITING],
 ) -> Sketched
     requires { (bare.len ≡ 0) × ((((e : Entry) × LiesAt s.now e c.x) × ((e : Entry) × LiesAt t.now e c.y))
-        × (((Lawful (dotsOf c.gone)) × ((length s.now ≤ mapLongest) × (length t.now ≤ mapLongest)))
+        × (((Lawful (dots_of c.gone)) × ((length s.now ≤ map_longest) × (length t.now ≤ map_longest)))
         × (((w : List Removal) × Queued s.now cs w) × ((w : List Removal) × Queued t.now ds w)))) }
     ensures { (key : ℕ) (d : List Dot) (e f : Entry) (u w : List Removal) → Draws s.now t.now key d [] bare
         → LiesAt s.now e c.x → LiesAt t.now f c.y → f.key ≡ e.key
         → Queued t.now ds u → Queued s.now cs w → Marked u e.key theirs → Marked w e.key ours
-        → Draws s.now t.now key d (sift alive (valueLeft w u e.key (dotsOf c.gone))
-        (mergeValues (valuesIn e) (valuesIn f))) result }
+        → Draws s.now t.now key d (sift alive (value_left w u e.key (dots_of c.gone))
+        (merge_values (values_in e) (values_in f))) result }
 {
     let x = c.x;
     let y = c.y;
@@ -90,14 +90,14 @@ fn draw_key(
     theirs: [bool; WAITING],
 ) -> Sketched
     requires { (((e : Entry) × LiesAt s.now e c.x) × ((e : Entry) × LiesAt t.now e c.y))
-        × (((Lawful (dotsOf c.gone)) × ((length s.now ≤ mapLongest) × (length t.now ≤ mapLongest)))
+        × (((Lawful (dots_of c.gone)) × ((length s.now ≤ map_longest) × (length t.now ≤ map_longest)))
         × (((w : List Removal) × Queued s.now cs w) × ((w : List Removal) × Queued t.now ds w))) }
-    ensures { (d : List Dot) (e f : Entry) (u w : List Removal) → c.keep ≡ clockOf d → LiesAt s.now e c.x
+    ensures { (d : List Dot) (e f : Entry) (u w : List Removal) → c.keep ≡ clock_of d → LiesAt s.now e c.x
         → LiesAt t.now f c.y → f.key ≡ e.key
         → Queued t.now ds u → Queued s.now cs w → Marked u e.key theirs → Marked w e.key ours
-        → (clockApart result.own ≡ clockOf (cutsFor w e.key (cutsFor u e.key d))) × (is_empty (cutsFor w e.key (cutsFor u e.key d)) ≡ false
-        → Draws s.now t.now c.x.key (cutsFor w e.key (cutsFor u e.key d))
-        (sift alive (valueLeft w u e.key (dotsOf c.gone)) (mergeValues (valuesIn e) (valuesIn f))) result) }
+        → (clock_apart result.own ≡ clock_of (cuts_for w e.key (cuts_for u e.key d))) × (is_empty (cuts_for w e.key (cuts_for u e.key d)) ≡ false
+        → Draws s.now t.now c.x.key (cuts_for w e.key (cuts_for u e.key d))
+        (sift alive (value_left w u e.key (dots_of c.gone)) (merge_values (values_in e) (values_in f))) result) }
 {
     let x = c.x;
     let keep = c.keep;
@@ -111,11 +111,11 @@ fn draw_key(
 
 // The entries of a merge, key by key.
 fn draw_keys(s: &[u8], t: &[u8], a: Laid, b: Laid, cs: Queue, ds: Queue) -> Sketch
-    requires { (LaidOut s.now (readMap s.now).map a × LaidOut t.now (readMap t.now).map b)
-        × ((Queued s.now cs (waitingIn (readMap s.now).map) × Queued t.now ds (waitingIn (readMap t.now).map))
-        × (((length s.now ≤ mapLongest) × (length t.now ≤ mapLongest))
-        × (length (joinDots (seenBy (readMap s.now).map) (seenBy (readMap t.now).map)) ≤ dotLimit))) }
-    ensures { Sketches s.now t.now (mergedEntries (readMap s.now).map (readMap t.now).map) result }
+    requires { (LaidOut s.now (read_map s.now).map a × LaidOut t.now (read_map t.now).map b)
+        × ((Queued s.now cs (waiting_in (read_map s.now).map) × Queued t.now ds (waiting_in (read_map t.now).map))
+        × (((length s.now ≤ map_longest) × (length t.now ≤ map_longest))
+        × (length (join_dots (seen_by (read_map s.now).map) (seen_by (read_map t.now).map)) ≤ dot_limit))) }
+    ensures { Sketches s.now t.now (merged_entries (read_map s.now).map (read_map t.now).map) result }
 {
     let l = a.layout;
     let m = b.layout;
@@ -169,11 +169,11 @@ fn draw_keys(s: &[u8], t: &[u8], a: Laid, b: Laid, cs: Queue, ds: Queue) -> Sket
 
 // The entries of a merge. Called at two places, the drawing keeps a frame of its own, and what is written afterwards does not stand on top of it.
 pub fn draw_merged(s: &[u8], t: &[u8], a: Laid, b: Laid, cs: Queue, ds: Queue) -> Sketch
-    requires { (LaidOut s.now (readMap s.now).map a × LaidOut t.now (readMap t.now).map b)
-        × ((Queued s.now cs (waitingIn (readMap s.now).map) × Queued t.now ds (waitingIn (readMap t.now).map))
-        × (((length s.now ≤ mapLongest) × (length t.now ≤ mapLongest))
-        × (length (joinDots (seenBy (readMap s.now).map) (seenBy (readMap t.now).map)) ≤ dotLimit))) }
-    ensures { Sketches s.now t.now (mergedEntries (readMap s.now).map (readMap t.now).map) result }
+    requires { (LaidOut s.now (read_map s.now).map a × LaidOut t.now (read_map t.now).map b)
+        × ((Queued s.now cs (waiting_in (read_map s.now).map) × Queued t.now ds (waiting_in (read_map t.now).map))
+        × (((length s.now ≤ map_longest) × (length t.now ≤ map_longest))
+        × (length (join_dots (seen_by (read_map s.now).map) (seen_by (read_map t.now).map)) ≤ dot_limit))) }
+    ensures { Sketches s.now t.now (merged_entries (read_map s.now).map (read_map t.now).map) result }
 {
     if cs.len + ds.len == 0 {
         let none = Queue::none();

@@ -1,12 +1,12 @@
 // The next key of a merge, from two images where they lie.
 ghost use Rattle.std.specs.Prelude.{◌≡◌, true, ◌||◌, List, ◌*◌, ◌≤◌, ◌<◌, ltb, length};
 ghost use Rattle.listlaws.specs.Order.{◌∈◌};
-ghost use Rattle.limits.specs.Limits.{dotLimit};
-ghost use Rattle.clock.specs.Dots.{dotsOf, clockOf, cutDots, joinDots};
+ghost use Rattle.limits.specs.Limits.{dot_limit};
+ghost use Rattle.clock.specs.Dots.{dots_of, clock_of, cut_dots, join_dots};
 ghost use Rattle.clock.specs.Lawful.{Lawful};
 ghost use Rattle.entries.specs.declared.Entry.{Entry};
-ghost use Rattle.entries.specs.Model.{dotsIn};
-ghost use Rattle.entries.specs.Entries.{keepDots};
+ghost use Rattle.entries.specs.Model.{dots_in};
+ghost use Rattle.entries.specs.Entries.{keep_dots};
 ghost use Rattle.entrywalk.specs.Walking.{Ahead, LiesAt};
 ghost use Rattle.merging.specs.Coming.{GoesAlone, MergeComes};
 
@@ -18,8 +18,8 @@ use walks::Layout;
 
 // The next entry of a map, where the other map does not have it.
 fn alone(s: &[u8], l: Layout, x: Cursor, other: Clock) -> Alone
-    requires { (x.own < l.third) × (((es : List Entry) × Ahead s.now l x es) × Lawful (dotsOf other)) }
-    ensures { (es : List Entry) → Ahead s.now l x es → GoesAlone s.now l x (dotsOf other) es result }
+    requires { (x.own < l.third) × (((es : List Entry) × Ahead s.now l x es) × Lawful (dots_of other)) }
+    ensures { (es : List Entry) → Ahead s.now l x es → GoesAlone s.now l x (dots_of other) es result }
 {
     let entry = entrywalk::entry_at(s, l, x);
     let keep = entrywalk::own_left(s, entry, other);
@@ -48,11 +48,11 @@ fn is_equal(o: Order) -> bool
 
 // What a merge keeps of the dots of two entries, and what it deletes: all and nothing where both have the same.
 fn meet(s: &[u8], e: Lain, t: &[u8], f: Lain, mine: Clock, yours: Clock) -> Kept
-    requires { ((x y : Entry) × LiesAt s.now x e × LiesAt t.now y f × (length (joinDots (dotsIn x) (dotsIn y)) ≤ dotLimit))
-        × (Lawful (dotsOf mine) × Lawful (dotsOf yours)) }
+    requires { ((x y : Entry) × LiesAt s.now x e × LiesAt t.now y f × (length (join_dots (dots_in x) (dots_in y)) ≤ dot_limit))
+        × (Lawful (dots_of mine) × Lawful (dots_of yours)) }
     ensures { (x y : Entry) → LiesAt s.now x e → LiesAt t.now y f
-        → (result.keep ≡ clockOf (keepDots (dotsOf mine) (dotsOf yours) (dotsIn x) (dotsIn y)))
-        × (result.gone ≡ clockOf (cutDots (keepDots (dotsOf mine) (dotsOf yours) (dotsIn x) (dotsIn y)) (joinDots (dotsIn x) (dotsIn y)))) }
+        → (result.keep ≡ clock_of (keep_dots (dots_of mine) (dots_of yours) (dots_in x) (dots_in y)))
+        × (result.gone ≡ clock_of (cut_dots (keep_dots (dots_of mine) (dots_of yours) (dots_in x) (dots_in y)) (join_dots (dots_in x) (dots_in y)))) }
 {
     let ours = e.dots;
     let theirs = f.dots;
@@ -85,10 +85,10 @@ pub fn next(
     y: Cursor,
 ) -> Coming
     requires { ((ltb x.own l.third || ltb y.own m.third) ≡ true)
-        × ((Lawful (dotsOf mine) × Lawful (dotsOf yours)) × ((es fs : List Entry) × Ahead s.now l x es × Ahead t.now m y fs
-        × ((e f : Entry) → e ∈ es → f ∈ fs → length (joinDots (dotsIn e) (dotsIn f)) ≤ dotLimit))) }
+        × ((Lawful (dots_of mine) × Lawful (dots_of yours)) × ((es fs : List Entry) × Ahead s.now l x es × Ahead t.now m y fs
+        × ((e f : Entry) → e ∈ es → f ∈ fs → length (join_dots (dots_in e) (dots_in f)) ≤ dot_limit))) }
     ensures { (es fs : List Entry) → Ahead s.now l x es → Ahead t.now m y fs
-        → MergeComes s.now t.now l m (dotsOf mine) (dotsOf yours) x y es fs result }
+        → MergeComes s.now t.now l m (dots_of mine) (dots_of yours) x y es fs result }
 {
     let p = entrywalk::head(s, x.own, l.third);
     let q = entrywalk::head(t, y.own, m.third);

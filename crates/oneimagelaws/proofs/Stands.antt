@@ -11,16 +11,16 @@ use lib.Dec.{eqb}
 use lib.ListN.{length, get_or}
 use Rattle.listlaws.specs.Order.{◌∈◌}
 use Rattle.clock.specs.declared.Dot.{Dot}
-use Rattle.clock.specs.Dots.{dotsOf}
+use Rattle.clock.specs.Dots.{dots_of}
 use Rattle.register.specs.declared.Value.{Value}
 use Rattle.entries.specs.declared.Entry.{Entry}
 use Rattle.removals.specs.declared.Removal.{Removal}
-use Rattle.entries.specs.Model.{dotsIn, valuesIn}
-use Rattle.removals.specs.Model.{underOf, listedIn}
+use Rattle.entries.specs.Model.{dots_in, values_in}
+use Rattle.removals.specs.Model.{under_of, listed_in}
 use Rattle.records.specs.declared.Record.{Record}
-use Rattle.clockimage.specs.Image.{dotRecord, dotRecords}
-use Rattle.mapimage.specs.Sorted.{inOrder}
-use Rattle.mapimage.specs.MapImage.{flatFrom, valueRecord, valueRecords, entryRecords, waitingDots, keyNumber, keyNumbers, numberRecord, recordsIn}
+use Rattle.clockimage.specs.Image.{dot_record, dot_records}
+use Rattle.mapimage.specs.Sorted.{in_order}
+use Rattle.mapimage.specs.MapImage.{flat_from, value_record, value_records, entry_records, waiting_dots, key_number, key_numbers, number_record, records_in}
 use Rattle.mapimage.proofs.Sorts.{order-has, order-from-list}
 
 -- x stands at place j, counted from 0
@@ -58,9 +58,9 @@ module _ {A : Type 0} where
 
 -- what f gives at a place stands in the whole, and nothing else
 module _ {A B : Type 0} (f : ℕ → A → List B) where
-  pub flat-has-from : (i : ℕ) {x : A} {j : ℕ} {l : List A} → Place x j l → (z : B) → z ∈ f (i + j) x → z ∈ flatFrom f i l
-  unfolding flatFrom
-  flat-has-from i (first {l = l} e) z m = let same : i + 0 ≡ i = omega arith in Memᴰ.append_left (flatFrom f (i + 1) l) (rw (e, same) at m)
+  pub flat-has-from : (i : ℕ) {x : A} {j : ℕ} {l : List A} → Place x j l → (z : B) → z ∈ f (i + j) x → z ∈ flat_from f i l
+  unfolding flat_from
+  flat-has-from i (first {l = l} e) z m = let same : i + 0 ≡ i = omega arith in Memᴰ.append_left (flat_from f (i + 1) l) (rw (e, same) at m)
   flat-has-from i {x} (later {y = y} {l = l} {j = j} p) z m =
       let same : i + suc j ≡ i + 1 + j = omega arith in Memᴰ.append_right (f i y) (flat-has-from (i + 1) p z (rw same at m))
 
@@ -70,8 +70,8 @@ module _ {A B : Type 0} (f : ℕ → A → List B) where
     pub stands : Place source place l
     pub given : z ∈ f (i + place) source
 
-  pub flat-means-from : (i : ℕ) (l : List A) (z : B) → z ∈ flatFrom f i l → Flat i l z
-  unfolding flatFrom
+  pub flat-means-from : (i : ℕ) (l : List A) (z : B) → z ∈ flat_from f i l → Flat i l z
+  unfolding flat_from
   flat-means-from i [] z m = absurd (Memᴰ.not-nil m)
   flat-means-from i (x ∷ l) z m =
       ⊎_elim (λ a. let same : i ≡ i + 0 = omega arith in record { place = zero; source = x; stands = first refl; given = rw (← same) a })
@@ -80,10 +80,10 @@ module _ {A B : Type 0} (f : ℕ → A → List B) where
       record { place = suc r.place; source = r.source; stands = later r.stands; given = rw same at r.given })
       (Memᴰ.append_cases (f i x) m)
 
-  pub flat_has : {x : A} {j : ℕ} {l : List A} → Place x j l → (z : B) → z ∈ f j x → z ∈ flatFrom f 0 l
+  pub flat_has : {x : A} {j : ℕ} {l : List A} → Place x j l → (z : B) → z ∈ f j x → z ∈ flat_from f 0 l
   flat_has {x} {j} p z m = let same : 0 + j ≡ j = omega arith in flat-has-from 0 p z (rw same m)
 
-  pub flat-means : {l : List A} (z : B) → z ∈ flatFrom f 0 l → (j : ℕ) × (x : A) × Place x j l × (z ∈ f j x)
+  pub flat-means : {l : List A} (z : B) → z ∈ flat_from f 0 l → (j : ℕ) × (x : A) × Place x j l × (z ∈ f j x)
   flat-means {l} z m =
       let r = flat-means-from 0 l z m in
       let same : 0 + r.place ≡ r.place = omega arith in
@@ -92,88 +92,88 @@ module _ {A B : Type 0} (f : ℕ → A → List B) where
 module _ (c : List Dot) (l : List Entry) (w : List Removal) where
   -- the record of a part
   pub data Part (r : Record) : Type 0 where
-    clock-dot : (d : Dot) → d ∈ c → r ≡ dotRecord 1 0 0 d → Part r
-    entry-dot : (e : Entry) → e ∈ l → (d : Dot) → d ∈ dotsIn e → r ≡ dotRecord 2 0 e.key d → Part r
-    value : (e : Entry) → e ∈ l → (j : ℕ) (v : Value) → Place v j (valuesIn e) → r ≡ valueRecord e.key j v → Part r
-    value-dot : (e : Entry) → e ∈ l → (j : ℕ) (v : Value) → Place v j (valuesIn e) → (d : Dot) → d ∈ dotsOf v.clock → r ≡ dotRecord 4 j e.key d
+    clock-dot : (d : Dot) → d ∈ c → r ≡ dot_record 1 0 0 d → Part r
+    entry-dot : (e : Entry) → e ∈ l → (d : Dot) → d ∈ dots_in e → r ≡ dot_record 2 0 e.key d → Part r
+    value : (e : Entry) → e ∈ l → (j : ℕ) (v : Value) → Place v j (values_in e) → r ≡ value_record e.key j v → Part r
+    value-dot : (e : Entry) → e ∈ l → (j : ℕ) (v : Value) → Place v j (values_in e) → (d : Dot) → d ∈ dots_of v.clock → r ≡ dot_record 4 j e.key d
         → Part r
-    waiting-dot : (j : ℕ) (q : Removal) → Place q j w → (d : Dot) → d ∈ underOf q → r ≡ dotRecord 5 j 0 d → Part r
-    waiting-key : (j : ℕ) (q : Removal) → Place q j w → (k : ℕ) → k ∈ listedIn q → r ≡ numberRecord (keyNumber j k) → Part r
+    waiting-dot : (j : ℕ) (q : Removal) → Place q j w → (d : Dot) → d ∈ under_of q → r ≡ dot_record 5 j 0 d → Part r
+    waiting-key : (j : ℕ) (q : Removal) → Place q j w → (k : ℕ) → k ∈ listed_in q → r ≡ number_record (key_number j k) → Part r
 
   -- each stands in the image
-  pub part-stands : {r : Record} → Part r → r ∈ recordsIn c l w
-  part-stands (clock-dot d i e) = Memᴰ.append_left _ (Memᴰ.cast e (Memᴰ.map (dotRecord 1 0 0) i))
+  pub part-stands : {r : Record} → Part r → r ∈ records_in c l w
+  part-stands (clock-dot d i e) = Memᴰ.append_left _ (Memᴰ.cast e (Memᴰ.map (dot_record 1 0 0) i))
   part-stands (entry-dot e i d k q) =
-      Memᴰ.append_right (dotRecords 1 0 0 c)
-      (Memᴰ.append_left _ (flat_has (entryRecords 2) (in_place i).1 _ (Memᴰ.cast q (Memᴰ.map (dotRecord 2 0 e.key) k))))
+      Memᴰ.append_right (dot_records 1 0 0 c)
+      (Memᴰ.append_left _ (flat_has (entry_records 2) (in_place i).1 _ (Memᴰ.cast q (Memᴰ.map (dot_record 2 0 e.key) k))))
   part-stands (value e i j v p q) =
-      Memᴰ.append_right (dotRecords 1 0 0 c)
-      (Memᴰ.append_right (flatFrom (entryRecords 2) 0 l)
-      (Memᴰ.append_left _ (flat_has (entryRecords 3) (in_place i).1 _ (flat_has (valueRecords 3 e.key) p _ (Memᴰ.head q)))))
+      Memᴰ.append_right (dot_records 1 0 0 c)
+      (Memᴰ.append_right (flat_from (entry_records 2) 0 l)
+      (Memᴰ.append_left _ (flat_has (entry_records 3) (in_place i).1 _ (flat_has (value_records 3 e.key) p _ (Memᴰ.head q)))))
   part-stands (value-dot e i j v p d k q) =
-      Memᴰ.append_right (dotRecords 1 0 0 c)
-      (Memᴰ.append_right (flatFrom (entryRecords 2) 0 l)
-      (Memᴰ.append_right (flatFrom (entryRecords 3) 0 l)
-      (Memᴰ.append_left _ (flat_has (entryRecords 4) (in_place i).1 _
-      (flat_has (valueRecords 4 e.key) p _ (Memᴰ.cast q (Memᴰ.map (dotRecord 4 j e.key) k)))))))
+      Memᴰ.append_right (dot_records 1 0 0 c)
+      (Memᴰ.append_right (flat_from (entry_records 2) 0 l)
+      (Memᴰ.append_right (flat_from (entry_records 3) 0 l)
+      (Memᴰ.append_left _ (flat_has (entry_records 4) (in_place i).1 _
+      (flat_has (value_records 4 e.key) p _ (Memᴰ.cast q (Memᴰ.map (dot_record 4 j e.key) k)))))))
   part-stands (waiting-dot j q p d k e) =
-      Memᴰ.append_right (dotRecords 1 0 0 c)
-      (Memᴰ.append_right (flatFrom (entryRecords 2) 0 l)
-      (Memᴰ.append_right (flatFrom (entryRecords 3) 0 l)
-      (Memᴰ.append_right (flatFrom (entryRecords 4) 0 l)
-      (Memᴰ.append_left _ (flat_has waitingDots p _ (Memᴰ.cast e (Memᴰ.map (dotRecord 5 j 0) k)))))))
+      Memᴰ.append_right (dot_records 1 0 0 c)
+      (Memᴰ.append_right (flat_from (entry_records 2) 0 l)
+      (Memᴰ.append_right (flat_from (entry_records 3) 0 l)
+      (Memᴰ.append_right (flat_from (entry_records 4) 0 l)
+      (Memᴰ.append_left _ (flat_has waiting_dots p _ (Memᴰ.cast e (Memᴰ.map (dot_record 5 j 0) k)))))))
   part-stands (waiting-key j q p k i e) =
-      Memᴰ.append_right (dotRecords 1 0 0 c)
-      (Memᴰ.append_right (flatFrom (entryRecords 2) 0 l)
-      (Memᴰ.append_right (flatFrom (entryRecords 3) 0 l)
-      (Memᴰ.append_right (flatFrom (entryRecords 4) 0 l)
-      (Memᴰ.append_right (flatFrom waitingDots 0 w)
-      (Memᴰ.cast e (Memᴰ.map numberRecord (order-has (flatFrom keyNumbers 0 w) (keyNumber j k)
-      (flat_has keyNumbers p _ (Memᴰ.map (keyNumber j) i)))))))))
+      Memᴰ.append_right (dot_records 1 0 0 c)
+      (Memᴰ.append_right (flat_from (entry_records 2) 0 l)
+      (Memᴰ.append_right (flat_from (entry_records 3) 0 l)
+      (Memᴰ.append_right (flat_from (entry_records 4) 0 l)
+      (Memᴰ.append_right (flat_from waiting_dots 0 w)
+      (Memᴰ.cast e (Memᴰ.map number_record (order-has (flat_from key_numbers 0 w) (key_number j k)
+      (flat_has key_numbers p _ (Memᴰ.map (key_number j) i)))))))))
 
   -- nothing else does
-  pub stands-part : (r : Record) → r ∈ recordsIn c l w → Part r
+  pub stands-part : (r : Record) → r ∈ records_in c l w → Part r
   stands-part r i =
-      ⊎_elim (λ a. let y = Memᴰ.of_map (dotRecord 1 0 0) c a in clock-dot y.0 y.1 (sym y.2))
+      ⊎_elim (λ a. let y = Memᴰ.of_map (dot_record 1 0 0) c a in clock-dot y.0 y.1 (sym y.2))
       (λ i2. ⊎_elim
-      (λ a. let (j, e, p, b) = flat-means (entryRecords 2) r a in
-      let y = Memᴰ.of_map (dotRecord 2 0 e.key) (dotsIn e) b in
+      (λ a. let (j, e, p, b) = flat-means (entry_records 2) r a in
+      let y = Memᴰ.of_map (dot_record 2 0 e.key) (dots_in e) b in
       entry-dot e (place_in p) y.0 y.1 (sym y.2))
       (λ i3. ⊎_elim
-      (λ a. let (j, e, p, b) = flat-means (entryRecords 3) r a in
-      let (k, v, q, s) = flat-means (valueRecords 3 e.key) r b in
+      (λ a. let (j, e, p, b) = flat-means (entry_records 3) r a in
+      let (k, v, q, s) = flat-means (value_records 3 e.key) r b in
       value e (place_in p) k v q (Memᴰ.eq_of_singleton s))
       (λ i4. ⊎_elim
-      (λ a. let (j, e, p, b) = flat-means (entryRecords 4) r a in
-      let (k, v, q, s) = flat-means (valueRecords 4 e.key) r b in
-      let y = Memᴰ.of_map (dotRecord 4 k e.key) (dotsOf v.clock) s in
+      (λ a. let (j, e, p, b) = flat-means (entry_records 4) r a in
+      let (k, v, q, s) = flat-means (value_records 4 e.key) r b in
+      let y = Memᴰ.of_map (dot_record 4 k e.key) (dots_of v.clock) s in
       value-dot e (place_in p) k v q y.0 y.1 (sym y.2))
       (λ i5. ⊎_elim
-      (λ a. let (j, q, p, b) = flat-means waitingDots r a in
-      let y = Memᴰ.of_map (dotRecord 5 j 0) (underOf q) b in
+      (λ a. let (j, q, p, b) = flat-means waiting_dots r a in
+      let y = Memᴰ.of_map (dot_record 5 j 0) (under_of q) b in
       waiting-dot j q p y.0 y.1 (sym y.2))
-      (λ a. let n = Memᴰ.of_map numberRecord (inOrder (flatFrom keyNumbers 0 w)) a in
-      let (j, q, p, b) = flat-means keyNumbers n.0 (order-from-list (flatFrom keyNumbers 0 w) n.0 n.1) in
-      let y = Memᴰ.of_map (keyNumber j) (listedIn q) b in
-      waiting-key j q p y.0 y.1 (sym n.2 ∙ ap numberRecord (sym y.2)))
-      (Memᴰ.append_cases (flatFrom waitingDots 0 w) i5))
-      (Memᴰ.append_cases (flatFrom (entryRecords 4) 0 l) i4))
-      (Memᴰ.append_cases (flatFrom (entryRecords 3) 0 l) i3))
-      (Memᴰ.append_cases (flatFrom (entryRecords 2) 0 l) i2))
-      (Memᴰ.append_cases (dotRecords 1 0 0 c) i)
+      (λ a. let n = Memᴰ.of_map number_record (in_order (flat_from key_numbers 0 w)) a in
+      let (j, q, p, b) = flat-means key_numbers n.0 (order-from-list (flat_from key_numbers 0 w) n.0 n.1) in
+      let y = Memᴰ.of_map (key_number j) (listed_in q) b in
+      waiting-key j q p y.0 y.1 (sym n.2 ∙ ap number_record (sym y.2)))
+      (Memᴰ.append_cases (flat_from waiting_dots 0 w) i5))
+      (Memᴰ.append_cases (flat_from (entry_records 4) 0 l) i4))
+      (Memᴰ.append_cases (flat_from (entry_records 3) 0 l) i3))
+      (Memᴰ.append_cases (flat_from (entry_records 2) 0 l) i2))
+      (Memᴰ.append_cases (dot_records 1 0 0 c) i)
 
   -- a record of a kind is of that kind's parts
   abbrev pub PartOf : ℕ → Record → Type 0
   PartOf kind r =
-      cond (eqb kind 1) ((d : Dot) × (d ∈ c) × (r ≡ dotRecord 1 0 0 d))
-      (cond (eqb kind 2) ((e : Entry) × (e ∈ l) × (d : Dot) × (d ∈ dotsIn e) × (r ≡ dotRecord 2 0 e.key d))
-      (cond (eqb kind 3) ((e : Entry) × (e ∈ l) × (j : ℕ) × (v : Value) × Place v j (valuesIn e) × (r ≡ valueRecord e.key j v))
-      (cond (eqb kind 4) ((e : Entry) × (e ∈ l) × (j : ℕ) × (v : Value) × Place v j (valuesIn e) × (d : Dot) × (d ∈ dotsOf v.clock)
-      × (r ≡ dotRecord 4 j e.key d))
-      (cond (eqb kind 5) ((j : ℕ) × (q : Removal) × Place q j w × (d : Dot) × (d ∈ underOf q) × (r ≡ dotRecord 5 j 0 d))
-      ((j : ℕ) × (q : Removal) × Place q j w × (k : ℕ) × (k ∈ listedIn q) × (r ≡ numberRecord (keyNumber j k)))))))
+      cond (eqb kind 1) ((d : Dot) × (d ∈ c) × (r ≡ dot_record 1 0 0 d))
+      (cond (eqb kind 2) ((e : Entry) × (e ∈ l) × (d : Dot) × (d ∈ dots_in e) × (r ≡ dot_record 2 0 e.key d))
+      (cond (eqb kind 3) ((e : Entry) × (e ∈ l) × (j : ℕ) × (v : Value) × Place v j (values_in e) × (r ≡ value_record e.key j v))
+      (cond (eqb kind 4) ((e : Entry) × (e ∈ l) × (j : ℕ) × (v : Value) × Place v j (values_in e) × (d : Dot) × (d ∈ dots_of v.clock)
+      × (r ≡ dot_record 4 j e.key d))
+      (cond (eqb kind 5) ((j : ℕ) × (q : Removal) × Place q j w × (d : Dot) × (d ∈ under_of q) × (r ≡ dot_record 5 j 0 d))
+      ((j : ℕ) × (q : Removal) × Place q j w × (k : ℕ) × (k ∈ listed_in q) × (r ≡ number_record (key_number j k)))))))
 
-  pub part_of : (kind : ℕ) (r : Record) → r ∈ recordsIn c l w → r.kind ≡ kind → PartOf kind r
+  pub part_of : (kind : ℕ) (r : Record) → r ∈ records_in c l w → r.kind ≡ kind → PartOf kind r
   part_of kind r i k = rw (← k) (go (stands-part r i))
     where
       go : Part r → PartOf r.kind r

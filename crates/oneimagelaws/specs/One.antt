@@ -1,11 +1,11 @@
 -- "Every map has one image": what is promised of maps, of operations and of clocks, said once.
 use Rattle.std.specs.Prelude.{◌≡◌, cond, List, ℕ, ◌≤◌, length}
 use Rattle.clock.specs.declared.Clock.{Clock}
-use Rattle.limits.specs.Limits.{dotLimit}
-use Rattle.clock.specs.Dots.{dotsOf, clockOf}
+use Rattle.limits.specs.Limits.{dot_limit}
+use Rattle.clock.specs.Dots.{dots_of, clock_of}
 use Rattle.clock.specs.Lawful.{Lawful}
-use Rattle.removals.specs.Model.{noRemoval}
-use Rattle.entries.specs.Model.{noUpdate}
+use Rattle.removals.specs.Model.{no_removal}
+use Rattle.entries.specs.Model.{no_update}
 use Rattle.map.specs.declared.Map.{Map}
 use Rattle.map.specs.declared.Op.{Op}
 use Rattle.map.specs.Valid.{Within, OpWithin}
@@ -24,13 +24,13 @@ pub record GoodMap (m : Map) : Type 0 where
 
 -- a clock within the limit
 pub record GoodClock (c : Clock) : Type 0 where
-  pub laid : c ≡ clockOf (dotsOf c)
-  pub lawful : Lawful (dotsOf c)
-  pub few : length (dotsOf c) ≤ dotLimit
-  pub narrow : NarrowDots (dotsOf c)
+  pub laid : c ≡ clock_of (dots_of c)
+  pub lawful : Lawful (dots_of c)
+  pub few : length (dots_of c) ≤ dot_limit
+  pub narrow : NarrowDots (dots_of c)
 
 -- an update or a removal within the limits, with zeros for the other
 pub record GoodOp (op : Op) : Type 0 where
   pub within : OpWithin op
   pub narrow : NarrowOp op
-  pub other : cond op.up (op.removal ≡ noRemoval) (op.update ≡ noUpdate)
+  pub other : cond op.up (op.removal ≡ no_removal) (op.update ≡ no_update)

@@ -8,24 +8,24 @@ use lib.Dec.{eqb}
 use lib.ListN.{length, take, drop, length-drop, take-append-drop}
 use lib.Seq.{drop-drop, take-add, take_all, drop-length}
 use Rattle.listlaws.proofs.Orders.{apart}
-use Rattle.promises.specs.CatchUp.{headFirst, inFront, lessThanRecord, operationsOf}
+use Rattle.promises.specs.CatchUp.{head_first, in_front, less_than_record, operations_of}
 use Rattle.operations.specs.Walking.{EndsAt}
 use Rattle.promises.proofs.Cuts.{cut-less, cut-nothing, cut_on, in-front-on, no-head}
 
 -- no head has come between `at` and p
 pub record Walked (list : List ℕ) (at p : ℕ) : Type 0 where
-  pub left : operationsOf (drop at list) ≡ inFront (take (p - at) (drop at list)) (headFirst (drop p list)) (operationsOf (drop p list))
+  pub left : operations_of (drop at list) ≡ in_front (take (p - at) (drop at list)) (head_first (drop p list)) (operations_of (drop p list))
 
-some : (s : List ℕ) → 0 < length s → lessThanRecord s ≡ s ∷ []
-unfolding lessThanRecord
+some : (s : List ℕ) → 0 < length s → less_than_record s ≡ s ∷ []
+unfolding less_than_record
 some [] z = apart (let e : ◌≡◌ {A = ℕ} 0 1 = omega arith in ap (λ n. eqb n 0) e)
 some (x ∷ s) z = refl
 
 joined : (k : ℕ) (s : List ℕ) {t : List ℕ} → drop k s ≡ t → take k s ++ t ≡ s
 joined k s e = rw (← e) (take-append-drop k s)
 
-last : (b s : List ℕ) → inFront b false (lessThanRecord s) ≡ (b ++ s) ∷ []
-unfolding inFront lessThanRecord
+last : (b s : List ℕ) → in_front b false (less_than_record s) ≡ (b ++ s) ∷ []
+unfolding in_front less_than_record
 last b [] = ap (λ l. l ∷ []) (sym (append-nil b))
 last b (x ∷ s) = refl
 
@@ -39,7 +39,7 @@ module _ (list : List ℕ) (at : ℕ) where
       record { left = cut_on (drop at list) (omega (arith, length-drop at list)) ∙ rw (e, drop-drop 16 at list) refl }
 
   module _ (p : ℕ) (h : at < p) (w : Walked list at p) where
-    pub walked_on : p + 16 ≤ length list → headFirst (drop p list) ≡ false → Walked list at (p + 16)
+    pub walked_on : p + 16 ≤ length list → head_first (drop p list) ≡ false → Walked list at (p + 16)
     walked_on l f =
         let e : p + 16 - at ≡ (p - at) + 16 = omega arith in
         let longer : take (p + 16 - at) (drop at list) ≡ take (p - at) (drop at list) ++ take 16 (drop p list)
@@ -47,29 +47,29 @@ module _ (list : List ℕ) (at : ℕ) where
         ∙ ap (λ s. take (p - at) (drop at list) ++ take 16 s) (beyond p (omega arith)) in
         record {
           left = w.left
-              ∙ ap (λ b. inFront (take (p - at) (drop at list)) b (operationsOf (drop p list))) f
-              ∙ ap (inFront (take (p - at) (drop at list)) false) (cut_on (drop p list) (omega (arith, length-drop p list))
+              ∙ ap (λ b. in_front (take (p - at) (drop at list)) b (operations_of (drop p list))) f
+              ∙ ap (in_front (take (p - at) (drop at list)) false) (cut_on (drop p list) (omega (arith, length-drop p list))
               ∙ rw (drop-drop 16 p list) refl)
-              ∙ in-front-on (take (p - at) (drop at list)) (take 16 (drop p list)) (headFirst (drop (p + 16) list))
-              (operationsOf (drop (p + 16) list))
-              ∙ ap (λ b. inFront b (headFirst (drop (p + 16) list)) (operationsOf (drop (p + 16) list))) (sym longer);
+              ∙ in-front-on (take (p - at) (drop at list)) (take 16 (drop p list)) (head_first (drop (p + 16) list))
+              (operations_of (drop (p + 16) list))
+              ∙ ap (λ b. in_front b (head_first (drop (p + 16) list)) (operations_of (drop (p + 16) list))) (sym longer);
         }
 
-    pub walked-head : p ≤ length list → headFirst (drop p list) ≡ true → EndsAt list at p
-    unfolding inFront
+    pub walked-head : p ≤ length list → head_first (drop p list) ≡ true → EndsAt list at p
+    unfolding in_front
     walked-head l t = record {
       past = h;
       within = l;
-      cut = w.left ∙ ap (λ b. inFront (take (p - at) (drop at list)) b (operationsOf (drop p list))) t;
+      cut = w.left ∙ ap (λ b. in_front (take (p - at) (drop at list)) b (operations_of (drop p list))) t;
     }
 
   -- all that is left is the operation
-  all_left : at < length list → (o : List ℕ) → o ≡ drop at list → operationsOf (drop at list) ≡ o ∷ [] → EndsAt list at (length list)
+  all_left : at < length list → (o : List ℕ) → o ≡ drop at list → operations_of (drop at list) ≡ o ∷ [] → EndsAt list at (length list)
   all_left h o e c = record {
     past = h;
     within = omega arith;
     cut = c ∙ ap (λ l. l ∷ []) (e ∙ sym (take_all (length list - at) (drop at list) (omega (arith, length-drop at list))))
-        ∙ ap (λ l. take (length list - at) (drop at list) ∷ l) (sym (ap operationsOf (drop-length list) ∙ cut-nothing));
+        ∙ ap (λ l. take (length list - at) (drop at list) ∷ l) (sym (ap operations_of (drop-length list) ∙ cut-nothing));
   }
 
   pub short-end : at < length list → length list < at + 16 → EndsAt list at (length list)
@@ -79,7 +79,7 @@ module _ (list : List ℕ) (at : ℕ) where
   pub walked_end : (p : ℕ) → at < p → p ≤ length list → length list < p + 16 → Walked list at p → EndsAt list at (length list)
   walked_end p h l m w = all_left (omega arith) (take (p - at) (drop at list) ++ drop p list)
       (joined (p - at) (drop at list) (beyond p (omega arith)))
-      (w.left ∙ ap (λ b. inFront (take (p - at) (drop at list)) b (operationsOf (drop p list)))
+      (w.left ∙ ap (λ b. in_front (take (p - at) (drop at list)) b (operations_of (drop p list)))
       (no-head (drop p list) (omega (arith, length-drop p list)))
-      ∙ ap (inFront (take (p - at) (drop at list)) false) (cut-less (drop p list) (omega (arith, length-drop p list)))
+      ∙ ap (in_front (take (p - at) (drop at list)) false) (cut-less (drop p list) (omega (arith, length-drop p list)))
       ∙ last (take (p - at) (drop at list)) (drop p list))

@@ -1,13 +1,13 @@
 // The operations of a list of bytes: where each ends, and how many there are.
 ghost use Rattle.std.specs.Prelude.{◌≡◌, ◌||◌, ◌<◌, eqb, length};
-ghost use Rattle.records.specs.Kinds.{removalKind, updateKind};
-ghost use Rattle.promises.specs.CatchUp.{operationsOf};
+ghost use Rattle.records.specs.Kinds.{removal_kind, update_kind};
+ghost use Rattle.promises.specs.CatchUp.{operations_of};
 ghost use Rattle.operations.specs.Walking.{EndsAt};
 
 use records::{REMOVAL, UPDATE};
 
 fn is_head(kind: u8) -> bool
-    ensures { result ≡ (eqb kind removalKind || eqb kind updateKind) }
+    ensures { result ≡ (eqb kind removal_kind || eqb kind update_kind) }
 {
     (kind == REMOVAL) | (kind == UPDATE)
 }
@@ -32,7 +32,7 @@ pub fn operation_end(list: &[u8], at: usize) -> usize
 }
 
 pub fn count_operations(list: &[u8]) -> usize
-    ensures { result ≡ length (operationsOf list.now) }
+    ensures { result ≡ length (operations_of list.now) }
 {
     let n = list.len();
     let mut at: usize = 0;

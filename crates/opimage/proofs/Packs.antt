@@ -10,9 +10,9 @@ use borrow.Author.Tests.{eq-eqb, ne_eqb, eqb-true, eqb-false}
 use Rattle.listlaws.specs.Sift.{sift}
 use Rattle.records.specs.declared.Record.{Record}
 use Rattle.scan.proofs.Eachs.{decide}
-use Rattle.opimage.specs.OpImage.{howMany, removes, updates, opRelated}
+use Rattle.opimage.specs.OpImage.{how_many, removes, updates, op_related}
 
-pub no-counts : (k : ℕ) → k < 13 → get_or (replicate 13 0) k 0 ≡ min 2 (howMany k [])
+pub no-counts : (k : ℕ) → k < 13 → get_or (replicate 13 0) k 0 ≡ min 2 (how_many k [])
 unfolding sift
 no-counts k h = get_or-replicate 13 k 0 0 h
 
@@ -23,12 +23,12 @@ told n m k e h =
     (λ t. let q = eqb-true m k t in eq-eqb n k (omega arith) ∙ sym t)
     (λ f. let q = eqb-false m k f in ne_eqb n k (λ z. q (omega arith)) ∙ sym f)
 
-module _ (counts : List ℕ) (l : List Record) (c : (k : ℕ) → k < 13 → get_or counts k 0 ≡ min 2 (howMany k l)) where
-  is : (k j : ℕ) → k < 13 → j < 2 → eqb (get_or counts k 0) j ≡ eqb (howMany k l) j
-  is k j h i = told (get_or counts k 0) (howMany k l) j (c k h) i
+module _ (counts : List ℕ) (l : List Record) (c : (k : ℕ) → k < 13 → get_or counts k 0 ≡ min 2 (how_many k l)) where
+  is : (k j : ℕ) → k < 13 → j < 2 → eqb (get_or counts k 0) j ≡ eqb (how_many k l) j
+  is k j h i = told (get_or counts k 0) (how_many k l) j (c k h) i
 
-  pub related-counts : (removes (λ k. get_or counts k 0) || updates (λ k. get_or counts k 0)) ≡ opRelated l
-  unfolding opRelated
+  pub related-counts : (removes (λ k. get_or counts k 0) || updates (λ k. get_or counts k 0)) ≡ op_related l
+  unfolding op_related
   related-counts =
       cc (
         is 7 1 (omega arith) (omega arith),
@@ -42,5 +42,5 @@ module _ (counts : List ℕ) (l : List Record) (c : (k : ℕ) → k < 13 → get
         is 12 0 (omega arith) (omega arith),
       )
 
-  pub one_of : eqb (get_or counts 10 0) 1 ≡ eqb (howMany 10 l) 1
+  pub one_of : eqb (get_or counts 10 0) 1 ≡ eqb (how_many 10 l) 1
   one_of = is 10 1 (omega arith) (omega arith)

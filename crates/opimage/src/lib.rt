@@ -1,12 +1,12 @@
 // Images of operations: read and written.
 ghost use Rattle.std.specs.Prelude.{◌≡◌, true, cond, List, [], ◌∷◌, ◌++◌, map, ℕ, ◌+◌, ◌*◌, ◌≤◌, ◌<◌, min, length, get_or, set};
-ghost use Rattle.limits.specs.Limits.{keyLimit};
-ghost use Rattle.removals.specs.Model.{keys_of, keysAs};
+ghost use Rattle.limits.specs.Limits.{key_limit};
+ghost use Rattle.removals.specs.Model.{keys_of, keys_as};
 ghost use Rattle.records.specs.declared.Record.{Record};
 ghost use Rattle.records.specs.Records.{bytes_of};
 ghost use Rattle.records.specs.Writing.{Wrote};
-ghost use Rattle.records.specs.Kinds.{removalKind, putDotKind};
-ghost use Rattle.opimage.specs.OpImage.{keyRecord, removalRecords, updateRecords, opImage, removes, updates, judgedOp, refusedOp, readOp};
+ghost use Rattle.records.specs.Kinds.{removal_kind, put_dot_kind};
+ghost use Rattle.opimage.specs.OpImage.{key_record, removal_records, update_records, op_image, removes, updates, judged_op, refused_op, read_op};
 ghost use Rattle.opimage.specs.SoFar.{OpParts, OpSoFar};
 ghost use Rattle.scan.specs.Scanned.{Scanned};
 
@@ -45,7 +45,7 @@ pub struct OpReader {
 // Writes keys as records of a kind and index; answers the place behind them.
 pub fn write_keys(out: &mut [u8], at: usize, kind: u8, index: u8, keys: Keys) -> usize
     requires { at + length (keys_of keys) * 16 ≤ length out.old }
-    ensures { Wrote at (bytes_of (map (keyRecord kind index) (keys_of keys))) out.old out.new result }
+    ensures { Wrote at (bytes_of (map (key_record kind index) (keys_of keys))) out.old out.new result }
 {
     let n = keys.size();
     let mut next = at;
@@ -66,8 +66,8 @@ pub fn write_keys(out: &mut [u8], at: usize, kind: u8, index: u8, keys: Keys) ->
 }
 
 fn write_removal(out: &mut [u8], removal: Removal) -> usize
-    requires { length (removalRecords removal) * 16 ≤ length out.old }
-    ensures { Wrote 0 (bytes_of (removalRecords removal)) out.old out.new result }
+    requires { length (removal_records removal) * 16 ≤ length out.old }
+    ensures { Wrote 0 (bytes_of (removal_records removal)) out.old out.new result }
 {
     let head = Record {
         kind: REMOVAL,
@@ -84,8 +84,8 @@ fn write_removal(out: &mut [u8], removal: Removal) -> usize
 }
 
 fn write_update(out: &mut [u8], update: Update) -> usize
-    requires { length (updateRecords update) * 16 ≤ length out.old }
-    ensures { Wrote 0 (bytes_of (updateRecords update)) out.old out.new result }
+    requires { length (update_records update) * 16 ≤ length out.old }
+    ensures { Wrote 0 (bytes_of (update_records update)) out.old out.new result }
 {
     let dot = update.dot;
     let put = update.put;
@@ -112,8 +112,8 @@ fn write_update(out: &mut [u8], update: Update) -> usize
 
 // Writes the image of an operation at the start of `out`; answers its length.
 pub fn write_op(op: Op, out: &mut [u8]) -> usize
-    requires { length (opImage op) ≤ length out.old }
-    ensures { Wrote 0 (opImage op) out.old out.new result }
+    requires { length (op_image op) ≤ length out.old }
+    ensures { Wrote 0 (op_image op) out.old out.new result }
 {
     if op.up {
         let update = op.update;
@@ -125,8 +125,8 @@ pub fn write_op(op: Op, out: &mut [u8]) -> usize
 
 // The keys with the key of a record behind the last, where `more` is set.
 fn keys_with(keys: Keys, more: bool, r: Record) -> Keys
-    requires { more ≡ true → keys.len < keyLimit }
-    ensures { (l : List ℕ) → keys ≡ keysAs l → result ≡ keysAs (cond more (l ++ (r.key ∷ [])) l) }
+    requires { more ≡ true → keys.len < key_limit }
+    ensures { (l : List ℕ) → keys ≡ keys_as l → result ≡ keys_as (cond more (l ++ (r.key ∷ [])) l) }
 {
     if more {
         return keys.push(r.key);
@@ -173,7 +173,7 @@ fn updates(counts: [u8; 13]) -> bool
 }
 
 fn refused(number: u8) -> ReadOp
-    ensures { result ≡ refusedOp number }
+    ensures { result ≡ refused_op number }
 {
     let none = Clock::new();
     let keys = Keys::new();
@@ -225,8 +225,8 @@ impl OpReader {
 
     // The parts with a record that nothing is wrong with so far.
     fn with(self, scan: Scan, r: Record) -> OpReader
-        requires { scan.number ≡ 0 × ((l : List Record) × (OpParts l self × Scanned removalKind putDotKind (l ++ (r ∷ [])) scan)) }
-        ensures { (l : List Record) → OpParts l self → Scanned removalKind putDotKind (l ++ (r ∷ [])) scan → OpSoFar (l ++ (r ∷ [])) result }
+        requires { scan.number ≡ 0 × ((l : List Record) × (OpParts l self × Scanned removal_kind put_dot_kind (l ++ (r ∷ [])) scan)) }
+        ensures { (l : List Record) → OpParts l self → Scanned removal_kind put_dot_kind (l ++ (r ∷ [])) scan → OpSoFar (l ++ (r ∷ [])) result }
     {
         let counts0 = self.counts;
         let under0 = self.under;
@@ -268,7 +268,7 @@ impl OpReader {
 
     // What the records are as a whole.
     pub fn verdict(self) -> ReadOp
-        ensures { (l : List Record) → OpSoFar l self → result ≡ judgedOp l }
+        ensures { (l : List Record) → OpSoFar l self → result ≡ judged_op l }
     {
         let scan = self.scan;
         if scan.number != 0 {
@@ -309,7 +309,7 @@ impl OpReader {
 }
 
 pub fn read_op(bytes: &[u8]) -> ReadOp
-    ensures { result ≡ readOp bytes.now }
+    ensures { result ≡ read_op bytes.now }
 {
     let len = bytes.len();
     if OP_LONGEST < len {

@@ -9,7 +9,7 @@ use lib.ListN.{length, take, drop, get_or, set, length-set}
 use lib.Seq.{get_or-set_same, get_or-set_other}
 use Rattle.scan.proofs.Eachs.{decide}
 use Rattle.clock.specs.declared.Dot.{Dot}
-use Rattle.limits.specs.Limits.{waitingLimit}
+use Rattle.limits.specs.Limits.{waiting_limit}
 use Rattle.planned.specs.declared.Held.{Held}
 use Rattle.planned.specs.declared.Ordered.{Ordered}
 use Rattle.planned.specs.Planned.{no_held}
@@ -37,12 +37,12 @@ module _ {A : Type 0} (c z : A) where
 
 -- those up to place i have moved up, from place k on
 pub record Moved (k : ℕ) (items : List Held) (x : Held) (i : ℕ) (out : List Held) : Type 0 where
-  pub long : length out ≡ waitingLimit
+  pub long : length out ≡ waiting_limit
   pub below : (j : ℕ) → j < k → get_or out j no_held ≡ get_or items j no_held
   pub here : get_or out k no_held ≡ x
   pub above : (j : ℕ) → k ≤ j → j < i → get_or out (j + 1) no_held ≡ get_or items j no_held
 
-pub moved-start : (k : ℕ) (items : List Held) (x : Held) → length items ≡ waitingLimit → k < waitingLimit
+pub moved-start : (k : ℕ) (items : List Held) (x : Held) → length items ≡ waiting_limit → k < waiting_limit
     → Moved k items (get_or (set items k x) k no_held) k (set items k x)
 moved-start k items x n h = record {
   long = length-set items k x ∙ n;
@@ -51,7 +51,7 @@ moved-start k items x n h = record {
   above = λ j g q. absurd (omega arith);
 }
 
-pub moved_on : {k : ℕ} {items : List Held} {x : Held} {i : ℕ} {out : List Held} → Moved k items x i out → k ≤ i → i + 1 < waitingLimit
+pub moved_on : {k : ℕ} {items : List Held} {x : Held} {i : ℕ} {out : List Held} → Moved k items x i out → k ≤ i → i + 1 < waiting_limit
     → Moved k items x (i + 1) (set out (i + 1) (get_or items i no_held))
 moved_on {k} {items} {x} {i} {out} m h g = record {
   long = length-set out (i + 1) (get_or items i no_held) ∙ m.long;
@@ -64,7 +64,7 @@ moved_on {k} {items} {x} {i} {out} m h g = record {
 }
 
 pub moved-end : {s : List ℕ} {all : Ordered} {l : List (List Dot)} {x y : Held} {d : List Dot} {k n i : ℕ} {out : List Held} → Lined s all l
-    → Left s x d → k ≤ length l → length l < waitingLimit
+    → Left s x d → k ≤ length l → length l < waiting_limit
     → n ≡ length l → length l ≤ i → y ≡ x → Moved k all.items y i out → Lined s (record { items = out; len = n + 1 }) (take k l ++ (d ∷ drop k l))
 moved-end {s} {all} {l} {x} {y} {d} {k} {n} {i} {out} p q h few e g same m = record {
   count = omega (arith, length-between l d k);

@@ -18,21 +18,21 @@ use Rattle.listlaws.proofs.Those.{those-ascends}
 use Rattle.listlaws.proofs.Weaves.{weave-map}
 use Rattle.scan.proofs.Eachs.{decide}
 use Rattle.clock.specs.declared.Dot.{Dot}
-use Rattle.clock.specs.Dots.{is_empty, covers, cutDots}
+use Rattle.clock.specs.Dots.{is_empty, covers, cut_dots}
 use Rattle.clock.proofs.Covers.{empty-covered}
 use Rattle.clock.proofs.Within.{nil-empty, some-uncovered}
 use Rattle.removals.specs.declared.Removal.{Removal}
-use Rattle.limits.specs.Limits.{waitingLimit}
-use Rattle.removals.specs.Model.{noRemoval, underOf}
-use Rattle.removals.specs.Waits.{clockBefore, removalBefore, waits, unite, uniteAll}
+use Rattle.limits.specs.Limits.{waiting_limit}
+use Rattle.removals.specs.Model.{no_removal, under_of}
+use Rattle.removals.specs.Waits.{clock_before, removal_before, waits, unite, unite_all}
 use Rattle.removals.proofs.ClockOrder.{before-strict, before_same}
 use Rattle.removals.proofs.Waits.{waits-covers, waits-same}
 use Rattle.removals.proofs.Uniting.{unite-those, unite-ascends}
 use Rattle.oneimagelaws.proofs.Stands.{Place, first, later, place-get, place-reads, place-below}
 use Rattle.planned.specs.declared.Held.{Held}
 use Rattle.planned.specs.Planned.{no_held, HeldLies}
-use Rattle.planned.specs.Left.{leftIn, oneIf, RunWithin}
-use Rattle.planned.specs.Seats.{seatOf, emptiedWhereSeen}
+use Rattle.planned.specs.Left.{left_in, one_if, RunWithin}
+use Rattle.planned.specs.Seats.{seat_of, emptied_where_seen}
 use Rattle.planned.proofs.Seats.{Seated, seated-start, seated-on, seated-not, seat-place}
 use Rattle.planned.proofs.Lefts.{lies-first, lies-second}
 use Rattle.planned.proofs.Going.{clocks-rise}
@@ -40,54 +40,54 @@ use Rattle.planned.proofs.Leaving.{changed-at, emptied-seen, emptied-not}
 
 -- the clocks of what is left of two lists, those of equal ones once
 abbrev pub woven : List Removal → List Removal → ℕ → ℕ → List (List Dot)
-woven w v i j = weave removalBefore underOf underOf (λ x y. underOf x) (drop i w) (drop j v)
+woven w v i j = weave removal_before under_of under_of (λ x y. under_of x) (drop i w) (drop j v)
 
 -- a clock has not seen all of another
 abbrev pub stays : List Dot → List Dot → Bool
-stays seen c = not (is_empty (cutDots seen c))
+stays seen c = not (is_empty (cut_dots seen c))
 
-next_of : (w : List Removal) (i : ℕ) → i < length w → drop i w ≡ get_or w i noRemoval ∷ drop (i + 1) w
-next_of w i h = rw add-one (drop-cons w i noRemoval h)
+next_of : (w : List Removal) (i : ℕ) → i < length w → drop i w ≡ get_or w i no_removal ∷ drop (i + 1) w
+next_of w i h = rw add-one (drop-cons w i no_removal h)
 
 -- what comes next of two lists, from which of them
 pub record Turned (w v : List Removal) (i j : ℕ) (f g : Bool) (c : List Dot) : Type 0 where
-  pub ahead : woven w v i j ≡ c ∷ woven w v (i + oneIf f) (j + oneIf g)
-  pub first : f ≡ true → (i < length w) × (c ≡ underOf (get_or w i noRemoval))
-  pub second : g ≡ true → (j < length v) × (c ≡ underOf (get_or v j noRemoval))
+  pub ahead : woven w v i j ≡ c ∷ woven w v (i + one_if f) (j + one_if g)
+  pub first : f ≡ true → (i < length w) × (c ≡ under_of (get_or w i no_removal))
+  pub second : g ≡ true → (j < length v) × (c ≡ under_of (get_or v j no_removal))
   pub other : f ≡ false → j < length v
-  pub onward : 0 < oneIf f + oneIf g
+  pub onward : 0 < one_if f + one_if g
 
 module _ (w v : List Removal) (i j : ℕ) where
   abbrev ours : List Dot
-  ours = underOf (get_or w i noRemoval)
+  ours = under_of (get_or w i no_removal)
 
   abbrev theirs : List Dot
-  theirs = underOf (get_or v j noRemoval)
+  theirs = under_of (get_or v j no_removal)
 
   first_alone : i < length w → length v ≤ j → woven w v i j ≡ ours ∷ woven w v (i + 1) j
   first_alone h k =
-      weave-first-left removalBefore underOf underOf (λ x y. underOf x) (drop i w) v j k ∙ ap (map underOf) (next_of w i h)
-      ∙ ap (λ l. ours ∷ l) (sym (weave-first-left removalBefore underOf underOf (λ x y. underOf x) (drop (i + 1) w) v j k))
+      weave-first-left removal_before under_of under_of (λ x y. under_of x) (drop i w) v j k ∙ ap (map under_of) (next_of w i h)
+      ∙ ap (λ l. ours ∷ l) (sym (weave-first-left removal_before under_of under_of (λ x y. under_of x) (drop (i + 1) w) v j k))
 
   second-alone : length w ≤ i → j < length v → woven w v i j ≡ theirs ∷ woven w v i (j + 1)
   second-alone h k =
-      weave-second-left removalBefore underOf underOf (λ x y. underOf x) w (drop j v) i h ∙ ap (map underOf) (next_of v j k)
-      ∙ ap (λ l. theirs ∷ l) (sym (weave-second-left removalBefore underOf underOf (λ x y. underOf x) w (drop (j + 1) v) i h))
+      weave-second-left removal_before under_of under_of (λ x y. under_of x) w (drop j v) i h ∙ ap (map under_of) (next_of v j k)
+      ∙ ap (λ l. theirs ∷ l) (sym (weave-second-left removal_before under_of under_of (λ x y. under_of x) w (drop (j + 1) v) i h))
 
   module _ (h : i < length w) (k : j < length v) where
-    go-first : clockBefore ours theirs ≡ true → woven w v i j ≡ ours ∷ woven w v (i + 1) j
+    go-first : clock_before ours theirs ≡ true → woven w v i j ≡ ours ∷ woven w v (i + 1) j
     unfolding weave
     go-first t = rw (next_of w i h, next_of v j k, t)
 
-    go-second : clockBefore ours theirs ≡ false → clockBefore theirs ours ≡ true → woven w v i j ≡ theirs ∷ woven w v i (j + 1)
+    go-second : clock_before ours theirs ≡ false → clock_before theirs ours ≡ true → woven w v i j ≡ theirs ∷ woven w v i (j + 1)
     unfolding weave
     go-second t u = rw (next_of w i h, next_of v j k, t, u)
 
-    go_both : clockBefore ours theirs ≡ false → clockBefore theirs ours ≡ false → woven w v i j ≡ ours ∷ woven w v (i + 1) (j + 1)
+    go_both : clock_before ours theirs ≡ false → clock_before theirs ours ≡ false → woven w v i j ≡ ours ∷ woven w v (i + 1) (j + 1)
     unfolding weave
     go_both t u = rw (next_of w i h, next_of v j k, t, u)
 
-    meet : (b c : Bool) → clockBefore ours theirs ≡ b → clockBefore theirs ours ≡ c
+    meet : (b c : Bool) → clock_before ours theirs ≡ b → clock_before theirs ours ≡ c
         → {f g : Bool} → f ≡ not c → g ≡ not b → Turned w v i j f g (cond f ours theirs)
     meet true true t u e q = apart (sym u ∙ before-strict ours theirs t)
     meet true false t u e q = rw (e, q) (record {
@@ -121,18 +121,18 @@ module _ (w v : List Removal) (i j : ℕ) where
   -- of two clocks, each of its list where one is left
   pub turned : {n m : ℕ} → n ≡ length w → m ≡ length v → (x y : List Dot) → (i < length w → x ≡ ours) → (j < length v → y ≡ theirs)
       → (ltb i n || ltb j m) ≡ true
-      → {f g : Bool} → f ≡ ltb i n && not (ltb j m && clockBefore y x) → g ≡ ltb j m && not (ltb i n && clockBefore x y)
+      → {f g : Bool} → f ≡ ltb i n && not (ltb j m && clock_before y x) → g ≡ ltb j m && not (ltb i n && clock_before x y)
       → Turned w v i j f g (cond f x y)
   turned {n} {m} en em x y ex ey some {f} {g} ef eg = go (ltb i n) (ltb j m) refl refl some ef eg
     where
-      go : (a b : Bool) → ltb i n ≡ a → ltb j m ≡ b → (a || b) ≡ true → f ≡ a && not (b && clockBefore y x) → g ≡ b && not (a && clockBefore x y)
+      go : (a b : Bool) → ltb i n ≡ a → ltb j m ≡ b → (a || b) ≡ true → f ≡ a && not (b && clock_before y x) → g ≡ b && not (a && clock_before x y)
           → Turned w v i j f g (cond f x y)
       go true true p q t e z =
           let h : i < length w = (let z = ltb-true i n p in omega (arith, en)) in
           let k : j < length v = (let z = ltb-true j m q in omega (arith, em)) in
           let ox = ex h in
           let oy = ey k in
-          rw (ox, oy) (meet h k (clockBefore ours theirs) (clockBefore theirs ours) refl refl (rw (ox, oy) at e) (rw (ox, oy) at z))
+          rw (ox, oy) (meet h k (clock_before ours theirs) (clock_before theirs ours) refl refl (rw (ox, oy) at e) (rw (ox, oy) at z))
       go true false p q t e z =
           let h : i < length w = (let z = ltb-true i n p in omega (arith, en)) in
           let k : length v ≤ j = (let z = ltb-false j m q in omega (arith, em)) in
@@ -159,7 +159,7 @@ module _ (w v : List Removal) (i j : ℕ) where
 
 -- the walk comes nearer to the end
 pub nearer : {w v : List Removal} {i j : ℕ} {f g : Bool} {c : List Dot} → Turned w v i j f g c → {n m o p : ℕ} → n ≡ length w → m ≡ length v → i ≤ n
-    → j ≤ m → o ≡ i + oneIf f → p ≡ j + oneIf g
+    → j ≤ m → o ≡ i + one_if f → p ≡ j + one_if g
     → ((o ≤ n) × (p ≤ m)) × (((n - o) + (m - p) < (n - i) + (m - j)) × (i + j < o + p))
 nearer {f = true} {g = true} t en em a b eo ep = let x = (t.first refl).0 in let y = (t.second refl).0 in
     ((omega (arith, en), omega (arith, em)), (omega (arith, en, em), omega arith))
@@ -169,28 +169,28 @@ nearer {f = false} {g = false} t en em a b eo ep = absurd (let z = t.onward in o
 
 -- the clocks of those that stay
 module _ (seen : List Dot) where
-  waits-stays : (r : Removal) → stays seen (underOf r) ≡ waits seen r
-  waits-stays r = ap not (empty-covered seen (underOf r)) ∙ sym (waits-covers seen r)
+  waits-stays : (r : Removal) → stays seen (under_of r) ≡ waits seen r
+  waits-stays r = ap not (empty-covered seen (under_of r)) ∙ sym (waits-covers seen r)
 
-  map-those : (l : List Removal) → map underOf (those (waits seen) l) ≡ those (stays seen) (map underOf l)
+  map-those : (l : List Removal) → map under_of (those (waits seen) l) ≡ those (stays seen) (map under_of l)
   unfolding sift
   map-those [] = refl
   map-those (r ∷ l) = rw (waits-stays r) (go (waits seen r) (map-those l))
     where
-      go : (b : Bool) → map underOf (those (waits seen) l) ≡ those (stays seen) (map underOf l)
-          → map underOf (cond b (r ∷ those (waits seen) l) (those (waits seen) l)) ≡ cond b (underOf r ∷ those (stays seen) (map underOf l))
-          (those (stays seen) (map underOf l))
-      go true e = ap (λ m. underOf r ∷ m) e
+      go : (b : Bool) → map under_of (those (waits seen) l) ≡ those (stays seen) (map under_of l)
+          → map under_of (cond b (r ∷ those (waits seen) l) (those (waits seen) l)) ≡ cond b (under_of r ∷ those (stays seen) (map under_of l))
+          (those (stays seen) (map under_of l))
+      go true e = ap (λ m. under_of r ∷ m) e
       go false e = e
 
-  module _ {w v : List Removal} (a : Ascending removalBefore w) (b : Ascending removalBefore v) where
-    pub stay-clocks : map underOf (uniteAll (those (waits seen) w) (those (waits seen) v)) ≡ those (stays seen) (woven w v 0 0)
-    unfolding uniteAll
+  module _ {w v : List Removal} (a : Ascending removal_before w) (b : Ascending removal_before v) where
+    pub stay-clocks : map under_of (unite_all (those (waits seen) w) (those (waits seen) v)) ≡ those (stays seen) (woven w v 0 0)
+    unfolding unite_all
     stay-clocks =
-        ap (map underOf) (sym (unite-those a b (waits seen) (waits-same seen))) ∙ map-those (uniteAll w v)
-        ∙ ap (those (stays seen)) (sym (weave-map removalBefore (λ x. x) (λ x. x) unite underOf w v))
+        ap (map under_of) (sym (unite-those a b (waits seen) (waits-same seen))) ∙ map-those (unite_all w v)
+        ∙ ap (those (stays seen)) (sym (weave-map removal_before (λ x. x) (λ x. x) unite under_of w v))
 
-    pub stay-rise : Ascending clockBefore (those (stays seen) (woven w v 0 0))
+    pub stay-rise : Ascending clock_before (those (stays seen) (woven w v 0 0))
     stay-rise = rw (← stay-clocks) (clocks-rise (unite-ascends (those-ascends (waits seen) a) (those-ascends (waits seen) b)))
 
 -- the clocks of all that stay of two lists
@@ -199,16 +199,16 @@ staying seen w v = those (stays seen) (woven w v 0 0)
 
 -- the clocks of removals, none where one was seen
 abbrev pub unseen : List Dot → List Removal → List (List Dot)
-unseen seen w = map underOf (map (emptiedWhereSeen seen) w)
+unseen seen w = map under_of (map (emptied_where_seen seen) w)
 
 -- how far the walk has come
 pub record Joining (seen : List Dot) (w v : List Removal) (s t : List ℕ) (i j count : ℕ) (items : List Held) (ours theirs : List ℕ) : Type 0 where
   pub ahead : drop count (staying seen w v) ≡ those (stays seen) (woven w v i j)
   pub within : count ≤ length (staying seen w v)
-  pub lies : length (staying seen w v) ≤ waitingLimit → (k : ℕ) → k < count
+  pub lies : length (staying seen w v) ≤ waiting_limit → (k : ℕ) → k < count
       → HeldLies s t (get_or items k no_held) (get_or (staying seen w v) k [])
-  pub first : length (staying seen w v) ≤ waitingLimit → Seated (staying seen w v) (unseen seen w) i ours
-  pub second : length (staying seen w v) ≤ waitingLimit → Seated (staying seen w v) (unseen seen v) j theirs
+  pub first : length (staying seen w v) ≤ waiting_limit → Seated (staying seen w v) (unseen seen w) i ours
+  pub second : length (staying seen w v) ≤ waiting_limit → Seated (staying seen w v) (unseen seen v) j theirs
 
 -- what is next stands at its place
 drop-place : {A : Type 0} (l : List A) (k : ℕ) {x : A} {m : List A} → drop k l ≡ x ∷ m → Place x k l
@@ -229,45 +229,45 @@ module _ (seen : List Dot) (l : List (List Dot)) (w : List Removal) where
       → Seated l (unseen seen w) i (set table a (get_or table a z))
   again {i} {table} g a z h = record { each = λ b k. same b ∙ g.each b k }
     where
-      same : (b : ℕ) → get_or (set table a (get_or table a z)) b waitingLimit ≡ get_or table b waitingLimit
+      same : (b : ℕ) → get_or (set table a (get_or table a z)) b waiting_limit ≡ get_or table b waiting_limit
       same b =
           decide (eqb b a)
-          (λ t. let e = eqb-true b a t in rw (e, get_or-set_same table a (get_or table a z) waitingLimit h)
-          (place-reads z (place-get table a waitingLimit h)))
-          (λ t. get_or-set_other table a b (get_or table a z) waitingLimit (eqb-false b a t))
+          (λ t. let e = eqb-true b a t in rw (e, get_or-set_same table a (get_or table a z) waiting_limit h)
+          (place-reads z (place-get table a waiting_limit h)))
+          (λ t. get_or-set_other table a b (get_or table a z) waiting_limit (eqb-false b a t))
 
   -- one more is told where its list is in turn
   told-on : {i : ℕ} {table : List ℕ} → Seated l (unseen seen w) i table → (a z k : ℕ) (f b : Bool) (c : List Dot) → a < length table
       → (f ≡ true → a ≡ i)
-      → (f ≡ true → (i < length w) × (c ≡ underOf (get_or w i noRemoval))) → b ≡ stays seen c → (b ≡ true → k ≡ seatOf c l)
-      → Seated l (unseen seen w) (i + oneIf f) (set table a (cond (f && b) k (get_or table a z)))
+      → (f ≡ true → (i < length w) × (c ≡ under_of (get_or w i no_removal))) → b ≡ stays seen c → (b ≡ true → k ≡ seat_of c l)
+      → Seated l (unseen seen w) (i + one_if f) (set table a (cond (f && b) k (get_or table a z)))
   told-on {i} {table} g a z k false b c h ea ec eb ek = let e : i ≡ i + 0 = omega arith in subst
       (λ n. Seated l (unseen seen w) n (set table a (get_or table a z))) e (again g a z h)
   told-on {i} {table} g a z k true false c h ea ec eb ek =
       seated-not (again g a z h) (rw (
-        changed-at (emptiedWhereSeen seen) w i (ec refl).0,
-        emptied-seen seen (get_or w i noRemoval)
-            (rw (← (ec refl).1) (sym (empty-covered seen c) ∙ flip (is_empty (cutDots seen c)) (sym eb))),
+        changed-at (emptied_where_seen seen) w i (ec refl).0,
+        emptied-seen seen (get_or w i no_removal)
+            (rw (← (ec refl).1) (sym (empty-covered seen c) ∙ flip (is_empty (cut_dots seen c)) (sym eb))),
       ) nil-empty)
     where
       flip : (b : Bool) → not b ≡ false → b ≡ true
       flip true t = refl
       flip false t = apart t
   told-on {i} {table} g a z k true true c h ea ec eb ek =
-      let u : covers seen (underOf (get_or w i noRemoval)) ≡ false = rw (← (ec refl).1)
-      (sym (empty-covered seen c) ∙ flip (is_empty (cutDots seen c)) (sym eb)) in
-      let q : get_or (unseen seen w) i [] ≡ underOf (get_or w i noRemoval) = changed-at (emptiedWhereSeen seen) w i (ec refl).0
-      ∙ emptied-not seen (get_or w i noRemoval) u in
+      let u : covers seen (under_of (get_or w i no_removal)) ≡ false = rw (← (ec refl).1)
+      (sym (empty-covered seen c) ∙ flip (is_empty (cut_dots seen c)) (sym eb)) in
+      let q : get_or (unseen seen w) i [] ≡ under_of (get_or w i no_removal) = changed-at (emptied_where_seen seen) w i (ec refl).0
+      ∙ emptied-not seen (get_or w i no_removal) u in
       subst (λ n. Seated l (unseen seen w) (i + 1) (set table n k)) (sym (ea refl))
-      (seated-on g (ap is_empty q ∙ some-uncovered seen (underOf (get_or w i noRemoval)) u) (rw (← ea refl) h)
-      (ek refl ∙ ap (λ d. seatOf d l) ((ec refl).1 ∙ sym q)))
+      (seated-on g (ap is_empty q ∙ some-uncovered seen (under_of (get_or w i no_removal)) u) (rw (← ea refl) h)
+      (ek refl ∙ ap (λ d. seat_of d l) ((ec refl).1 ∙ sym q)))
     where
       flip : (b : Bool) → not b ≡ true → b ≡ false
       flip true t = apart (sym t)
       flip false t = refl
 
 module _ {seen : List Dot} {w v : List Removal} {s t : List ℕ} where
-  pub join-start : {items : List Held} → Joining seen w v s t 0 0 0 items (replicate waitingLimit waitingLimit) (replicate waitingLimit waitingLimit)
+  pub join-start : {items : List Held} → Joining seen w v s t 0 0 0 items (replicate waiting_limit waiting_limit) (replicate waiting_limit waiting_limit)
   join-start = record {
     ahead = refl;
     within = omega arith;
@@ -277,24 +277,24 @@ module _ {seen : List Dot} {w v : List Removal} {s t : List ℕ} where
   }
 
   module _ {i j count : ℕ} {items : List Held} {ours theirs : List ℕ} (g : Joining seen w v s t i j count items ours theirs)
-      {f h : Bool} {c : List Dot} (n : Turned w v i j f h c) (rise : Ascending clockBefore (staying seen w v)) where
-    stay-yes : stays seen c ≡ true → drop count (staying seen w v) ≡ c ∷ those (stays seen) (woven w v (i + oneIf f) (j + oneIf h))
+      {f h : Bool} {c : List Dot} (n : Turned w v i j f h c) (rise : Ascending clock_before (staying seen w v)) where
+    stay-yes : stays seen c ≡ true → drop count (staying seen w v) ≡ c ∷ those (stays seen) (woven w v (i + one_if f) (j + one_if h))
     unfolding sift
     stay-yes e = g.ahead ∙ ap (those (stays seen)) n.ahead ∙ rw e
 
-    stay-no : stays seen c ≡ false → drop count (staying seen w v) ≡ those (stays seen) (woven w v (i + oneIf f) (j + oneIf h))
+    stay-no : stays seen c ≡ false → drop count (staying seen w v) ≡ those (stays seen) (woven w v (i + one_if f) (j + one_if h))
     unfolding sift
     stay-no e = g.ahead ∙ ap (those (stays seen)) n.ahead ∙ rw e
 
     module _ (a b z k : ℕ) (fa : a < length ours) (fb : b < length theirs) (ea : f ≡ true → a ≡ i) (eb : h ≡ true → b ≡ j) where
-      pub join-on : true ≡ stays seen c → (count < waitingLimit → k ≡ count) → (x : Held) → HeldLies s t x c → k < length items
-          → Joining seen w v s t (i + oneIf f) (j + oneIf h) (count + 1) (set items k x) (set ours a (cond (f && true) k (get_or ours a z)))
+      pub join-on : true ≡ stays seen c → (count < waiting_limit → k ≡ count) → (x : Held) → HeldLies s t x c → k < length items
+          → Joining seen w v s t (i + one_if f) (j + one_if h) (count + 1) (set items k x) (set ours a (cond (f && true) k (get_or ours a z)))
           (set theirs b (cond (h && true) k (get_or theirs b z)))
       join-on e ek x lx room =
           let q = stay-yes (sym e) in
           let p = drop-place (staying seen w v) count q in
-          let seat : seatOf c (staying seen w v) ≡ count = seat-place rise p in
-          let here : length (staying seen w v) ≤ waitingLimit → k ≡ count = λ few. ek (let y = place-below p in omega arith) in
+          let seat : seat_of c (staying seen w v) ≡ count = seat-place rise p in
+          let here : length (staying seen w v) ≤ waiting_limit → k ≡ count = λ few. ek (let y = place-below p in omega arith) in
           record {
             ahead = drop-rest (staying seen w v) count q;
             within = let y = place-below p in omega arith;
@@ -309,7 +309,7 @@ module _ {seen : List Dot} {w v : List Removal} {s t : List ℕ} where
           }
 
       pub join-off : false ≡ stays seen c
-          → Joining seen w v s t (i + oneIf f) (j + oneIf h) count items (set ours a (cond (f && false) k (get_or ours a z)))
+          → Joining seen w v s t (i + one_if f) (j + one_if h) count items (set ours a (cond (f && false) k (get_or ours a z)))
           (set theirs b (cond (h && false) k (get_or theirs b z)))
       join-off e = record {
         ahead = stay-no (sym e);
@@ -320,9 +320,9 @@ module _ {seen : List Dot} {w v : List Removal} {s t : List ℕ} where
       }
 
       -- the same by what was found out
-      module _ {o p : ℕ} (eo : o ≡ i + oneIf f) (ep : p ≡ j + oneIf h) {y u : ℕ} {st : Bool} (ey : y ≡ cond (f && st) k (get_or ours a z))
+      module _ {o p : ℕ} (eo : o ≡ i + one_if f) (ep : p ≡ j + one_if h) {y u : ℕ} {st : Bool} (ey : y ≡ cond (f && st) k (get_or ours a z))
           (eu : u ≡ cond (h && st) k (get_or theirs b z)) (es : st ≡ stays seen c) where
-        pub found-on : st ≡ true → (count < waitingLimit → k ≡ count) → (x : Held) → HeldLies s t x c → k < length items
+        pub found-on : st ≡ true → (count < waiting_limit → k ≡ count) → (x : Held) → HeldLies s t x c → k < length items
             → Joining seen w v s t o p (count + 1) (set items k x) (set ours a y) (set theirs b u)
         found-on q ek x lx room = rw (eo, ep, ey, eu, q) (join-on (sym q ∙ es) ek x lx room)
 
@@ -340,6 +340,6 @@ module _ {seen : List Dot} {w v : List Removal} {s t : List ℕ} where
 -- what is in turn lies in its image
 pub held-lies : {s t : List ℕ} {x y held : Held} (f : Bool) → held ≡ cond f x y → (f ≡ true → RunWithin s x) → (f ≡ false → RunWithin t y)
     → x.second ≡ false → y.second ≡ true
-    → HeldLies s t held (cond f (leftIn s x) (leftIn t y))
+    → HeldLies s t held (cond f (left_in s x) (left_in t y))
 held-lies true e a b p q = rw e (lies-first p (a refl) refl)
 held-lies false e a b p q = rw e (lies-second q (b refl) refl)

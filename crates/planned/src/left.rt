@@ -1,18 +1,18 @@
 // What is left of a run of dots, by its marks.
 ghost use Rattle.std.specs.Prelude.{◌≡◌, true, false, not, List, ℕ, ◌+◌, ◌*◌, ◌≤◌, ◌<◌, length, drop, get_or};
 ghost use Rattle.clock.specs.declared.Dot.{Dot};
-ghost use Rattle.limits.specs.Limits.{dotLimit};
-ghost use Rattle.clock.specs.Dots.{dotsOf, is_empty, cutDots};
+ghost use Rattle.limits.specs.Limits.{dot_limit};
+ghost use Rattle.clock.specs.Dots.{dots_of, is_empty, cut_dots};
 ghost use Rattle.clock.specs.Lawful.{Lawful};
-ghost use Rattle.removals.specs.Waits.{clockBefore};
+ghost use Rattle.removals.specs.Waits.{clock_before};
 ghost use Rattle.records.specs.Records.{bytes_of};
 ghost use Rattle.records.specs.Writing.{Wrote};
-ghost use Rattle.records.specs.Kinds.{waitingDotKind};
-ghost use Rattle.clockimage.specs.Image.{dotRecords};
-ghost use Rattle.runs.specs.Run.{runDots};
+ghost use Rattle.records.specs.Kinds.{waiting_dot_kind};
+ghost use Rattle.clockimage.specs.Image.{dot_records};
+ghost use Rattle.runs.specs.Run.{run_dots};
 ghost use Rattle.marks.specs.Marks.{picked};
 ghost use Rattle.planned.specs.declared.Held.{Held};
-ghost use Rattle.planned.specs.Left.{leftIn, RunWithin, Clear, wholeRun};
+ghost use Rattle.planned.specs.Left.{left_in, RunWithin, Clear, whole_run};
 
 use crate::Held;
 use clock::Clock;
@@ -21,7 +21,7 @@ use records::WAITING_DOT;
 
 // A run of which all is left.
 pub fn whole(second: bool, from: usize, to: usize) -> Held
-    ensures { result ≡ wholeRun second from to }
+    ensures { result ≡ whole_run second from to }
 {
     Held {
         second,
@@ -33,7 +33,7 @@ pub fn whole(second: bool, from: usize, to: usize) -> Held
 
 // The first place from one on whose mark is set, or n.
 fn next_left(marks: [bool; DOTS], from: usize, n: usize) -> usize
-    requires { (from ≤ n) × (n ≤ dotLimit) }
+    requires { (from ≤ n) × (n ≤ dot_limit) }
     ensures { ((from ≤ result) × (result ≤ n)) × ((result < n → get_or marks result false ≡ true)
         × ((l : List Dot) → length l ≡ n → picked (drop from marks) (drop from l) ≡ picked (drop result marks) (drop result l))) }
 {
@@ -49,8 +49,8 @@ fn next_left(marks: [bool; DOTS], from: usize, n: usize) -> usize
 
 // Whether what is left of one run stands before what is left of another: dots pair by pair, a prefix first.
 fn left_before(x: &[u8], mine: [bool; DOTS], y: &[u8], yours: [bool; DOTS]) -> bool
-    requires { (length x.now ≤ dotLimit * 16) × (length y.now ≤ dotLimit * 16) }
-    ensures { result ≡ clockBefore (picked mine (runDots x.now)) (picked yours (runDots y.now)) }
+    requires { (length x.now ≤ dot_limit * 16) × (length y.now ≤ dot_limit * 16) }
+    ensures { result ≡ clock_before (picked mine (run_dots x.now)) (picked yours (run_dots y.now)) }
 {
     let n = x.len() / 16;
     let m = y.len() / 16;
@@ -74,7 +74,7 @@ fn left_before(x: &[u8], mine: [bool; DOTS], y: &[u8], yours: [bool; DOTS]) -> b
 // The same of what two removals hold, each in its image.
 pub fn before(s: &[u8], x: Held, t: &[u8], y: Held) -> bool
     requires { RunWithin s.now x × RunWithin t.now y }
-    ensures { result ≡ clockBefore (leftIn s.now x) (leftIn t.now y) }
+    ensures { result ≡ clock_before (left_in s.now x) (left_in t.now y) }
 {
     let mine = x.marks;
     let yours = y.marks;
@@ -87,9 +87,9 @@ pub fn before(s: &[u8], x: Held, t: &[u8], y: Held) -> bool
 
 // Without what a clock has seen.
 pub fn cut(s: &[u8], x: Held, by: Clock) -> Held
-    requires { Clear s.now x × Lawful (dotsOf by) }
+    requires { Clear s.now x × Lawful (dots_of by) }
     ensures { ((result.second ≡ x.second) × ((result.from ≡ x.from) × (result.to ≡ x.to)))
-        × (leftIn s.now result ≡ cutDots (dotsOf by) (leftIn s.now x)) }
+        × (left_in s.now result ≡ cut_dots (dots_of by) (left_in s.now x)) }
 {
     let all = x.marks;
     let from = x.from * 16;
@@ -106,7 +106,7 @@ pub fn cut(s: &[u8], x: Held, by: Clock) -> Held
 // How many dots are left.
 pub fn count(x: Held) -> usize
     requires { (s : List ℕ) × RunWithin s x }
-    ensures { (result ≤ dotLimit) × ((s : List ℕ) → RunWithin s x → result ≡ length (leftIn s x)) }
+    ensures { (result ≤ dot_limit) × ((s : List ℕ) → RunWithin s x → result ≡ length (left_in s x)) }
 {
     let marks = x.marks;
     marks::count_marks(marks, x.to - x.from)
@@ -114,8 +114,8 @@ pub fn count(x: Held) -> usize
 
 // Whether a dot is left where what a clock has seen is cut.
 pub fn waits(s: &[u8], x: Held, seen: Clock) -> bool
-    requires { Clear s.now x × Lawful (dotsOf seen) }
-    ensures { result ≡ not (is_empty (cutDots (dotsOf seen) (leftIn s.now x))) }
+    requires { Clear s.now x × Lawful (dots_of seen) }
+    ensures { result ≡ not (is_empty (cut_dots (dots_of seen) (left_in s.now x))) }
 {
     let rest = cut(s, x, seen);
     let n = count(rest);
@@ -124,8 +124,8 @@ pub fn waits(s: &[u8], x: Held, seen: Clock) -> bool
 
 // Writes what is left as the dots of the removal at an index; answers the place behind them.
 pub fn write(out: &mut [u8], at: usize, index: u8, s: &[u8], x: Held) -> usize
-    requires { RunWithin s.now x × (at + length (leftIn s.now x) * 16 ≤ length out.old) }
-    ensures { Wrote at (bytes_of (dotRecords waitingDotKind index 0 (leftIn s.now x))) out.old
+    requires { RunWithin s.now x × (at + length (left_in s.now x) * 16 ≤ length out.old) }
+    ensures { Wrote at (bytes_of (dot_records waiting_dot_kind index 0 (left_in s.now x))) out.old
         out.new result }
 {
     let marks = x.marks;

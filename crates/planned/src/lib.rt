@@ -1,21 +1,21 @@
 // The waiting removals of a result, planned from two images where they lie: no clock is taken out.
 ghost use Rattle.std.specs.Prelude.{◌≡◌, true, false, cond, ◌&&◌, ◌||◌, not, List, [], ℕ, ◌+◌, ◌*◌, ◌≤◌, ◌<◌, length};
 ghost use Rattle.listlaws.specs.Sift.{those};
-ghost use Rattle.clock.specs.Dots.{dotsOf, is_empty, cutDots};
+ghost use Rattle.clock.specs.Dots.{dots_of, is_empty, cut_dots};
 ghost use Rattle.clock.specs.Lawful.{Lawful};
 ghost use Rattle.removals.specs.declared.Removal.{Removal};
-ghost use Rattle.limits.specs.Limits.{waitingLimit};
+ghost use Rattle.limits.specs.Limits.{waiting_limit};
 ghost use Rattle.removals.specs.Valid.{ValidWaiting};
-ghost use Rattle.removals.specs.Waits.{clockBefore, waits, uniteAll, resetWaiting};
+ghost use Rattle.removals.specs.Waits.{clock_before, waits, unite_all, reset_waiting};
 ghost use Rattle.records.specs.Records.{bytes_of};
 ghost use Rattle.records.specs.Writing.{Wrote};
-ghost use Rattle.records.specs.Kinds.{waitingDotKind};
-ghost use Rattle.clockimage.specs.Image.{dotRecords};
-ghost use Rattle.mapimage.specs.MapImage.{flatFrom, waitingDots};
+ghost use Rattle.records.specs.Kinds.{waiting_dot_kind};
+ghost use Rattle.clockimage.specs.Image.{dot_records};
+ghost use Rattle.mapimage.specs.MapImage.{flat_from, waiting_dots};
 ghost use Rattle.queued.specs.Queue.{Queued};
 ghost use Rattle.planned.specs.declared.Held.{Held};
-ghost use Rattle.planned.specs.Planned.{heldIn, dotsLeft, Plans};
-ghost use Rattle.planned.specs.Left.{leftIn, RunWithin, Clear, oneIf};
+ghost use Rattle.planned.specs.Planned.{held_in, dots_left, Plans};
+ghost use Rattle.planned.specs.Left.{left_in, RunWithin, Clear, one_if};
 
 pub mod left;
 pub mod seating;
@@ -62,7 +62,7 @@ pub struct Plan {
 // Whether a list's next removal is in turn beside another list's, each if there is one.
 fn in_turn(s: &[u8], mine: bool, x: Held, t: &[u8], yours: bool, y: Held) -> bool
     requires { (mine ≡ true → RunWithin s.now x) × (yours ≡ true → RunWithin t.now y) }
-    ensures { result ≡ mine && not (yours && clockBefore (leftIn t.now y) (leftIn s.now x)) }
+    ensures { result ≡ mine && not (yours && clock_before (left_in t.now y) (left_in s.now x)) }
 {
     if mine {
         if yours {
@@ -75,11 +75,11 @@ fn in_turn(s: &[u8], mine: bool, x: Held, t: &[u8], yours: bool, y: Held) -> boo
 
 // What comes next of two lists, of which one at least has a removal left.
 fn next_turn(s: &[u8], mine: bool, x: Held, t: &[u8], yours: bool, y: Held, seen: Clock) -> Turn
-    requires { ((mine ≡ true → Clear s.now x) × (yours ≡ true → Clear t.now y)) × ((mine || yours ≡ true) × Lawful (dotsOf seen)) }
-    ensures { ((result.first ≡ mine && not (yours && clockBefore (leftIn t.now y) (leftIn s.now x)))
-        × (result.second ≡ yours && not (mine && clockBefore (leftIn s.now x) (leftIn t.now y))))
+    requires { ((mine ≡ true → Clear s.now x) × (yours ≡ true → Clear t.now y)) × ((mine || yours ≡ true) × Lawful (dots_of seen)) }
+    ensures { ((result.first ≡ mine && not (yours && clock_before (left_in t.now y) (left_in s.now x)))
+        × (result.second ≡ yours && not (mine && clock_before (left_in s.now x) (left_in t.now y))))
         × ((result.held ≡ cond result.first x y)
-        × (result.stays ≡ not (is_empty (cutDots (dotsOf seen) (cond result.first (leftIn s.now x) (leftIn t.now y)))))) }
+        × (result.stays ≡ not (is_empty (cut_dots (dots_of seen) (cond result.first (left_in s.now x) (left_in t.now y)))))) }
 {
     let first = in_turn(s, mine, x, t, yours, y);
     let second = in_turn(t, yours, y, s, mine, x);
@@ -103,22 +103,22 @@ fn next_turn(s: &[u8], mine: bool, x: Held, t: &[u8], yours: bool, y: Held, seen
 
 // A place of an array of WAITING: the last where it is behind it.
 fn place(i: usize) -> usize
-    ensures { (result < waitingLimit) × (i < waitingLimit → result ≡ i) }
+    ensures { (result < waiting_limit) × (i < waiting_limit → result ≡ i) }
 {
     if i < WAITING { i } else { WAITING - 1 }
 }
 
 // One more where it is in turn.
 fn passed(i: usize, turn: bool) -> usize
-    requires { i < waitingLimit + waitingLimit }
-    ensures { result ≡ i + oneIf turn }
+    requires { i < waiting_limit + waiting_limit }
+    ensures { result ≡ i + one_if turn }
 {
     if turn { i + 1 } else { i }
 }
 
 // Where a removal goes that is in turn, or what was told of its place.
 fn told(turn: bool, k: usize, before: u8) -> u8
-    requires { k < waitingLimit }
+    requires { k < waiting_limit }
     ensures { result ≡ cond turn k before }
 {
     if turn { k as u8 } else { before }
@@ -126,9 +126,9 @@ fn told(turn: bool, k: usize, before: u8) -> u8
 
 // The plan of two queues as one, without what a clock has seen.
 pub fn join_plan(s: &[u8], q: Queue, t: &[u8], p: Queue, seen: Clock) -> Plan
-    requires { ((w : List Removal) × Queued s.now q w) × (((v : List Removal) × Queued t.now p v) × Lawful (dotsOf seen)) }
+    requires { ((w : List Removal) × Queued s.now q w) × (((v : List Removal) × Queued t.now p v) × Lawful (dots_of seen)) }
     ensures { (w v : List Removal) → Queued s.now q w → Queued t.now p v → ValidWaiting w → ValidWaiting v
-        → Plans s.now t.now w v (uniteAll (those (waits (dotsOf seen)) w) (those (waits (dotsOf seen)) v)) result }
+        → Plans s.now t.now w v (unite_all (those (waits (dots_of seen)) w) (those (waits (dots_of seen)) v)) result }
 {
     let n = queued::places(q.len);
     let m = queued::places(p.len);
@@ -169,9 +169,9 @@ pub fn join_plan(s: &[u8], q: Queue, t: &[u8], p: Queue, seen: Clock) -> Plan
 
 // The plan of a queue that was reset.
 pub fn reset_plan(s: &[u8], q: Queue, by: Clock) -> Plan
-    requires { ((w : List Removal) × Queued s.now q w) × Lawful (dotsOf by) }
+    requires { ((w : List Removal) × Queued s.now q w) × Lawful (dots_of by) }
     ensures { (t : List ℕ) (w : List Removal) → Queued s.now q w → ValidWaiting w
-        → Plans s.now t w [] (resetWaiting (dotsOf by) w) result }
+        → Plans s.now t w [] (reset_waiting (dots_of by) w) result }
 {
     let all = seating::cut_all(s, q, by);
     let ours = seating::seats(s, q, by, all);
@@ -188,7 +188,7 @@ pub fn reset_plan(s: &[u8], q: Queue, by: Clock) -> Plan
 // How many dots a result's waiting removals have.
 pub fn count_dots(p: Plan) -> usize
     requires { (p.over ≡ false) × ((s t : List ℕ) × (w v result : List Removal) × Plans s t w v result p) }
-    ensures* { λ r. ⌜ ((s t : List ℕ) (w v result : List Removal) → Plans s t w v result p → r ≡ length (flatFrom waitingDots 0 result)) ⌝ }
+    ensures* { λ r. ⌜ ((s t : List ℕ) (w v result : List Removal) → Plans s t w v result p → r ≡ length (flat_from waiting_dots 0 result)) ⌝ }
 {
     let n = queued::places(p.len);
     let mut total: usize = 0;
@@ -203,8 +203,8 @@ pub fn count_dots(p: Plan) -> usize
 
 // Writes what is left of a removal's dots as those at an index; answers the place behind them.
 fn write_held(out: &mut [u8], at: usize, index: u8, s: &[u8], t: &[u8], x: Held) -> usize
-    requires { RunWithin (heldIn s.now t.now x) x × (at + length (dotsLeft s.now t.now x) * 16 ≤ length out.old) }
-    ensures { Wrote at (bytes_of (dotRecords waitingDotKind index 0 (dotsLeft s.now t.now x)))
+    requires { RunWithin (held_in s.now t.now x) x × (at + length (dots_left s.now t.now x) * 16 ≤ length out.old) }
+    ensures { Wrote at (bytes_of (dot_records waiting_dot_kind index 0 (dots_left s.now t.now x)))
         out.old out.new result }
 {
     if x.second {
@@ -216,10 +216,10 @@ fn write_held(out: &mut [u8], at: usize, index: u8, s: &[u8], t: &[u8], x: Held)
 // Writes the dots of a result's waiting removals; answers the place behind them.
 pub fn write_clocks(out: &mut [u8], at: usize, s: &[u8], t: &[u8], p: Plan) -> usize
     requires { (p.over ≡ false) × ((w v result : List Removal) × Plans s.now t.now w v result p
-        × (at + length (flatFrom waitingDots 0 result) * 16 ≤ length out.old)) }
+        × (at + length (flat_from waiting_dots 0 result) * 16 ≤ length out.old)) }
     ensures* { λ next. ⌜ ((w v result : List Removal) → Plans s.now t.now w v result p
-        → at + length (flatFrom waitingDots 0 result) * 16 ≤ length out.old
-        → Wrote at (bytes_of (flatFrom waitingDots 0 result)) out.old out.new next) ⌝ }
+        → at + length (flat_from waiting_dots 0 result) * 16 ≤ length out.old
+        → Wrote at (bytes_of (flat_from waiting_dots 0 result)) out.old out.new next) ⌝ }
 {
     let n = queued::places(p.len);
     let mut next = at;

@@ -1,15 +1,15 @@
 // Waiting removals that were cut, in order: those with equal clocks are one.
 ghost use Rattle.std.specs.Prelude.{◌≡◌, false, cond, List, [], ◌∷◌, ◌++◌, map, ℕ, ◌+◌, ◌≤◌, ◌<◌, length, take, drop, get_or};
 ghost use Rattle.clock.specs.declared.Dot.{Dot};
-ghost use Rattle.clock.specs.Dots.{dotsOf};
+ghost use Rattle.clock.specs.Dots.{dots_of};
 ghost use Rattle.clock.specs.Lawful.{Lawful};
 ghost use Rattle.removals.specs.declared.Removal.{Removal};
-ghost use Rattle.limits.specs.Limits.{waitingLimit};
-ghost use Rattle.removals.specs.Model.{underOf};
-ghost use Rattle.removals.specs.Waits.{cutRemoval};
+ghost use Rattle.limits.specs.Limits.{waiting_limit};
+ghost use Rattle.removals.specs.Model.{under_of};
+ghost use Rattle.removals.specs.Waits.{cut_removal};
 ghost use Rattle.queued.specs.Queue.{Queued};
 ghost use Rattle.planned.specs.Left.{Left, Lined};
-ghost use Rattle.planned.specs.Seats.{seatOf, insertClock, gatherAll, placeAmong};
+ghost use Rattle.planned.specs.Seats.{seat_of, insert_clock, gather_all, place_among};
 
 use crate::{Held, Ordered, left};
 use clock::Clock;
@@ -20,7 +20,7 @@ use queued::Queue;
 fn seat(s: &[u8], all: Ordered, x: Held) -> usize
     requires { ((l : List (List Dot)) × Lined s.now all l) × ((d : List Dot) × Left s.now x d) }
     ensures { (result ≤ all.len) × ((l : List (List Dot)) (d : List Dot) → Lined s.now all l → Left s.now x d
-        → result ≡ seatOf d l) }
+        → result ≡ seat_of d l) }
 {
     let n = queued::places(all.len);
     let mut i: usize = 0;
@@ -38,7 +38,7 @@ fn seat(s: &[u8], all: Ordered, x: Held) -> usize
 fn there(s: &[u8], all: Ordered, k: usize, x: Held) -> bool
     requires { ((l : List (List Dot)) × Lined s.now all l) × ((d : List Dot) × Left s.now x d) }
     ensures { (l : List (List Dot)) (d : List Dot) → Lined s.now all l → Left s.now x d
-        → k ≡ seatOf d l → insertClock l d ≡ cond result l (take k l ++ (d ∷ drop k l)) }
+        → k ≡ seat_of d l → insert_clock l d ≡ cond result l (take k l ++ (d ∷ drop k l)) }
 {
     let n = queued::places(all.len);
     if k < n {
@@ -50,7 +50,7 @@ fn there(s: &[u8], all: Ordered, k: usize, x: Held) -> bool
 
 // One more at a place; those from there on move up.
 fn insert(all: Ordered, k: usize, x: Held) -> Ordered
-    requires { (k ≤ all.len) × (all.len < waitingLimit) }
+    requires { (k ≤ all.len) × (all.len < waiting_limit) }
     ensures { (result.len ≡ all.len + 1) × ((s : List ℕ) (l : List (List Dot)) (d : List Dot) → Lined s all l → Left s x d
         → Lined s result (take k l ++ (d ∷ drop k l))) }
 {
@@ -69,9 +69,9 @@ fn insert(all: Ordered, k: usize, x: Held) -> Ordered
 
 // One more in order, unless it is there.
 fn add(s: &[u8], all: Ordered, x: Held) -> Ordered
-    requires { (all.len < waitingLimit) × (((l : List (List Dot)) × Lined s.now all l) × ((d : List Dot) × Left s.now x d)) }
+    requires { (all.len < waiting_limit) × (((l : List (List Dot)) × Lined s.now all l) × ((d : List Dot) × Left s.now x d)) }
     ensures { (result.len ≤ all.len + 1) × ((l : List (List Dot)) (d : List Dot) → Lined s.now all l → Left s.now x d
-        → Lined s.now result (insertClock l d)) }
+        → Lined s.now result (insert_clock l d)) }
 {
     let k = seat(s, all, x);
     if there(s, all, k, x) {
@@ -82,9 +82,9 @@ fn add(s: &[u8], all: Ordered, x: Held) -> Ordered
 
 // A removal of a queue, cut.
 fn cut_at(s: &[u8], q: Queue, k: usize, by: Clock) -> Held
-    requires { ((w : List Removal) × Queued s.now q w × (k < length w)) × Lawful (dotsOf by) }
+    requires { ((w : List Removal) × Queued s.now q w × (k < length w)) × Lawful (dots_of by) }
     ensures { (w : List Removal) → Queued s.now q w → k < length w
-        → Left s.now result (get_or (map underOf (map (cutRemoval (dotsOf by)) w)) k []) }
+        → Left s.now result (get_or (map under_of (map (cut_removal (dots_of by)) w)) k []) }
 {
     let x = left::whole(false, q.starts[k], q.starts[k + 1]);
     left::cut(s, x, by)
@@ -92,9 +92,9 @@ fn cut_at(s: &[u8], q: Queue, k: usize, by: Clock) -> Held
 
 // All removals of a queue, cut, in order; those of which nothing is left go.
 pub fn cut_all(s: &[u8], q: Queue, by: Clock) -> Ordered
-    requires { ((w : List Removal) × Queued s.now q w) × Lawful (dotsOf by) }
+    requires { ((w : List Removal) × Queued s.now q w) × Lawful (dots_of by) }
     ensures { (w : List Removal) → Queued s.now q w
-        → Lined s.now result (gatherAll [] (map underOf (map (cutRemoval (dotsOf by)) w))) }
+        → Lined s.now result (gather_all [] (map under_of (map (cut_removal (dots_of by)) w))) }
 {
     let n = queued::places(q.len);
     let none = left::whole(false, 0, 0);
@@ -115,9 +115,9 @@ pub fn cut_all(s: &[u8], q: Queue, by: Clock) -> Ordered
 
 // Where each removal of a queue goes among those: WAITING where nothing of it is left.
 pub fn seats(s: &[u8], q: Queue, by: Clock, all: Ordered) -> [u8; WAITING]
-    requires { ((w : List Removal) × Queued s.now q w) × (((l : List (List Dot)) × Lined s.now all l) × Lawful (dotsOf by)) }
+    requires { ((w : List Removal) × Queued s.now q w) × (((l : List (List Dot)) × Lined s.now all l) × Lawful (dots_of by)) }
     ensures { (w : List Removal) (l : List (List Dot)) → Queued s.now q w → Lined s.now all l
-        → (a : ℕ) → a < waitingLimit → get_or result a waitingLimit ≡ placeAmong l (get_or (map underOf (map (cutRemoval (dotsOf by)) w)) a []) }
+        → (a : ℕ) → a < waiting_limit → get_or result a waiting_limit ≡ place_among l (get_or (map under_of (map (cut_removal (dots_of by)) w)) a []) }
 {
     let n = queued::places(q.len);
     let mut out: [u8; WAITING] = [WAITING as u8; WAITING];

@@ -8,12 +8,12 @@ use lib.Dec.{eqb}
 use lib.ListN.{length}
 use Rattle.map.specs.declared.Judged.{Judged}
 use Rattle.asking.specs.declared.Made.{Made}
-use Rattle.opimage.specs.OpImage.{opImage}
-use Rattle.mapimage.specs.MapImage.{mapImage}
+use Rattle.opimage.specs.OpImage.{op_image}
+use Rattle.mapimage.specs.MapImage.{map_image}
 use Rattle.scan.proofs.Eachs.{decide}
 use Rattle.answers.specs.Answer.{Answer, first_of, number_of, Answered, Counted}
 use Rattle.answers.proofs.Answers.{number-first, number-second, number-own, number_short, number-done, refuses, passes}
-use Rattle.promises.specs.Calls.{mapAnswer, opAnswer}
+use Rattle.promises.specs.Calls.{map_answer, op_answer}
 
 -- an image is refused
 module _ (a : Answer) (o : List ℕ) {n w : ℕ} where
@@ -25,12 +25,12 @@ module _ (a : Answer) (o : List ℕ) {n w : ℕ} where
 
 -- both images pass, and a map or an operation is answered
 pub map-out : (first second : ℕ) {j k : Judged} {o d : List ℕ} {r : ℕ} → first ≡ 0 → second ≡ 0 → j ≡ k
-    → Answered (record { first = 0; second = 0; own = j.number; bytes = mapImage j.map }) o d r → Answered (mapAnswer first second k) o d r
-map-out first second {j} {k} p q e w = rw (← e) (passes (mapAnswer first second j) p q w)
+    → Answered (record { first = 0; second = 0; own = j.number; bytes = map_image j.map }) o d r → Answered (map_answer first second k) o d r
+map-out first second {j} {k} p q e w = rw (← e) (passes (map_answer first second j) p q w)
 
 pub op-out : (first : ℕ) {j k : Made} {o d : List ℕ} {r : ℕ} → first ≡ 0 → j ≡ k
-    → Answered (record { first = 0; second = 0; own = j.number; bytes = opImage j.op }) o d r → Answered (opAnswer first k) o d r
-op-out first {j} {k} p e w = rw (← e) (passes (opAnswer first j) p refl w)
+    → Answered (record { first = 0; second = 0; own = j.number; bytes = op_image j.op }) o d r → Answered (op_answer first k) o d r
+op-out first {j} {k} p e w = rw (← e) (passes (op_answer first j) p refl w)
 
 -- a call that counts: an image is refused, or there is nothing to count
 module _ {a : Answer} {room n k : ℕ} where
@@ -45,7 +45,7 @@ nothing-counted {a} z = record { counts = λ out l. rw z (decide (eqb (number_of
 
 -- both images pass, and a map's dots are counted
 pub map-counted : (first second : ℕ) {j k : Judged} {room n r : ℕ} → first ≡ 0 → second ≡ 0 → j ≡ k
-    → Counted (mapAnswer 0 0 j) room n r → Counted (mapAnswer first second k) room n r
+    → Counted (map_answer 0 0 j) room n r → Counted (map_answer first second k) room n r
 unfolding number_of first_of
 map-counted first second p q e c = record { counts = λ out l. rw (p, q, ← e) (c.counts out l) }
 

@@ -1,37 +1,37 @@
 -- How many dots a call deletes from entry clocks: CR 2, in its words.
 use Rattle.std.specs.Prelude.{cond, List, ℕ, ◌-◌, length}
 use Rattle.clock.specs.declared.Dot.{Dot}
-use Rattle.clock.specs.Dots.{dotsOf}
+use Rattle.clock.specs.Dots.{dots_of}
 use Rattle.entries.specs.declared.Entry.{Entry}
-use Rattle.entries.specs.Model.{dotsIn}
+use Rattle.entries.specs.Model.{dots_in}
 use Rattle.map.specs.declared.Map.{Map}
 use Rattle.map.specs.declared.Op.{Op}
-use Rattle.map.specs.Model.{entriesIn}
+use Rattle.map.specs.Model.{entries_in}
 use Rattle.map.specs.Applying.{apply}
 use Rattle.map.specs.Resetting.{reset}
-use Rattle.clockimage.specs.ClockImage.{readClock}
-use Rattle.opimage.specs.OpImage.{readOp}
-use Rattle.maprecords.specs.Related.{readMap}
+use Rattle.clockimage.specs.ClockImage.{read_clock}
+use Rattle.opimage.specs.OpImage.{read_op}
+use Rattle.maprecords.specs.Related.{read_map}
 use Rattle.listlaws.specs.Fold.{total_of}
 
 -- "the dots in all entry clocks"
-abbrev pub dotsAmong : List Entry → ℕ
-dotsAmong l = total_of (λ e. length (dotsIn e)) l
+abbrev pub dots_among : List Entry → ℕ
+dots_among l = total_of (λ e. length (dots_in e)) l
 
-unfoldable pub entryDots : Map → ℕ
-entryDots m = dotsAmong (entriesIn m)
+unfoldable pub entry_dots : Map → ℕ
+entry_dots m = dots_among (entries_in m)
 
 -- "Zero for an update (also where it sets off a waiting removal)"; of a removal "the dots in all entry clocks before, less those after"
-unfoldable pub applyDeletes : Map → Op → ℕ
-applyDeletes m op = cond op.up 0 (entryDots m - entryDots (apply m op))
+unfoldable pub apply_deletes : Map → Op → ℕ
+apply_deletes m op = cond op.up 0 (entry_dots m - entry_dots (apply m op))
 
 -- the same of a reset
-unfoldable pub resetDeletes : Map → List Dot → ℕ
-resetDeletes m c = entryDots m - entryDots (reset m c)
+unfoldable pub reset_deletes : Map → List Dot → ℕ
+reset_deletes m c = entry_dots m - entry_dots (reset m c)
 
 -- of what images hold
-abbrev pub applyDeleted : List ℕ → List ℕ → ℕ
-applyDeleted map op = applyDeletes (readMap map).map (readOp op).op
+abbrev pub apply_deleted : List ℕ → List ℕ → ℕ
+apply_deleted map op = apply_deletes (read_map map).map (read_op op).op
 
-abbrev pub resetDeleted : List ℕ → List ℕ → ℕ
-resetDeleted map clock = resetDeletes (readMap map).map (dotsOf (readClock clock).clock)
+abbrev pub reset_deleted : List ℕ → List ℕ → ℕ
+reset_deleted map clock = reset_deletes (read_map map).map (dots_of (read_clock clock).clock)

@@ -10,27 +10,27 @@ use lib.ListN.{length, length-append, drop, get_or, set, replicate, get_or-repli
 use lib.Seq.{get_or-set_same, get_or-set_other, drop-cons}
 use borrow.Author.Tests.{ltb-true, ltb-false, leb-true, lt-ltb, le-ltb, eqb-true, eqb-false}
 use Rattle.listlaws.specs.Order.{Ascending, nil, by}
-use Rattle.listlaws.specs.First.{firstIn, some}
+use Rattle.listlaws.specs.First.{first_in, some}
 use Rattle.listlaws.specs.Sift.{those}
 use Rattle.listlaws.proofs.Orders.{apart}
 use Rattle.listlaws.proofs.Rests.{drop-end}
 use Rattle.listlaws.proofs.Those.{those-none}
 use Rattle.scan.proofs.Eachs.{decide}
 use Rattle.removals.specs.declared.Removal.{Removal}
-use Rattle.limits.specs.Limits.{waitingLimit, keyLimit}
-use Rattle.removals.specs.Model.{noRemoval, listedIn}
+use Rattle.limits.specs.Limits.{waiting_limit, key_limit}
+use Rattle.removals.specs.Model.{no_removal, listed_in}
 use Rattle.removals.specs.Counted.{overlong}
 use Rattle.removals.specs.Waits.{listed}
 use Rattle.removals.proofs.Unions.{listed-means, listed-holds}
-use Rattle.mapimage.specs.MapImage.{keyNumber, numberRecord, waitingKeys}
+use Rattle.mapimage.specs.MapImage.{key_number, number_record, waiting_keys}
 use Rattle.mapimage.proofs.Sorts.{from_start}
 use Rattle.oneimagelaws.proofs.Stands.{place-get, place_in}
 use Rattle.queued.specs.declared.Row.{Row}
 use Rattle.queued.specs.Queue.{lists, Marked, Keyed}
 use Rattle.queued.specs.Planned.{SoundRemovals, Moves}
-use Rattle.queued.specs.Rowed.{RowLies, rowRecords, oneIfMarked, keysAt}
+use Rattle.queued.specs.Rowed.{RowLies, row_records, one_if_marked, keys_at}
 use Rattle.queued.proofs.Ahead.{none_between}
-use Rattle.queued.proofs.Marking.{get_d_past, numbersOf}
+use Rattle.queued.proofs.Marking.{get_d_past, numbers_of}
 use Rattle.queued.proofs.Rowing.{first-there, row_next, key-gone, none_left}
 
 -- the next key of a set adds one where the set has it
@@ -45,43 +45,43 @@ key-counted low key l a h none b e =
     apart (sym (rw s at (listed-holds i)) ∙ sym e ∙ f))) in omega arith))
 
 -- the keys of each place ascend
-pub keys-ascend : (result : List Removal) → SoundRemovals result → (p : ℕ) → Ascending (by (λ k. k)) (keysAt result p)
+pub keys-ascend : (result : List Removal) → SoundRemovals result → (p : ℕ) → Ascending (by (λ k. k)) (keys_at result p)
 keys-ascend result sound p =
-    decide (ltb p (length result)) (λ t. (sound (get_or result p noRemoval)
-    (place_in (place-get result p noRemoval (ltb-true p (length result) t)))).keys)
-    (λ f. rw (get_d_past result p noRemoval (ltb-false p (length result) f)) nil)
+    decide (ltb p (length result)) (λ t. (sound (get_or result p no_removal)
+    (place_in (place-get result p no_removal (ltb-true p (length result) t)))).keys)
+    (λ f. rw (get_d_past result p no_removal (ltb-false p (length result) f)) nil)
 
 -- so many keys of each removal are below `low`
 pub record Tallied (result : List Removal) (low : ℕ) (counts : List ℕ) : Type 0 where
-  pub each : (p : ℕ) → p < waitingLimit → length (keysAt result p) ≡ get_or counts p 0 + length (those (leb low) (keysAt result p))
+  pub each : (p : ℕ) → p < waiting_limit → length (keys_at result p) ≡ get_or counts p 0 + length (those (leb low) (keys_at result p))
 
-pub tally-start : (result : List Removal) → Tallied result 0 (replicate waitingLimit 0)
-tally-start result = record { each = λ p h. rw (get_or-replicate {A = ℕ} waitingLimit p 0 0 h, from_start (keysAt result p)) (omega arith) }
+pub tally-start : (result : List Removal) → Tallied result 0 (replicate waiting_limit 0)
+tally-start result = record { each = λ p h. rw (get_or-replicate {A = ℕ} waiting_limit p 0 0 h, from_start (keys_at result p)) (omega arith) }
 
 module _ {result : List Removal} {low : ℕ} {counts : List ℕ} (k : Tallied result low counts) where
   pub tally-on : SoundRemovals result → {key : ℕ} {under : List Bool} → low ≤ key
-      → ((j k : ℕ) → j < waitingLimit → lists result j k ≡ true → low ≤ k → key ≤ k) → Marked result key under
-      → {more : List ℕ} → ((p : ℕ) → p < waitingLimit → get_or more p 0 ≡ get_or counts p 0 + oneIfMarked under p) → Tallied result (key + 1) more
+      → ((j k : ℕ) → j < waiting_limit → lists result j k ≡ true → low ≤ k → key ≤ k) → Marked result key under
+      → {more : List ℕ} → ((p : ℕ) → p < waiting_limit → get_or more p 0 ≡ get_or counts p 0 + one_if_marked under p) → Tallied result (key + 1) more
   tally-on sound {key} {under} h none marked f = record {
     each = λ p g. omega (
       arith,
       k.each p g,
       f p g,
-      key-counted low key (keysAt result p) (keys-ascend result sound p) h (λ y t z. none p y g t z)
+      key-counted low key (keys_at result p) (keys-ascend result sound p) h (λ y t z. none p y g t z)
           (get_or under p false) (marked.each p g),
     );
   }
 
-  pub tally-end : ((j k : ℕ) → j < waitingLimit → lists result j k ≡ true → low ≤ k → ⊥) → (p : ℕ) → p < waitingLimit
-      → get_or counts p 0 ≡ length (keysAt result p)
+  pub tally-end : ((j k : ℕ) → j < waiting_limit → lists result j k ≡ true → low ≤ k → ⊥) → (p : ℕ) → p < waiting_limit
+      → get_or counts p 0 ≡ length (keys_at result p)
   tally-end none p g =
-      let e = those-none (leb low) (keysAt result p) (λ y i. decide (leb low y) (λ t. absurd (none p y g (listed-holds i) (leb-true low y t)))
+      let e = those-none (leb low) (keys_at result p) (λ y i. decide (leb low y) (λ t. absurd (none p y g (listed-holds i) (leb-true low y t)))
       (λ f. f)) in
       omega (arith, k.each p g, ap length e)
 
 -- the marks below a place have been added
 pub record Adding (under : List Bool) (counts : List ℕ) (i : ℕ) (out : List ℕ) : Type 0 where
-  pub done : (p : ℕ) → p < i → get_or out p 0 ≡ get_or counts p 0 + oneIfMarked under p
+  pub done : (p : ℕ) → p < i → get_or out p 0 ≡ get_or counts p 0 + one_if_marked under p
   pub left : (p : ℕ) → i ≤ p → get_or out p 0 ≡ get_or counts p 0
 
 module _ {under : List Bool} {counts : List ℕ} where
@@ -95,51 +95,51 @@ module _ {under : List Bool} {counts : List ℕ} where
 
     pub add-not : get_or under i false ≡ false → Adding under counts (i + 1) out
     add-not f = record {
-      done = last (λ p. get_or out p 0 ≡ get_or counts p 0 + oneIfMarked under p) (rw f (let e = a.left i (omega arith) in omega arith)) a.done;
+      done = last (λ p. get_or out p 0 ≡ get_or counts p 0 + one_if_marked under p) (rw f (let e = a.left i (omega arith) in omega arith)) a.done;
       left = λ p h. a.left p (omega arith);
     }
 
     pub add-one-more : get_or under i false ≡ true → i < length out → {x : ℕ} → x ≡ get_or out i 0 + 1 → Adding under counts (i + 1) (set out i x)
     add-one-more t room {x} e = record {
-      done = last (λ p. get_or (set out i x) p 0 ≡ get_or counts p 0 + oneIfMarked under p)
+      done = last (λ p. get_or (set out i x) p 0 ≡ get_or counts p 0 + one_if_marked under p)
           (rw t (get_or-set_same out i x 0 room ∙ (let q = a.left i (omega arith) in omega arith)))
           (λ p h. get_or-set_other out i p x 0 (λ q. omega arith) ∙ a.done p h);
       left = λ p h. get_or-set_other out i p x 0 (λ q. omega arith) ∙ a.left p (omega arith);
     }
 
 -- whether one of those from a place on has too many keys
-module _ (result : List Removal) (i : ℕ) {c : ℕ} (e : c ≡ length (keysAt result i)) where
-  pub long-yes : keyLimit < c → some overlong (drop i result) ≡ true
-  unfolding firstIn
+module _ (result : List Removal) (i : ℕ) {c : ℕ} (e : c ≡ length (keys_at result i)) where
+  pub long-yes : key_limit < c → some overlong (drop i result) ≡ true
+  unfolding first_in
   long-yes h =
-      decide (ltb i (length result)) (λ t. rw (drop-cons result i noRemoval (ltb-true i (length result) t), ← e, lt-ltb keyLimit c h))
-      (λ f. absurd (let q = e ∙ ap (λ r. length (listedIn r)) (get_d_past result i noRemoval (ltb-false i (length result) f)) in omega arith))
+      decide (ltb i (length result)) (λ t. rw (drop-cons result i no_removal (ltb-true i (length result) t), ← e, lt-ltb key_limit c h))
+      (λ f. absurd (let q = e ∙ ap (λ r. length (listed_in r)) (get_d_past result i no_removal (ltb-false i (length result) f)) in omega arith))
 
-  pub long-no : c ≤ keyLimit → some overlong (drop i result) ≡ some overlong (drop (i + 1) result)
-  unfolding firstIn
+  pub long-no : c ≤ key_limit → some overlong (drop i result) ≡ some overlong (drop (i + 1) result)
+  unfolding first_in
   long-no h =
-      decide (ltb i (length result)) (λ t. rw (drop-cons result i noRemoval (ltb-true i (length result) t), ← e, le-ltb keyLimit c h, add-one))
+      decide (ltb i (length result)) (λ t. rw (drop-cons result i no_removal (ltb-true i (length result) t), ← e, le-ltb key_limit c h, add-one))
       (λ f. let q = ltb-false i (length result) f in rw (drop-end result i q, drop-end result (i + 1) (omega arith)))
 
 pub long-end : (result : List Removal) (i : ℕ) → length result ≤ i → some overlong (drop i result) ≡ false
-unfolding firstIn
+unfolding first_in
 long-end result i h = rw (drop-end result i h)
 
 -- so many keys are below `low`, and so many of each removal; the rest lies in both images
 pub record KeysCounting (s : List ℕ) (n : ℕ) (t : List ℕ) (m : ℕ) (w v result : List Removal) (i j total : ℕ) (counts : List ℕ) : Type 0 where
   pub low : ℕ
-  pub first : Keyed s i n (keyNumber 0 low) w
-  pub second : Keyed t j m (keyNumber 0 low) v
-  pub left : length (waitingKeys result) ≡ total + length (map numberRecord (those (leb (keyNumber 0 low)) (numbersOf result)))
+  pub first : Keyed s i n (key_number 0 low) w
+  pub second : Keyed t j m (key_number 0 low) v
+  pub left : length (waiting_keys result) ≡ total + length (map number_record (those (leb (key_number 0 low)) (numbers_of result)))
   pub tallied : Tallied result low counts
 
 module _ {s : List ℕ} {n : ℕ} {t : List ℕ} {m : ℕ} {w v result : List Removal} where
-  pub count-start : {i j : ℕ} → Keyed s i n 0 w → Keyed t j m 0 v → KeysCounting s n t m w v result i j 0 (replicate waitingLimit 0)
-  count-start a b = record { low = 0; first = a; second = b; left = rw (from_start (numbersOf result)) (omega arith); tallied = tally-start result }
+  pub count-start : {i j : ℕ} → Keyed s i n 0 w → Keyed t j m 0 v → KeysCounting s n t m w v result i j 0 (replicate waiting_limit 0)
+  count-start a b = record { low = 0; first = a; second = b; left = rw (from_start (numbers_of result)) (omega arith); tallied = tally-start result }
 
-  module _ {i j total : ℕ} {counts : List ℕ} (k : KeysCounting s n t m w v result i j total counts) (few : length result ≤ waitingLimit) where
-    pub count-on : SoundRemovals result → {r : Row} → RowLies s n t m k.low w v result r → {c : ℕ} → c ≡ length (rowRecords r.key 0 r.under)
-        → {more : List ℕ} → ((p : ℕ) → p < waitingLimit → get_or more p 0 ≡ get_or counts p 0 + oneIfMarked r.under p)
+  module _ {i j total : ℕ} {counts : List ℕ} (k : KeysCounting s n t m w v result i j total counts) (few : length result ≤ waiting_limit) where
+    pub count-on : SoundRemovals result → {r : Row} → RowLies s n t m k.low w v result r → {c : ℕ} → c ≡ length (row_records r.key 0 r.under)
+        → {more : List ℕ} → ((p : ℕ) → p < waiting_limit → get_or more p 0 ≡ get_or counts p 0 + one_if_marked r.under p)
         → KeysCounting s n t m w v result r.i r.j (total + c) more
     count-on sound {r} lies {c} e f =
         let parts = row_next result few k.low r.key r.under lies.whole lies.above lies.none lies.marked in
@@ -150,21 +150,21 @@ module _ {s : List ℕ} {n : ℕ} {t : List ℕ} {m : ℕ} {w v result : List Re
           left = k.left ∙ omega (
             arith,
             ap length parts,
-            length-append (rowRecords r.key 0 r.under)
-                (map numberRecord (those (leb (keyNumber 0 (r.key + 1))) (numbersOf result))),
+            length-append (row_records r.key 0 r.under)
+                (map number_record (those (leb (key_number 0 (r.key + 1))) (numbers_of result))),
             e,
           );
           tallied = tally-on k.tallied sound lies.above lies.none lies.marked f;
         }
 
     module _ {ours theirs : List ℕ} (mv : Moves w v result ours theirs) (f : (ltb i n || ltb j m) ≡ false) where
-      pub count-end : total ≡ length (waitingKeys result)
-      count-end = let e = none_left k.low k.first k.second mv f few in omega (arith, k.left, ap (λ l. length (map numberRecord l)) e)
+      pub count-end : total ≡ length (waiting_keys result)
+      count-end = let e = none_left k.low k.first k.second mv f few in omega (arith, k.left, ap (λ l. length (map number_record l)) e)
 
-      pub each-end : (p : ℕ) → p < waitingLimit → get_or counts p 0 ≡ length (keysAt result p)
+      pub each-end : (p : ℕ) → p < waiting_limit → get_or counts p 0 ≡ length (keys_at result p)
       each-end = tally-end k.tallied (key-gone k.low k.first k.second mv f)
 
 -- a mark adds one at most
-pub tally-most : (under : List Bool) (p c m : ℕ) {x : ℕ} → c ≤ m → x ≡ c + oneIfMarked under p → x ≤ m + 1
+pub tally-most : (under : List Bool) (p c m : ℕ) {x : ℕ} → c ≤ m → x ≡ c + one_if_marked under p → x ≤ m + 1
 tally-most under p c m {x} h e = decide (get_or under p false) (λ t. let q : x ≡ c + 1 = rw t at e in omega arith)
     (λ f. let q : x ≡ c + 0 = rw f at e in omega arith)

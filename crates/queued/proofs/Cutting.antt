@@ -9,35 +9,35 @@ use Rattle.listlaws.specs.Fold.{fold}
 use Rattle.listlaws.proofs.Folding.{Folding, folding-on, folding-end}
 use Rattle.clock.specs.declared.Clock.{Clock}
 use Rattle.clock.specs.declared.Dot.{Dot}
-use Rattle.clock.specs.Dots.{dotsOf, clockOf, cutDots}
+use Rattle.clock.specs.Dots.{dots_of, clock_of, cut_dots}
 use Rattle.clock.proofs.Packs.{dots-of}
 use Rattle.removals.specs.declared.Removal.{Removal}
-use Rattle.removals.specs.Model.{noRemoval, underOf, listedIn}
+use Rattle.removals.specs.Model.{no_removal, under_of, listed_in}
 use Rattle.removals.specs.Waits.{listed}
-use Rattle.queued.specs.Queue.{cutsFor, lists}
+use Rattle.queued.specs.Queue.{cuts_for, lists}
 
 module _ (w : List Removal) (key : ℕ) where
   abbrev cut_by : List Dot → Removal → List Dot
-  cut_by d r = cond (listed (listedIn r) key) (cutDots (underOf r) d) d
+  cut_by d r = cond (listed (listed_in r) key) (cut_dots (under_of r) d) d
 
   -- i removals have been looked at
   abbrev pub Cutting : List Dot → ℕ → Clock → Type 0
-  Cutting d i out = Folding clockOf cut_by d w (length w) i out
+  Cutting d i out = Folding clock_of cut_by d w (length w) i out
 
   module _ {d : List Dot} {i : ℕ} {out : Clock} (f : Cutting d i out) (h : i < length w) where
     here : i < length (take (length w) w)
     here = rw (take-length w) h
 
-    pub cut_on : {by next : Clock} → by ≡ clockOf (underOf (get_or w i noRemoval)) → lists w i key ≡ true
-        → next ≡ clockOf (cutDots (dotsOf by) (dotsOf out)) → Cutting d (i + 1) next
-    cut_on b t n = folding-on noRemoval f here (λ s p. n ∙ rw t (ap clockOf (ap₂ cutDots (dots-of (underOf (get_or w i noRemoval)) b) (dots-of s p))))
+    pub cut_on : {by next : Clock} → by ≡ clock_of (under_of (get_or w i no_removal)) → lists w i key ≡ true
+        → next ≡ clock_of (cut_dots (dots_of by) (dots_of out)) → Cutting d (i + 1) next
+    cut_on b t n = folding-on no_removal f here (λ s p. n ∙ rw t (ap clock_of (ap₂ cut_dots (dots-of (under_of (get_or w i no_removal)) b) (dots-of s p))))
 
     pub cut-not : lists w i key ≡ false → Cutting d (i + 1) out
-    cut-not t = folding-on noRemoval f here (λ s p. p ∙ rw t)
+    cut-not t = folding-on no_removal f here (λ s p. p ∙ rw t)
 
-  pub cut-end : {d : List Dot} {i : ℕ} {out : Clock} → Cutting d i out → length w ≤ i → out ≡ clockOf (cutsFor w key d)
-  unfolding cutsFor
-  cut-end {d} f h = folding-end f (rw (take-length w) h) ∙ ap (λ l. clockOf (fold cut_by d l)) (take-length w)
+  pub cut-end : {d : List Dot} {i : ℕ} {out : Clock} → Cutting d i out → length w ≤ i → out ≡ clock_of (cuts_for w key d)
+  unfolding cuts_for
+  cut-end {d} f h = folding-end f (rw (take-length w) h) ∙ ap (λ l. clock_of (fold cut_by d l)) (take-length w)
 
   -- the same of marks on a run, whose dots are these
   abbrev pub MarksCutting : List Dot → ℕ → List Dot → Type 0
@@ -47,12 +47,12 @@ module _ (w : List Removal) (key : ℕ) where
     inside : i < length (take (length w) w)
     inside = rw (take-length w) h
 
-    pub marks-on : {more : List Dot} → lists w i key ≡ true → more ≡ cutDots (underOf (get_or w i noRemoval)) left → MarksCutting d (i + 1) more
-    marks-on t n = folding-on noRemoval f inside (λ s p. n ∙ rw t (ap (cutDots (underOf (get_or w i noRemoval))) p))
+    pub marks-on : {more : List Dot} → lists w i key ≡ true → more ≡ cut_dots (under_of (get_or w i no_removal)) left → MarksCutting d (i + 1) more
+    marks-on t n = folding-on no_removal f inside (λ s p. n ∙ rw t (ap (cut_dots (under_of (get_or w i no_removal))) p))
 
     pub marks-not : lists w i key ≡ false → MarksCutting d (i + 1) left
-    marks-not t = folding-on noRemoval f inside (λ s p. p ∙ rw t)
+    marks-not t = folding-on no_removal f inside (λ s p. p ∙ rw t)
 
-  pub marks-end : {d : List Dot} {i : ℕ} {left : List Dot} → MarksCutting d i left → length w ≤ i → left ≡ cutsFor w key d
-  unfolding cutsFor
+  pub marks-end : {d : List Dot} {i : ℕ} {left : List Dot} → MarksCutting d i left → length w ≤ i → left ≡ cuts_for w key d
+  unfolding cuts_for
   marks-end {d} f h = folding-end f (rw (take-length w) h) ∙ ap (λ l. fold cut_by d l) (take-length w)

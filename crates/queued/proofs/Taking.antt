@@ -11,18 +11,18 @@ use borrow.Author.Tests.{eqb-true, eqb-false}
 use Rattle.listlaws.specs.Order.{◌∈◌}
 use Rattle.listlaws.proofs.Pads.{length-snoc}
 use Rattle.clock.specs.declared.Dot.{Dot}
-use Rattle.limits.specs.Limits.{dotLimit, waitingLimit}
-use Rattle.clock.specs.Dots.{clockOf}
+use Rattle.limits.specs.Limits.{dot_limit, waiting_limit}
+use Rattle.clock.specs.Dots.{clock_of}
 use Rattle.clock.specs.Lawful.{Lawful}
 use Rattle.removals.specs.declared.Removal.{Removal}
-use Rattle.removals.specs.Model.{noRemoval, underOf}
+use Rattle.removals.specs.Model.{no_removal, under_of}
 use Rattle.records.specs.declared.Record.{Record}
-use Rattle.clockimage.specs.Image.{dotOf, dotRecord}
+use Rattle.clockimage.specs.Image.{dot_of, dot_record}
 use Rattle.clockimage.proofs.RoundTrip.{dots-back}
-use Rattle.mapimage.specs.MapImage.{flatFrom, waitingDots}
-use Rattle.runs.specs.Run.{runDots}
+use Rattle.mapimage.specs.MapImage.{flat_from, waiting_dots}
+use Rattle.runs.specs.Run.{run_dots}
 use Rattle.map.specs.declared.Map.{Map}
-use Rattle.map.specs.Model.{waitingIn}
+use Rattle.map.specs.Model.{waiting_in}
 use Rattle.map.proofs.Accepts.{fits-means}
 use Rattle.walks.specs.declared.Layout.{Layout}
 use Rattle.walks.specs.Walk.{part, Splits}
@@ -36,11 +36,11 @@ use Rattle.queued.specs.Queue.{RunLies, Queued}
 -- what the limits say of an image's waiting removals
 pub record WaitingFits (s : List ℕ) (end : ℕ) (w : List Removal) : Type 0 where
   pub within : end * 16 ≤ length s
-  pub few : length w ≤ waitingLimit
-  pub short : (r : Removal) → r ∈ w → length (underOf r) ≤ dotLimit
-  pub lawful : (r : Removal) → r ∈ w → Lawful (underOf r)
+  pub few : length w ≤ waiting_limit
+  pub short : (r : Removal) → r ∈ w → length (under_of r) ≤ dot_limit
+  pub lawful : (r : Removal) → r ∈ w → Lawful (under_of r)
 
-pub waiting-fits : {s : List ℕ} {m : Map} {l : Layout} → Lies s m l → WaitingFits s l.sixth (waitingIn m)
+pub waiting-fits : {s : List ℕ} {m : Map} {l : Layout} → Lies s m l → WaitingFits s l.sixth (waiting_in m)
 waiting-fits {s} {m} {l} h =
     let a = h.places.sixth in
     let b = h.places.end in
@@ -54,19 +54,19 @@ pub record Taking (s : List ℕ) (end : ℕ) (w : List Removal) (at i : ℕ) (st
   pub parts : w ≡ done ++ rest
   pub count : i ≡ length done
   pub order : at ≤ end
-  pub records : part s at end ≡ flatFrom waitingDots i rest
+  pub records : part s at end ≡ flat_from waiting_dots i rest
   pub here : get_or starts i 0 ≡ at
-  pub lies : (j : ℕ) → j < i → RunLies s (get_or starts j 0) (get_or starts (j + 1) 0) (underOf (get_or w j noRemoval))
+  pub lies : (j : ℕ) → j < i → RunLies s (get_or starts j 0) (get_or starts (j + 1) 0) (under_of (get_or w j no_removal))
 
 module _ {s : List ℕ} {end : ℕ} {w : List Removal} (fits : WaitingFits s end w) where
-  pub take-start : {at : ℕ} → at ≤ end → part s at end ≡ flatFrom waitingDots 0 w → Taking s end w at 0 (replicate (waitingLimit + 1) at)
+  pub take-start : {at : ℕ} → at ≤ end → part s at end ≡ flat_from waiting_dots 0 w → Taking s end w at 0 (replicate (waiting_limit + 1) at)
   take-start h e = record { done = []; rest = w; parts = refl; count = refl; order = h; records = e; here = refl; lies = λ j g. absurd (omega arith) }
 
   module _ {at i : ℕ} {starts : List ℕ} (t : Taking s end w at i starts) where
     record Next : Type 0 where
       more : List Removal
-      rest-is : t.rest ≡ get_or w i noRemoval ∷ more
-      stands : get_or w i noRemoval ∈ w
+      rest-is : t.rest ≡ get_or w i no_removal ∷ more
+      stands : get_or w i no_removal ∈ w
 
     coming : i < length w → Next
     coming h = go t.rest refl
@@ -75,30 +75,30 @@ module _ {s : List ℕ} {end : ℕ} {w : List Removal} (fits : WaitingFits s end
         go [] q = absurd (omega (arith, ap length (t.parts ∙ ap (λ x. t.done ++ x) q ∙ append-nil t.done), t.count))
         go (r ∷ k) q =
             let all = t.parts ∙ ap (λ x. t.done ++ x) q in
-            let e : get_or w i noRemoval ≡ r = ap (λ l. get_or l i noRemoval) all ∙ get_or_at t.done r k noRemoval i (sym t.count) in
+            let e : get_or w i no_removal ≡ r = ap (λ l. get_or l i no_removal) all ∙ get_or_at t.done r k no_removal i (sym t.count) in
             record { more = k; rest-is = q ∙ ap (λ x. x ∷ k) (sym e); stands = rw (e, all) (Memᴰ.append_right t.done (Memᴰ.head refl)) }
 
     module _ (h : i < length w) (next : ℕ) (before : at ≤ next) (inside : next ≤ end) (found : (at' : ℕ) → Splits s 2 (i + 1) at end at'
         → next ≡ at') where
       abbrev removal : Removal
-      removal = get_or w i noRemoval
+      removal = get_or w i no_removal
 
-      cut : Cut s at end (waitingDots i removal) (flatFrom waitingDots (i + 1) (coming h).more) next
-      unfolding flatFrom
+      cut : Cut s at end (waiting_dots i removal) (flat_from waiting_dots (i + 1) (coming h).more) next
+      unfolding flat_from
       cut =
-          cut_at s 2 (i + 1) at end _ _ next t.order (t.records ∙ ap (flatFrom waitingDots i) (coming h).rest-is)
-          (λ x m. let (d, j, e) = Memᴰ.of_map (dotRecord 5 i 0) (underOf removal) m in let q = ap (λ (x : Record). x.index) e in omega arith)
+          cut_at s 2 (i + 1) at end _ _ next t.order (t.records ∙ ap (flat_from waiting_dots i) (coming h).rest-is)
+          (λ x m. let (d, j, e) = Memᴰ.of_map (dot_record 5 i 0) (under_of removal) m in let q = ap (λ (x : Record). x.index) e in omega arith)
           (λ x m. fives-later (i + 1) (coming h).more x m) found
 
-      its-run : RunLies s at next (underOf removal)
+      its-run : RunLies s at next (under_of removal)
       its-run =
           let k = (coming h).stands in
           let w = fits.within in
           record {
             order = before;
             within = omega arith;
-            few = omega (arith, ap length cut.first, length_part s at next, length-map (underOf removal) (dotRecord 5 i 0), fits.short removal k);
-            dots = ap (map dotOf) cut.first ∙ dots-back 5 i 0 (underOf removal);
+            few = omega (arith, ap length cut.first, length_part s at next, length-map (under_of removal) (dot_record 5 i 0), fits.short removal k);
+            dots = ap (map dot_of) cut.first ∙ dots-back 5 i 0 (under_of removal);
             lawful = fits.lawful removal k;
           }
 
@@ -128,14 +128,14 @@ module _ {s : List ℕ} {end : ℕ} {w : List Removal} (fits : WaitingFits s end
 
 -- the clock of a run that lies, which is short enough
 module _ {s : List ℕ} {from to : ℕ} {d : List Dot} (r : RunLies s from to d) where
-  pub lying-clock : clockOf (runDots (take (to * 16 - from * 16) (drop (from * 16) s))) ≡ clockOf d
-  lying-clock = clock-between s from to r.order r.within ∙ ap clockOf r.dots
+  pub lying-clock : clock_of (run_dots (take (to * 16 - from * 16) (drop (from * 16) s))) ≡ clock_of d
+  lying-clock = clock-between s from to r.order r.within ∙ ap clock_of r.dots
 
-  pub lying-dots : runDots (take (to * 16 - from * 16) (drop (from * 16) s)) ≡ d
-  lying-dots = ap (map dotOf) (slice-part s from to r.order r.within) ∙ r.dots
+  pub lying-dots : run_dots (take (to * 16 - from * 16) (drop (from * 16) s)) ≡ d
+  lying-dots = ap (map dot_of) (slice-part s from to r.order r.within) ∙ r.dots
 
-  pub lying-lawful : Lawful (runDots (take (to * 16 - from * 16) (drop (from * 16) s)))
+  pub lying-lawful : Lawful (run_dots (take (to * 16 - from * 16) (drop (from * 16) s)))
   lying-lawful = rw lying-dots r.lawful
 
-  pub lying-short : length (take (to * 16 - from * 16) (drop (from * 16) s)) ≤ dotLimit * 16
+  pub lying-short : length (take (to * 16 - from * 16) (drop (from * 16) s)) ≤ dot_limit * 16
   lying-short = let k = r.few in omega (arith, length-take (to * 16 - from * 16) (drop (from * 16) s))

@@ -1,19 +1,19 @@
 // The waiting removals of an image where they lie: their clocks, and what those that list a key leave of a clock.
 ghost use Rattle.std.specs.Prelude.{◌≡◌, List, [], ℕ, ◌+◌, ◌*◌, ◌≤◌, ◌<◌, length, get_or};
 ghost use Rattle.clock.specs.declared.Dot.{Dot};
-ghost use Rattle.limits.specs.Limits.{dotLimit, waitingLimit};
-ghost use Rattle.clock.specs.Dots.{clockOf, cutDots};
+ghost use Rattle.limits.specs.Limits.{dot_limit, waiting_limit};
+ghost use Rattle.clock.specs.Dots.{clock_of, cut_dots};
 ghost use Rattle.clock.specs.Lawful.{Lawful};
-ghost use Rattle.runs.specs.Run.{runDots};
+ghost use Rattle.runs.specs.Run.{run_dots};
 ghost use Rattle.marks.specs.Marks.{picked};
 ghost use Rattle.removals.specs.declared.Removal.{Removal};
-ghost use Rattle.removals.specs.Model.{noRemoval, underOf};
-ghost use Rattle.map.specs.Model.{waitingIn};
-ghost use Rattle.records.specs.Records.{recordFrom};
-ghost use Rattle.mapimage.specs.MapImage.{keyNumber};
-ghost use Rattle.maprecords.specs.Related.{readMap};
+ghost use Rattle.removals.specs.Model.{no_removal, under_of};
+ghost use Rattle.map.specs.Model.{waiting_in};
+ghost use Rattle.records.specs.Records.{record_from};
+ghost use Rattle.mapimage.specs.MapImage.{key_number};
+ghost use Rattle.maprecords.specs.Related.{read_map};
 ghost use Rattle.layout.specs.Whole.{Lies};
-ghost use Rattle.queued.specs.Queue.{Queued, cutsFor, Marked, Keyed};
+ghost use Rattle.queued.specs.Queue.{Queued, cuts_for, Marked, Keyed};
 
 pub mod rows;
 
@@ -68,8 +68,8 @@ impl Queue {
 
 // Where the dots of an image's n waiting removals lie.
 pub fn queue_of(s: &[u8], l: Layout, n: usize) -> Queue
-    requires { Lies s.now (readMap s.now).map l × (n ≡ length (waitingIn (readMap s.now).map)) }
-    ensures { Queued s.now result (waitingIn (readMap s.now).map) }
+    requires { Lies s.now (read_map s.now).map l × (n ≡ length (waiting_in (read_map s.now).map)) }
+    ensures { Queued s.now result (waiting_in (read_map s.now).map) }
 {
     let end = l.sixth;
     let mut at = l.fifth;
@@ -86,7 +86,7 @@ pub fn queue_of(s: &[u8], l: Layout, n: usize) -> Queue
 // The clock of a waiting removal.
 fn clock_at(s: &[u8], q: Queue, k: usize) -> Clock
     requires { (w : List Removal) × Queued s.now q w × (k < length w) }
-    ensures { (w : List Removal) → Queued s.now q w → k < length w → result ≡ clockOf (underOf (get_or w k noRemoval)) }
+    ensures { (w : List Removal) → Queued s.now q w → k < length w → result ≡ clock_of (under_of (get_or w k no_removal)) }
 {
     let from = q.starts[k] * 16;
     let to = q.starts[k + 1] * 16;
@@ -96,9 +96,9 @@ fn clock_at(s: &[u8], q: Queue, k: usize) -> Clock
 // Which waiting removals list a key; keys below it are passed.
 pub fn listers(s: &[u8], at: usize, end: usize, key: u32) -> Listing
     requires { (at ≤ end) × (end * 16 ≤ length s.now) }
-    ensures { ((at ≤ result.next) × ((result.next ≤ end) × (at < end → (recordFrom s.now (at * 16)).key ≤ key → at < result.next)))
-        × ((low : ℕ) (w : List Removal) → Keyed s.now at end low w → low ≤ keyNumber 0 key
-        → Marked w key result.under × Keyed s.now result.next end (keyNumber 0 (key + 1)) w) }
+    ensures { ((at ≤ result.next) × ((result.next ≤ end) × (at < end → (record_from s.now (at * 16)).key ≤ key → at < result.next)))
+        × ((low : ℕ) (w : List Removal) → Keyed s.now at end low w → low ≤ key_number 0 key
+        → Marked w key result.under × Keyed s.now result.next end (key_number 0 (key + 1)) w) }
 {
     let mut under: [bool; WAITING] = [false; WAITING];
     let mut i = at;
@@ -120,7 +120,7 @@ pub fn listers(s: &[u8], at: usize, end: usize, key: u32) -> Listing
 
 // How many of n can be in use.
 pub fn places(n: usize) -> usize
-    ensures { ((result ≤ waitingLimit) × (result ≤ n)) × (n ≤ waitingLimit → result ≡ n) }
+    ensures { ((result ≤ waiting_limit) × (result ≤ n)) × (n ≤ waiting_limit → result ≡ n) }
 {
     if n < WAITING { n } else { WAITING }
 }
@@ -128,8 +128,8 @@ pub fn places(n: usize) -> usize
 // A clock without what the removals that list a key have seen.
 pub fn cut_listed(s: &[u8], q: Queue, under: [bool; WAITING], clock: Clock) -> Clock
     requires { (w : List Removal) × Queued s.now q w }
-    ensures { (w : List Removal) (key : ℕ) (d : List Dot) → Queued s.now q w → Marked w key under → clock ≡ clockOf d
-        → result ≡ clockOf (cutsFor w key d) }
+    ensures { (w : List Removal) (key : ℕ) (d : List Dot) → Queued s.now q w → Marked w key under → clock ≡ clock_of d
+        → result ≡ clock_of (cuts_for w key d) }
 {
     let n = places(q.len);
     let mut out = clock;
@@ -147,9 +147,9 @@ pub fn cut_listed(s: &[u8], q: Queue, under: [bool; WAITING], clock: Clock) -> C
 
 // The marks of a run without what one waiting removal has seen.
 fn cut_marks_at(s: &[u8], q: Queue, k: usize, run: &[u8], marks: [bool; DOTS]) -> [bool; DOTS]
-    requires { ((w : List Removal) × Queued s.now q w × (k < length w)) × ((length run.now ≤ dotLimit * 16) × Lawful (runDots run.now)) }
+    requires { ((w : List Removal) × Queued s.now q w × (k < length w)) × ((length run.now ≤ dot_limit * 16) × Lawful (run_dots run.now)) }
     ensures { (w : List Removal) → Queued s.now q w → k < length w
-        → picked result (runDots run.now) ≡ cutDots (underOf (get_or w k noRemoval)) (picked marks (runDots run.now)) }
+        → picked result (run_dots run.now) ≡ cut_dots (under_of (get_or w k no_removal)) (picked marks (run_dots run.now)) }
 {
     let from = q.starts[k] * 16;
     let to = q.starts[k + 1] * 16;
@@ -164,9 +164,9 @@ pub fn cut_listed_marks(
     run: &[u8],
     marks: [bool; DOTS],
 ) -> [bool; DOTS]
-    requires { ((w : List Removal) × Queued s.now q w) × ((length run.now ≤ dotLimit * 16) × Lawful (runDots run.now)) }
+    requires { ((w : List Removal) × Queued s.now q w) × ((length run.now ≤ dot_limit * 16) × Lawful (run_dots run.now)) }
     ensures { (w : List Removal) (key : ℕ) → Queued s.now q w → Marked w key under
-        → picked result (runDots run.now) ≡ cutsFor w key (picked marks (runDots run.now)) }
+        → picked result (run_dots run.now) ≡ cuts_for w key (picked marks (run_dots run.now)) }
 {
     let n = places(q.len);
     let mut out = marks;

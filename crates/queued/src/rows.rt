@@ -2,14 +2,14 @@
 ghost use Rattle.std.specs.Prelude.{◌≡◌, true, ◌||◌, List, ℕ, ◌+◌, ◌*◌, ◌^◌, ◌≤◌, ◌<◌, ltb, length, get_or};
 ghost use Rattle.listlaws.specs.First.{some};
 ghost use Rattle.removals.specs.declared.Removal.{Removal};
-ghost use Rattle.limits.specs.Limits.{waitingLimit};
+ghost use Rattle.limits.specs.Limits.{waiting_limit};
 ghost use Rattle.removals.specs.Counted.{overlong};
-ghost use Rattle.records.specs.Records.{recordFrom, bytes_of};
+ghost use Rattle.records.specs.Records.{record_from, bytes_of};
 ghost use Rattle.records.specs.Writing.{Wrote};
-ghost use Rattle.mapimage.specs.MapImage.{keyNumber, waitingKeys};
+ghost use Rattle.mapimage.specs.MapImage.{key_number, waiting_keys};
 ghost use Rattle.queued.specs.Queue.{Keyed};
 ghost use Rattle.queued.specs.Planned.{SoundRemovals, Moves};
-ghost use Rattle.queued.specs.Rowed.{Carried, RowLies, rowRecords, oneIfMarked, keysAt};
+ghost use Rattle.queued.specs.Rowed.{Carried, RowLies, row_records, one_if_marked, keys_at};
 
 use crate::{KeyTotals, Row};
 use limits::{KEYS, WAITING};
@@ -38,8 +38,8 @@ fn carry(under: [bool; WAITING], marks: [bool; WAITING], table: [u8; WAITING]) -
 // The key of the record at a place, and above every key at the end.
 fn head(s: &[u8], at: usize, end: usize) -> u64
     requires { end * 16 ≤ length s.now }
-    ensures { (at < end → (result ≡ (recordFrom s.now (at * 16)).key)
-        × ((result < 2 ^ 32) × ((recordFrom s.now (at * 16)).index < 256))) × (end ≤ at → result ≡ 2 ^ 32) }
+    ensures { (at < end → (result ≡ (record_from s.now (at * 16)).key)
+        × ((result < 2 ^ 32) × ((record_from s.now (at * 16)).index < 256))) × (end ≤ at → result ≡ 2 ^ 32) }
 {
     if at < end {
         let r = records::read_record(s, at * 16);
@@ -67,7 +67,7 @@ fn row(
 ) -> Row
     requires { ((i ≤ n) × (n * 16 ≤ length s.now)) × (((j ≤ m) × (m * 16 ≤ length t.now)) × (ltb i n || ltb j m ≡ true)) }
     ensures* { λ r. ⌜ ((i ≤ r.i) × ((r.i ≤ n) × ((j ≤ r.j) × ((r.j ≤ m) × (i + j < r.i + r.j)))))
-        × ((low : ℕ) (w v result : List Removal) → Keyed s.now i n (keyNumber 0 low) w → Keyed t.now j m (keyNumber 0 low) v
+        × ((low : ℕ) (w v result : List Removal) → Keyed s.now i n (key_number 0 low) w → Keyed t.now j m (key_number 0 low) v
         → Moves w v result ours theirs
         → RowLies s.now n t.now m low w v result r) ⌝ }
 {
@@ -91,8 +91,8 @@ fn row(
 
 // Writes the records of a key under the places of its marks.
 fn write_row(out: &mut [u8], at: usize, key: u32, under: [bool; WAITING]) -> usize
-    requires { at + length (rowRecords key 0 under) * 16 ≤ length out.old }
-    ensures { Wrote at (bytes_of (rowRecords key 0 under)) out.old out.new result }
+    requires { at + length (row_records key 0 under) * 16 ≤ length out.old }
+    ensures { Wrote at (bytes_of (row_records key 0 under)) out.old out.new result }
 {
     let mut next = at;
     let mut i: usize = 0;
@@ -127,11 +127,11 @@ pub fn write_keys(
     theirs: [u8; WAITING],
 ) -> usize
     requires { (w v result : List Removal) × Keyed s.now from n 0 w × Keyed t.now start m 0 v × Moves w v result ours theirs
-        × (length result ≤ waitingLimit) × (at + length (waitingKeys result) * 16 ≤ length out.old) }
+        × (length result ≤ waiting_limit) × (at + length (waiting_keys result) * 16 ≤ length out.old) }
     ensures* { λ next. ⌜ ((w v result : List Removal) → Keyed s.now from n 0 w → Keyed t.now start m 0 v
-        → Moves w v result ours theirs → length result ≤ waitingLimit
-        → at + length (waitingKeys result) * 16 ≤ length out.old
-        → Wrote at (bytes_of (waitingKeys result)) out.old out.new next) ⌝ }
+        → Moves w v result ours theirs → length result ≤ waiting_limit
+        → at + length (waiting_keys result) * 16 ≤ length out.old
+        → Wrote at (bytes_of (waiting_keys result)) out.old out.new next) ⌝ }
 {
     let mut next = at;
     let mut i = from;
@@ -148,7 +148,7 @@ pub fn write_keys(
 
 // How many marks are set.
 fn count_row(under: [bool; WAITING]) -> usize
-    ensures { (result ≤ waitingLimit) × ((key : ℕ) → result ≡ length (rowRecords key 0 under)) }
+    ensures { (result ≤ waiting_limit) × ((key : ℕ) → result ≡ length (row_records key 0 under)) }
 {
     let mut total: usize = 0;
     let mut i: usize = 0;
@@ -164,8 +164,8 @@ fn count_row(under: [bool; WAITING]) -> usize
 
 // How many keys each removal of a result has, with those of a row.
 fn add_row(counts: [usize; WAITING], under: [bool; WAITING]) -> [usize; WAITING]
-    requires { (p : ℕ) → p < waitingLimit → get_or counts p 0 < 2 ^ 62 }
-    ensures { (p : ℕ) → p < waitingLimit → get_or result p 0 ≡ get_or counts p 0 + oneIfMarked under p }
+    requires { (p : ℕ) → p < waiting_limit → get_or counts p 0 < 2 ^ 62 }
+    ensures { (p : ℕ) → p < waiting_limit → get_or result p 0 ≡ get_or counts p 0 + one_if_marked under p }
 {
     let mut out = counts;
     let mut i: usize = 0;
@@ -182,8 +182,8 @@ fn add_row(counts: [usize; WAITING], under: [bool; WAITING]) -> [usize; WAITING]
 
 // Whether a removal has too many keys.
 fn any_long(counts: [usize; WAITING]) -> bool
-    ensures* { λ b. ⌜ ((result : List Removal) → length result ≤ waitingLimit
-        → ((p : ℕ) → p < waitingLimit → get_or counts p 0 ≡ length (keysAt result p)) → b ≡ some overlong result) ⌝ }
+    ensures* { λ b. ⌜ ((result : List Removal) → length result ≤ waiting_limit
+        → ((p : ℕ) → p < waiting_limit → get_or counts p 0 ≡ length (keys_at result p)) → b ≡ some overlong result) ⌝ }
 {
     let mut i: usize = 0;
     while i < WAITING {
@@ -208,10 +208,10 @@ pub fn count_keys(
     theirs: [u8; WAITING],
 ) -> KeyTotals
     requires { (w v result : List Removal) × Keyed s.now from n 0 w × Keyed t.now start m 0 v × Moves w v result ours theirs
-        × (length result ≤ waitingLimit) }
+        × (length result ≤ waiting_limit) }
     ensures* { λ r. ⌜ ((w v result : List Removal) → Keyed s.now from n 0 w → Keyed t.now start m 0 v
-        → Moves w v result ours theirs → length result ≤ waitingLimit → SoundRemovals result
-        → (r.over ≡ some overlong result) × (r.total ≡ length (waitingKeys result))) ⌝ }
+        → Moves w v result ours theirs → length result ≤ waiting_limit → SoundRemovals result
+        → (r.over ≡ some overlong result) × (r.total ≡ length (waiting_keys result))) ⌝ }
 {
     let mut total: usize = 0;
     let mut counts: [usize; WAITING] = [0; WAITING];

@@ -10,12 +10,12 @@ use lib.ListN.{length, take, drop}
 use lib.Seq.{take_at}
 use Rattle.map.specs.declared.Map.{Map}
 use Rattle.asking.specs.declared.Made.{Made}
-use Rattle.map.specs.Judging.{overNumber, judged}
+use Rattle.map.specs.Judging.{over_number, judged}
 use Rattle.map.proofs.Verdicts.{judged-number, judged-map}
 use Rattle.records.specs.Bytes.{Bytes}
 use Rattle.scan.proofs.Eachs.{decide}
-use Rattle.mapimage.specs.MapImage.{mapImage}
-use Rattle.maprecords.specs.Related.{readMap}
+use Rattle.mapimage.specs.MapImage.{map_image}
+use Rattle.maprecords.specs.Related.{read_map}
 use Rattle.answers.specs.Answer.{Answer, first_of, number_of, word_of, out_of, short_of}
 use Rattle.acceptancelaws.proofs.Maps.{map-within}
 use Rattle.acceptancelaws.proofs.Ops.{op-within}
@@ -23,7 +23,7 @@ use Rattle.oneimagelaws.specs.One.{OneImage, GoodMap, GoodOp}
 use Rattle.oneimagelaws.proofs.Fields.{map-narrow, op-narrow}
 use Rattle.oneimagelaws.proofs.Maps.{one-map-image}
 use Rattle.oneimagelaws.proofs.Ops.{one-op-image}
-use Rattle.promises.specs.Calls.{given, mapAnswer, opAnswer}
+use Rattle.promises.specs.Calls.{given, map_answer, op_answer}
 use Rattle.readbacklaws.specs.Reads.{Reads, ReadsMap, ReadsOp, Written, ReadsBack}
 use Rattle.readbacklaws.proofs.Images.{map-bytes, op_bytes}
 use Rattle.readbacklaws.proofs.Goods.{good_apply, good-merge, good-reset, good-read, good-seen, good-at, good-removal, good-update}
@@ -75,15 +75,15 @@ module _ {T : Type 0} {Good : T → Type 0} {image : T → List ℕ} {number : L
       rw e (record { bytes = bytes x g.0; accepted = (one.back x g.0).0; same = (one.back x g.0).1 })
 
 -- a judged map, and a made operation
-judged-back : (first second : ℕ) (m : Map) → (overNumber m ≡ 0 → GoodMap m) → Written (mapAnswer first second (judged m)) (ReadsMap m)
+judged-back : (first second : ℕ) (m : Map) → (over_number m ≡ 0 → GoodMap m) → Written (map_answer first second (judged m)) (ReadsMap m)
 judged-back first second m f =
-    reads-back one-map-image map-bytes (mapAnswer first second (judged m)) m (λ z. (f (sym (judged-number m) ∙ z), ap mapImage (judged-map m z)))
+    reads-back one-map-image map-bytes (map_answer first second (judged m)) m (λ z. (f (sym (judged-number m) ∙ z), ap map_image (judged-map m z)))
 
-made-back : (first : ℕ) (m : Made) → (m.number ≡ 0 → GoodOp m.op) → Written (opAnswer first m) (ReadsOp m.op)
-made-back first m f = reads-back one-op-image op_bytes (opAnswer first m) m.op (λ z. (f z, refl))
+made-back : (first : ℕ) (m : Made) → (m.number ≡ 0 → GoodOp m.op) → Written (op_answer first m) (ReadsOp m.op)
+made-back first m f = reads-back one-op-image op_bytes (op_answer first m) m.op (λ z. (f z, refl))
 
 -- what is read from bytes is good
-good : (s : List ℕ) → Bytes s → GoodMap (readMap s).map
+good : (s : List ℕ) → Bytes s → GoodMap (read_map s).map
 good s b = record { within = map-within s; narrow = map-narrow s b }
 
 pub answers-read-back : ReadsBack

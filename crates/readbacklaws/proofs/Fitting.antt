@@ -9,16 +9,16 @@ use lib.Dec.{ltb}
 use Rattle.listlaws.proofs.Pads.{take-pad}
 use Rattle.listlaws.proofs.Those.{those-means}
 use Rattle.clock.specs.declared.Dot.{Dot}
-use Rattle.limits.specs.Limits.{dotLimit}
-use Rattle.clock.specs.Dots.{noDot, dotsOf, cutDots, commonDots, beyond, shared, joinDots, addDot}
+use Rattle.limits.specs.Limits.{dot_limit}
+use Rattle.clock.specs.Dots.{no_dot, dots_of, cut_dots, common_dots, beyond, shared, join_dots, add_dot}
 use Rattle.clock.specs.Lawful.{Lawful}
 use Rattle.clock.proofs.Cuts.{lawful-cut, lawful-common}
 use Rattle.clock.proofs.Joins.{lawful-nil, lawful-beyond, lawful-join, join-every}
 use Rattle.entries.specs.declared.Entry.{Entry}
 use Rattle.removals.specs.declared.Removal.{Removal}
 use Rattle.entries.specs.declared.Update.{Update}
-use Rattle.entries.specs.Model.{dotsIn}
-use Rattle.removals.specs.Model.{underOf}
+use Rattle.entries.specs.Model.{dots_in}
+use Rattle.removals.specs.Model.{under_of}
 use Rattle.removals.specs.Waits.{unite}
 use Rattle.removals.specs.Valid.{ValidRemoval}
 use Rattle.entries.proofs.Packs.{dots-in}
@@ -41,15 +41,15 @@ pub record FittingClock (l : List Dot) : Type 0 where
 no-dots : NarrowDots []
 no-dots d i = absurd (Memᴰ.not-nil i)
 
-narrow_cut : (c l : List Dot) → NarrowDots l → NarrowDots (cutDots c l)
-unfolding cutDots
+narrow_cut : (c l : List Dot) → NarrowDots l → NarrowDots (cut_dots c l)
+unfolding cut_dots
 narrow_cut c l f d i = f d (those-means (beyond c) l i).0
 
-narrow-common : (l m : List Dot) → NarrowDots l → NarrowDots (commonDots l m)
-unfolding commonDots
+narrow-common : (l m : List Dot) → NarrowDots l → NarrowDots (common_dots l m)
+unfolding common_dots
 narrow-common l m f d i = f d (those-means (shared m) l i).0
 
-clock-join : (l m : List Dot) → FittingClock l → FittingClock m → FittingClock (joinDots l m)
+clock-join : (l m : List Dot) → FittingClock l → FittingClock m → FittingClock (join_dots l m)
 clock-join l m h k = record {
   lawful = lawful-join h.lawful k.lawful;
   fits = join-every h.lawful k.lawful DotFits h.fits k.fits
@@ -60,8 +60,8 @@ clock-join l m h k = record {
     larger true p q = q
     larger false p q = p
 
-pub clock-add : {d : Dot} → DotFits d → (l : List Dot) → FittingClock l → FittingClock (addDot l d)
-unfolding addDot
+pub clock-add : {d : Dot} → DotFits d → (l : List Dot) → FittingClock l → FittingClock (add_dot l d)
+unfolding add_dot
 clock-add {d} n l h = clock-join l (cond (beyond l d) (d ∷ []) []) h (record { lawful = lawful-beyond l d; fits = go (beyond l d) })
   where
     go : (b : Bool) → NarrowDots (cond b (d ∷ []) [])
@@ -74,15 +74,15 @@ closed = record {
   common = λ l m h. record { lawful = lawful-common m h.lawful; fits = narrow-common l m h.fits };
   join = clock-join;
   value = λ by v h n. record {
-    dots = rw (take-pad noDot dotLimit (cutDots by (dotsOf v.clock)))
-        (narrow_cut by (dotsOf v.clock) h.dots);
+    dots = rw (take-pad no_dot dot_limit (cut_dots by (dots_of v.clock)))
+        (narrow_cut by (dots_of v.clock) h.dots);
     value = h.value;
   };
 }
 
 -- an entry whose numbers fit
 pub record FittingEntry (e : Entry) : Type 0 where
-  pub lawful : Lawful (dotsIn e)
+  pub lawful : Lawful (dots_in e)
   pub fits : NarrowEntry e
 
 made : Made (λ k. k < 2 ^ 32) FittingClock NarrowValue FittingEntry
@@ -102,7 +102,7 @@ united x y h k f g = record {
 pub rules : Rules FittingClock FittingEntry NarrowRemoval
 rules =
     rules-of closed made
-    (λ by r h. record { dots = rw (take-pad noDot dotLimit (cutDots by (underOf r))) (narrow_cut by (underOf r) h.dots); keys = h.keys }) united
+    (λ by r h. record { dots = rw (take-pad no_dot dot_limit (cut_dots by (under_of r))) (narrow_cut by (under_of r) h.dots); keys = h.keys }) united
 
 taken : {u : Update} → NarrowUpdate u → Taken FittingClock FittingEntry u
 taken {u} n = taken_of closed made u n.key (record { lawful = lawful-nil; fits = no-dots }) (clock-add n.dot) n.put

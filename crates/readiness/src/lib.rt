@@ -1,7 +1,7 @@
 // The guard that is asked before an update is applied, on a map's clock.
 ghost use Rattle.std.specs.Prelude.{◌≡◌, ◌<◌};
-ghost use Rattle.clock.specs.Dots.{dotsOf};
-ghost use Rattle.readiness.specs.Ready.{needed, firstLacking, readyUnder, readyAt};
+ghost use Rattle.clock.specs.Dots.{dots_of};
+ghost use Rattle.readiness.specs.Ready.{needed, first_lacking, ready_under, ready_at};
 
 use clock::{Clock, Dot};
 use entries::Update;
@@ -32,7 +32,7 @@ fn needed(own: Dot, d: Dot) -> u64
 // The first actor of a put clock whose needed counter was not seen.
 fn first_lacking(seen: Clock, own: Dot, put: Clock) -> Readiness
     requires { 0 < own.counter }
-    ensures { result ≡ firstLacking (dotsOf seen) own (dotsOf put) }
+    ensures { result ≡ first_lacking (dots_of seen) own (dots_of put) }
 {
     let n = put.size();
     let mut i: usize = 0;
@@ -50,7 +50,7 @@ fn first_lacking(seen: Clock, own: Dot, put: Clock) -> Readiness
 
 // An update held against a map clock.
 fn ready_under(seen: Clock, u: Update) -> Readiness
-    ensures { result ≡ readyUnder (dotsOf seen) u }
+    ensures { result ≡ ready_under (dots_of seen) u }
 {
     let own = u.dot;
     let put = u.put.clock;
@@ -65,7 +65,7 @@ fn ready_under(seen: Clock, u: Update) -> Readiness
 
 // An operation held against a map clock: a removal may be applied at any time.
 pub fn ready(seen: Clock, op: Op) -> Readiness
-    ensures { result ≡ readyAt (dotsOf seen) op }
+    ensures { result ≡ ready_at (dots_of seen) op }
 {
     if !op.up {
         return Readiness::Next;

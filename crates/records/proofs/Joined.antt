@@ -6,7 +6,7 @@ use native.Mathlib.Omega.{arith}
 use lib.ListN.{length, take, drop, length-drop, get_or-append, take-append-drop}
 use lib.Seq.{get_or-append-add, length-take-le}
 use Rattle.records.specs.Bytes.{num_at}
-use Rattle.records.specs.Records.{recordFrom, recordsFrom, recordsOf}
+use Rattle.records.specs.Records.{record_from, records_from, records_of}
 
 double : (k : ℕ) → 2 ^ suc k ≡ 2 ^ k + 2 ^ k
 double k = omega arith
@@ -24,8 +24,8 @@ num-second (suc k) at s t =
     let e : length s + at + 2 ^ k ≡ length s + (at + 2 ^ k) = omega arith in
     rw (num-second k at s t, e, num-second k (at + 2 ^ k) s t) refl
 
-record-first : (at : ℕ) (s t : List ℕ) → at + 16 ≤ length s → recordFrom (s ++ t) at ≡ recordFrom s at
-unfolding recordFrom
+record-first : (at : ℕ) (s t : List ℕ) → at + 16 ≤ length s → record_from (s ++ t) at ≡ record_from s at
+unfolding record_from
 record-first at s t h =
     rw (
       num-first 0 at s t (omega arith),
@@ -35,8 +35,8 @@ record-first at s t h =
       num-first 3 (at + 8) s t (omega arith),
     ) refl
 
-record-second : (at : ℕ) (s t : List ℕ) → recordFrom (s ++ t) (length s + at) ≡ recordFrom t at
-unfolding recordFrom
+record-second : (at : ℕ) (s t : List ℕ) → record_from (s ++ t) (length s + at) ≡ record_from t at
+unfolding record_from
 record-second at s t =
     let a : length s + at + 1 ≡ length s + (at + 1) = omega arith in
     let b : length s + at + 2 ≡ length s + (at + 2) = omega arith in
@@ -45,33 +45,33 @@ record-second at s t =
     rw (num-second 0 at s t, a, b, c, d, num-second 0 (at + 1) s t, num-second 1 (at + 2) s t, num-second 2 (at + 4) s t, num-second 3 (at + 8) s t)
     refl
 
-records-first : (n at : ℕ) (s t : List ℕ) → at + n * 16 ≤ length s → recordsFrom (s ++ t) at n ≡ recordsFrom s at n
-unfolding recordsFrom
+records-first : (n at : ℕ) (s t : List ℕ) → at + n * 16 ≤ length s → records_from (s ++ t) at n ≡ records_from s at n
+unfolding records_from
 records-first zero at s t h = refl
 records-first (suc n) at s t h = ap₂ (λ r l. r ∷ l) (record-first at s t (omega arith)) (records-first n (at + 16) s t (omega arith))
 
-records-second : (n at : ℕ) (s t : List ℕ) → recordsFrom (s ++ t) (length s + at) n ≡ recordsFrom t at n
-unfolding recordsFrom
+records-second : (n at : ℕ) (s t : List ℕ) → records_from (s ++ t) (length s + at) n ≡ records_from t at n
+unfolding records_from
 records-second zero at s t = refl
 records-second (suc n) at s t =
     let e : length s + at + 16 ≡ length s + (at + 16) = omega arith in
-    ap₂ (λ r l. r ∷ l) (record-second at s t) (ap (λ a. recordsFrom (s ++ t) a n) e ∙ records-second n (at + 16) s t)
+    ap₂ (λ r l. r ∷ l) (record-second at s t) (ap (λ a. records_from (s ++ t) a n) e ∙ records-second n (at + 16) s t)
 
-pub records-split : (n m at : ℕ) (s : List ℕ) → recordsFrom s at (n + m) ≡ recordsFrom s at n ++ recordsFrom s (at + n * 16) m
-unfolding recordsFrom
+pub records-split : (n m at : ℕ) (s : List ℕ) → records_from s at (n + m) ≡ records_from s at n ++ records_from s (at + n * 16) m
+unfolding records_from
 records-split zero m at s = let a : zero + m ≡ m = omega arith in let b : at + zero * 16 ≡ at = omega arith in rw (a, b) refl
 records-split (suc n) m at s =
     let a : suc n + m ≡ suc (n + m) = omega arith in
     let b : at + suc n * 16 ≡ at + 16 + n * 16 = omega arith in
-    rw (a, b) (ap (λ l. recordFrom s at ∷ l) (records-split n m (at + 16) s))
+    rw (a, b) (ap (λ l. record_from s at ∷ l) (records-split n m (at + 16) s))
 
-pub length-records : (s : List ℕ) (at n : ℕ) → length (recordsFrom s at n) ≡ n
-unfolding recordsFrom
+pub length-records : (s : List ℕ) (at n : ℕ) → length (records_from s at n) ≡ n
+unfolding records_from
 length-records s at zero = refl
 length-records s at (suc n) = ap suc (length-records s (at + 16) n)
 
 -- the records of a part are those that stand there in the whole
-pub records-slice : (s : List ℕ) (at k n : ℕ) → k ≡ n * 16 → at + k ≤ length s → recordsOf (take k (drop at s)) ≡ recordsFrom s at n
+pub records-slice : (s : List ℕ) (at k n : ℕ) → k ≡ n * 16 → at + k ≤ length s → records_of (take k (drop at s)) ≡ records_from s at n
 records-slice s at k n e h =
     let p = take at s in
     let t = take k (drop at s) in
@@ -81,5 +81,5 @@ records-slice s at k n e h =
     let z : length t / 16 ≡ n = omega arith in
     let a : length p + 0 ≡ at = omega (arith, length-take-le at s (omega arith)) in
     let whole : p ++ (t ++ q) ≡ s = ap (λ x. p ++ x) (take-append-drop k (drop at s)) ∙ take-append-drop at s in
-    ap (recordsFrom t 0) z ∙ sym (records-first n 0 t q (omega arith)) ∙ sym (records-second n 0 p (t ++ q))
-    ∙ ap₂ (λ x y. recordsFrom x y n) whole a
+    ap (records_from t 0) z ∙ sym (records-first n 0 t q (omega arith)) ∙ sym (records-second n 0 p (t ++ q))
+    ∙ ap₂ (λ x y. records_from x y n) whole a

@@ -8,8 +8,8 @@ use native.Mathlib.Omega.{arith}
 use lib.ListN.{length, take, drop, length-append}
 use lib.Seq.{take-add, drop-drop, take-length}
 use Rattle.listlaws.specs.Order.{◌∈◌}
-use Rattle.records.specs.Bytes.{numBytes, Bytes}
-use Rattle.records.specs.Records.{recordFrom, recordsFrom, recordsOf, recordBytes, bytes_of}
+use Rattle.records.specs.Bytes.{num_bytes, Bytes}
+use Rattle.records.specs.Records.{record_from, records_from, records_of, record_bytes, bytes_of}
 use Rattle.records.specs.declared.Record.{Record}
 use Rattle.records.proofs.Numbers.{num-bytes, bytes-num, num-lt, none-bytes, both_bytes, num-are-bytes}
 
@@ -26,14 +26,14 @@ pub by-fields : {q r : Record} → q.kind ≡ r.kind → q.index ≡ r.index →
 by-fields {q} {r} a b c d e = λ i. record { kind = a i; index = b i; actor = c i; key = d i; number = e i }
 
 -- a record is read from where its bytes stand
-pub read-record : (r : Record) (at : ℕ) (s p q : List ℕ) → s ≡ p ++ (recordBytes r ++ q) → length p ≡ at → Fitting r → recordFrom s at ≡ r
-unfolding recordFrom
+pub read-record : (r : Record) (at : ℕ) (s p q : List ℕ) → s ≡ p ++ (record_bytes r ++ q) → length p ≡ at → Fitting r → record_from s at ≡ r
+unfolding record_from
 read-record r at s p q e n f =
-    let k = numBytes 0 r.kind in
-    let i = numBytes 0 r.index in
-    let a = numBytes 1 r.actor in
-    let y = numBytes 2 r.key in
-    let m = numBytes 3 r.number in
+    let k = num_bytes 0 r.kind in
+    let i = num_bytes 0 r.index in
+    let a = num_bytes 1 r.actor in
+    let y = num_bytes 2 r.key in
+    let m = num_bytes 3 r.number in
     by-fields
     (num-bytes 0 r.kind at s p (i ++ (a ++ (y ++ (m ++ q)))) (e ∙ simp append_assoc) n f.kind)
     (num-bytes 0 r.index (at + 1) s (p ++ k) (a ++ (y ++ (m ++ q))) (e ∙ simp append_assoc) (simp length-append (omega arith)) f.index)
@@ -42,8 +42,8 @@ read-record r at s p q e n f =
     (num-bytes 3 r.number (at + 8) s (p ++ (k ++ (i ++ (a ++ y)))) q (e ∙ simp append_assoc) (simp length-append (omega arith)) f.number)
 
 -- what is read fits
-pub read_fits : (s : List ℕ) (at : ℕ) → Bytes s → Fitting (recordFrom s at)
-unfolding recordFrom
+pub read_fits : (s : List ℕ) (at : ℕ) → Bytes s → Fitting (record_from s at)
+unfolding record_from
 read_fits s at b = record {
   kind = num-lt 0 at s b;
   index = num-lt 0 (at + 1) s b;
@@ -53,8 +53,8 @@ read_fits s at b = record {
 }
 
 -- the bytes of a record that was read are those that were read
-bytes-record : (s : List ℕ) (at : ℕ) → Bytes s → at + 16 ≤ length s → recordBytes (recordFrom s at) ≡ take 16 (drop at s)
-unfolding recordFrom
+bytes-record : (s : List ℕ) (at : ℕ) → Bytes s → at + 16 ≤ length s → record_bytes (record_from s at) ≡ take 16 (drop at s)
+unfolding record_from
 bytes-record s at b h =
     ap₂ ◌++◌ (bytes-num 0 at s b (omega arith))
     (ap₂ ◌++◌ (bytes-num 0 (at + 1) s b (omega arith))
@@ -71,32 +71,32 @@ bytes-record s at b h =
 pub length-bytes : (l : List Record) → length (bytes_of l) ≡ length l * 16
 unfolding bytes_of
 length-bytes [] = refl
-length-bytes (r ∷ l) = length-append (recordBytes r) (bytes_of l) ∙ omega (arith, length-bytes l)
+length-bytes (r ∷ l) = length-append (record_bytes r) (bytes_of l) ∙ omega (arith, length-bytes l)
 
 pub bytes-append : (l m : List Record) → bytes_of (l ++ m) ≡ bytes_of l ++ bytes_of m
 unfolding bytes_of
 bytes-append [] m = refl
-bytes-append (r ∷ l) m = ap (λ t. recordBytes r ++ t) (bytes-append l m) ∙ sym (append_assoc (recordBytes r) (bytes_of l) (bytes_of m))
+bytes-append (r ∷ l) m = ap (λ t. record_bytes r ++ t) (bytes-append l m) ∙ sym (append_assoc (record_bytes r) (bytes_of l) (bytes_of m))
 
 -- records are read from where their bytes stand
 read-from : (l : List Record) (at : ℕ) (s p q : List ℕ) → s ≡ p ++ (bytes_of l ++ q) → length p ≡ at → ((r : Record) → r ∈ l → Fitting r)
-    → recordsFrom s at (length l) ≡ l
-unfolding recordsFrom bytes_of
+    → records_from s at (length l) ≡ l
+unfolding records_from bytes_of
 read-from [] at s p q e n f = refl
 read-from (r ∷ l) at s p q e n f =
     ap₂ ◌∷◌
     (read-record r at s p (bytes_of l ++ q) (e ∙ simp append_assoc) n (f r (Memᴰ.head refl)))
-    (read-from l (at + 16) s (p ++ recordBytes r) q (e ∙ simp append_assoc) (simp length-append (omega arith)) (λ x i. f x (Memᴰ.tail i)))
+    (read-from l (at + 16) s (p ++ record_bytes r) q (e ∙ simp append_assoc) (simp length-append (omega arith)) (λ x i. f x (Memᴰ.tail i)))
 
 -- what was written reads as it was
-pub read-written : (l : List Record) → ((r : Record) → r ∈ l → Fitting r) → recordsOf (bytes_of l) ≡ l
+pub read-written : (l : List Record) → ((r : Record) → r ∈ l → Fitting r) → records_of (bytes_of l) ≡ l
 read-written l f =
     let n : length (bytes_of l) / 16 ≡ length l = omega (arith, length-bytes l) in
     rw n (read-from l 0 (bytes_of l) [] [] (sym (append-nil (bytes_of l))) refl f)
 
 -- the bytes of what was read are those that were read
-pub write-from : (s : List ℕ) (n at : ℕ) → Bytes s → at + n * 16 ≤ length s → bytes_of (recordsFrom s at n) ≡ take (n * 16) (drop at s)
-unfolding recordsFrom bytes_of
+pub write-from : (s : List ℕ) (n at : ℕ) → Bytes s → at + n * 16 ≤ length s → bytes_of (records_from s at n) ≡ take (n * 16) (drop at s)
+unfolding records_from bytes_of
 write-from s zero at b h = refl
 write-from s (suc n) at b h =
     let e : suc n * 16 ≡ 16 + n * 16 = omega arith in
@@ -104,32 +104,32 @@ write-from s (suc n) at b h =
     (ap₂ ◌++◌ (bytes-record s at b (omega arith)) (write-from s n (at + 16) b (omega arith)))
 
 -- what was read writes as it was
-pub written_read : (s : List ℕ) → Bytes s → length s % 16 ≡ 0 → bytes_of (recordsOf s) ≡ s
+pub written_read : (s : List ℕ) → Bytes s → length s % 16 ≡ 0 → bytes_of (records_of s) ≡ s
 written_read s b h =
     let n : length s / 16 * 16 ≡ length s = omega arith in
     write-from s (length s / 16) 0 b (omega arith) ∙ rw n (take-length s)
 
 -- every record that is read fits
-pub read-all-fit : (s : List ℕ) → Bytes s → (n at : ℕ) (r : Record) → r ∈ recordsFrom s at n → Fitting r
-unfolding recordsFrom
+pub read-all-fit : (s : List ℕ) → Bytes s → (n at : ℕ) (r : Record) → r ∈ records_from s at n → Fitting r
+unfolding records_from
 read-all-fit s b zero at r i = absurd (Memᴰ.not-nil i)
 read-all-fit s b (suc n) at r i =
-    ⊎_elim (λ (e : r ≡ recordFrom s at). rw e (read_fits s at b)) (λ j. read-all-fit s b n (at + 16) r j) (Memᴰ.cases_cons i)
+    ⊎_elim (λ (e : r ≡ record_from s at). rw e (read_fits s at b)) (λ j. read-all-fit s b n (at + 16) r j) (Memᴰ.cases_cons i)
 
 -- records whose fields fit are written in bytes
-record-are-bytes : {r : Record} → Fitting r → Bytes (recordBytes r)
+record-are-bytes : {r : Record} → Fitting r → Bytes (record_bytes r)
 record-are-bytes {r} f =
-    let n = numBytes 3 r.number in
-    let y = numBytes 2 r.key ++ n in
-    let a = numBytes 1 r.actor ++ y in
-    let i = numBytes 0 r.index ++ a in
-    both_bytes (numBytes 0 r.kind) i (num-are-bytes 0 r.kind f.kind)
-    (both_bytes (numBytes 0 r.index) a (num-are-bytes 0 r.index f.index)
-    (both_bytes (numBytes 1 r.actor) y (num-are-bytes 1 r.actor f.actor)
-    (both_bytes (numBytes 2 r.key) n (num-are-bytes 2 r.key f.key) (num-are-bytes 3 r.number f.number))))
+    let n = num_bytes 3 r.number in
+    let y = num_bytes 2 r.key ++ n in
+    let a = num_bytes 1 r.actor ++ y in
+    let i = num_bytes 0 r.index ++ a in
+    both_bytes (num_bytes 0 r.kind) i (num-are-bytes 0 r.kind f.kind)
+    (both_bytes (num_bytes 0 r.index) a (num-are-bytes 0 r.index f.index)
+    (both_bytes (num_bytes 1 r.actor) y (num-are-bytes 1 r.actor f.actor)
+    (both_bytes (num_bytes 2 r.key) n (num-are-bytes 2 r.key f.key) (num-are-bytes 3 r.number f.number))))
 
 pub written-bytes : (l : List Record) → ((r : Record) → r ∈ l → Fitting r) → Bytes (bytes_of l)
 unfolding bytes_of
 written-bytes [] f = none-bytes
-written-bytes (r ∷ l) f = both_bytes (recordBytes r) (bytes_of l) (record-are-bytes (f r (Memᴰ.head refl)))
+written-bytes (r ∷ l) f = both_bytes (record_bytes r) (bytes_of l) (record-are-bytes (f r (Memᴰ.head refl)))
     (written-bytes l (λ x i. f x (Memᴰ.tail i)))

@@ -4,7 +4,7 @@ use mathlib.Core.List.{List, [], ◌∷◌, ◌++◌, append-nil, append_assoc}
 use Prim.Native.Nat.{ℕ, ◌+◌, ◌*◌, ◌≤◌}
 use native.Mathlib.Omega.{arith}
 use lib.ListN.{length, length-append}
-use Rattle.records.specs.Records.{recordBytes, bytes_of}
+use Rattle.records.specs.Records.{record_bytes, bytes_of}
 use Rattle.records.specs.Writing.{Wrote}
 use Rattle.records.specs.declared.Record.{Record}
 use Rattle.records.proofs.Placing.{placed-none, placed_on, length-placed}
@@ -67,10 +67,10 @@ module _ (whole : List Record) (at : ℕ) (entry : List ℕ) where
   write-end w e = rw (w.parts ∙ ap (λ k. w.done ++ k) e ∙ append-nil w.done) w.wrote
 
 -- one record
-pub wrote_one : (r : Record) (at : ℕ) (entry exit : List ℕ) (next : ℕ) → Wrote at (recordBytes r) entry exit next
+pub wrote_one : (r : Record) (at : ℕ) (entry exit : List ℕ) (next : ℕ) → Wrote at (record_bytes r) entry exit next
     → Wrote at (bytes_of (r ∷ [])) entry exit next
 unfolding bytes_of
-wrote_one r at entry exit next w = rw (append-nil (recordBytes r)) w
+wrote_one r at entry exit next w = rw (append-nil (record_bytes r)) w
 
 -- all that is left, written at once
 module _ (whole rest : List Record) (at : ℕ) (entry : List ℕ) where

@@ -7,9 +7,9 @@ num_at zero at s = get_or s at 0
 num_at (suc k) at s = num_at k at s + 256 ^ (2 ^ k) * num_at k (at + 2 ^ k) s
 
 -- the 2 ^ k bytes of x
-abbrev pub numBytes : ℕ → ℕ → List ℕ
-numBytes zero x = x ∷ []
-numBytes (suc k) x = numBytes k (x % 256 ^ (2 ^ k)) ++ numBytes k (x / 256 ^ (2 ^ k))
+abbrev pub num_bytes : ℕ → ℕ → List ℕ
+num_bytes zero x = x ∷ []
+num_bytes (suc k) x = num_bytes k (x % 256 ^ (2 ^ k)) ++ num_bytes k (x / 256 ^ (2 ^ k))
 
 -- s with the bytes b in place from `at` on
 unfoldable pub placed : ℕ → List ℕ → List ℕ → List ℕ
@@ -20,5 +20,5 @@ abbrev pub Bytes : List ℕ → Type 0
 Bytes s = (i : ℕ) → get_or s i 0 < 256
 
 -- a flag as a byte
-abbrev pub flagOf : Bool → ℕ
-flagOf b = cond b 1 0
+abbrev pub flag_of : Bool → ℕ
+flag_of b = cond b 1 0

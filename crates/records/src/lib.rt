@@ -1,9 +1,9 @@
 // Records of 16 bytes in a lent slice, and the twelve kinds of record.
 ghost use Rattle.std.specs.Prelude.{◌≡◌, ◌+◌, ◌*◌, ◌≤◌, ◌<◌, length};
-ghost use Rattle.records.specs.Bytes.{num_at, numBytes, placed, flagOf};
-ghost use Rattle.records.specs.Records.{recordFrom, recordBytes};
+ghost use Rattle.records.specs.Bytes.{num_at, num_bytes, placed, flag_of};
+ghost use Rattle.records.specs.Records.{record_from, record_bytes};
 ghost use Rattle.records.specs.Writing.{Wrote};
-ghost use Rattle.records.specs.Kinds.{mask_of, fieldOk, fieldsOk, counterOk, recordOk, actorOf, before};
+ghost use Rattle.records.specs.Kinds.{mask_of, field_ok, fields_ok, counter_ok, record_ok, actor_of, before};
 
 #[derive(Drop)]
 pub struct Record {
@@ -75,7 +75,7 @@ pub fn read64(s: &[u8], at: usize) -> u64
 
 pub fn read_record(s: &[u8], at: usize) -> Record
     requires { at + 16 ≤ length s.now }
-    ensures { result ≡ recordFrom s.now at }
+    ensures { result ≡ record_from s.now at }
 {
     let kind = s[at];
     let index = s[at + 1];
@@ -93,14 +93,14 @@ pub fn read_record(s: &[u8], at: usize) -> Record
 
 pub fn put8(out: &mut [u8], at: usize, x: u8)
     requires { at + 1 ≤ length out.old }
-    ensures { out.new ≡ placed at (numBytes 0 x) out.old }
+    ensures { out.new ≡ placed at (num_bytes 0 x) out.old }
 {
     out[at] = x;
 }
 
 pub fn put16(out: &mut [u8], at: usize, x: u16)
     requires { at + 2 ≤ length out.old }
-    ensures { out.new ≡ placed at (numBytes 1 x) out.old }
+    ensures { out.new ≡ placed at (num_bytes 1 x) out.old }
 {
     put8(out, at, (x % 256) as u8);
     put8(out, at + 1, (x / 256) as u8);
@@ -108,7 +108,7 @@ pub fn put16(out: &mut [u8], at: usize, x: u16)
 
 pub fn put32(out: &mut [u8], at: usize, x: u32)
     requires { at + 4 ≤ length out.old }
-    ensures { out.new ≡ placed at (numBytes 2 x) out.old }
+    ensures { out.new ≡ placed at (num_bytes 2 x) out.old }
 {
     put16(out, at, (x % 65536) as u16);
     put16(out, at + 2, (x / 65536) as u16);
@@ -116,7 +116,7 @@ pub fn put32(out: &mut [u8], at: usize, x: u32)
 
 pub fn put64(out: &mut [u8], at: usize, x: u64)
     requires { at + 8 ≤ length out.old }
-    ensures { out.new ≡ placed at (numBytes 3 x) out.old }
+    ensures { out.new ≡ placed at (num_bytes 3 x) out.old }
 {
     put32(out, at, (x % 0x1_0000_0000) as u32);
     put32(out, at + 4, (x / 0x1_0000_0000) as u32);
@@ -125,7 +125,7 @@ pub fn put64(out: &mut [u8], at: usize, x: u64)
 // Writes a record at `at`, and answers the place behind it.
 pub fn write_record(out: &mut [u8], at: usize, r: Record) -> usize
     requires { at + 16 ≤ length out.old }
-    ensures { Wrote at (recordBytes r) out.old out.new result }
+    ensures { Wrote at (record_bytes r) out.old out.new result }
 {
     put8(out, at, r.kind);
     put8(out, at + 1, r.index);
@@ -142,13 +142,13 @@ fn mask_of(kind: u8) -> u8
 }
 
 fn field_ok(mask: u8, bit: u8, x: u64) -> bool
-    ensures { result ≡ fieldOk mask bit x }
+    ensures { result ≡ field_ok mask bit x }
 {
     (mask & bit != 0) | (x == 0)
 }
 
 fn fields_ok(mask: u8, r: Record) -> bool
-    ensures { result ≡ fieldsOk mask r }
+    ensures { result ≡ fields_ok mask r }
 {
     field_ok(mask, 1, r.index as u64)
         & (field_ok(mask, 2, r.actor as u64)
@@ -156,14 +156,14 @@ fn fields_ok(mask: u8, r: Record) -> bool
 }
 
 fn counter_ok(mask: u8, r: Record) -> bool
-    ensures { result ≡ counterOk mask r }
+    ensures { result ≡ counter_ok mask r }
 {
     (mask & 8 == 0) | ((r.kind == VALUE) | ((r.kind == PUT_VALUE) | (0 < r.number)))
 }
 
 // Whether a record is good by itself in an image of the kinds `low` to `high`.
 pub fn record_ok(low: u8, high: u8, r: Record) -> bool
-    ensures { result ≡ recordOk low high r }
+    ensures { result ≡ record_ok low high r }
 {
     let mask = mask_of(r.kind);
     (low <= r.kind) & ((r.kind <= high) & (fields_ok(mask, r) & counter_ok(mask, r)))
@@ -171,7 +171,7 @@ pub fn record_ok(low: u8, high: u8, r: Record) -> bool
 
 // The actor that a record is ordered by: none for a value, whose field holds an origin.
 fn actor_of(r: Record) -> u16
-    ensures { result ≡ actorOf r }
+    ensures { result ≡ actor_of r }
 {
     if (r.kind == VALUE) | (r.kind == PUT_VALUE) {
         0
@@ -194,7 +194,7 @@ pub fn before(a: Record, b: Record) -> bool
 
 // A flag as a byte.
 pub fn flag(b: bool) -> u8
-    ensures { result ≡ flagOf b }
+    ensures { result ≡ flag_of b }
 {
     if b { 1 } else { 0 }
 }

@@ -1,13 +1,13 @@
 // Registers: concurrent values in order, each under a clock. The Rust's mvreg.rs, on arrays with a count, by value.
 ghost use Rattle.std.specs.Prelude.{◌≡◌, List, [], ◌∷◌, ◌++◌, map, ◌≤◌, ◌<◌, ◌+◌, length};
 ghost use Rattle.listlaws.specs.Sift.{those};
-ghost use Rattle.clock.specs.Dots.{dotsOf, fitted};
+ghost use Rattle.clock.specs.Dots.{dots_of, fitted};
 ghost use Rattle.register.specs.declared.Content.{Content};
 ghost use Rattle.register.specs.declared.Value.{Value};
-ghost use Rattle.limits.specs.Limits.{valueLimit};
-ghost use Rattle.register.specs.Values.{values_of, registerOf, contentsOf, yields, outdone, standing, putValues, cutValue, cutValues};
-ghost use Rattle.register.specs.Values.{mergeValues, clockOver, read_of};
-ghost use Rattle.register.specs.InHand.{wideRoom, wideValues, wide_of, settled};
+ghost use Rattle.limits.specs.Limits.{value_limit};
+ghost use Rattle.register.specs.Values.{values_of, register_of, contents_of, yields, outdone, standing, put_values, cut_value, cut_values};
+ghost use Rattle.register.specs.Values.{merge_values, clock_over, read_of};
+ghost use Rattle.register.specs.InHand.{wide_room, wide_values, wide_of, settled};
 
 use clock::{Clock, Joined, Order};
 use limits::VALUES;
@@ -78,7 +78,7 @@ impl Value {
 
     // The value under its clock without the dots that `by` has seen.
     pub fn cut(self, by: Clock) -> Value
-        ensures { result ≡ cutValue (dotsOf by) self }
+        ensures { result ≡ cut_value (dots_of by) self }
     {
         let c = self.clock.cut(by).clock;
         let value = self.value;
@@ -88,7 +88,7 @@ impl Value {
 
 impl Register {
     pub fn new() -> Register
-        ensures { result ≡ registerOf [] }
+        ensures { result ≡ register_of [] }
     {
         let none = Clock::new();
         let v = Value {
@@ -105,7 +105,7 @@ impl Register {
     }
 
     pub fn size(self) -> usize
-        ensures { (result ≡ length (values_of self)) × (result ≤ valueLimit) }
+        ensures { (result ≡ length (values_of self)) × (result ≤ value_limit) }
     {
         let n = self.len;
         if n < VALUES { n } else { VALUES }
@@ -113,8 +113,8 @@ impl Register {
 
     // One value more behind the last.
     pub fn push(self, v: Value) -> Register
-        requires { self.len < valueLimit }
-        ensures { (l : List Value) → self ≡ registerOf l → result ≡ registerOf (l ++ (v ∷ [])) }
+        requires { self.len < value_limit }
+        ensures { (l : List Value) → self ≡ register_of l → result ≡ register_of (l ++ (v ∷ [])) }
     {
         let mut out = self;
         let k = out.len;
@@ -141,7 +141,7 @@ impl Register {
 
     // The values that yield to none of `over`.
     pub fn standing(self, over: Register, equal_too: bool) -> Register
-        ensures { result ≡ registerOf (those (standing equal_too (values_of over)) (values_of self)) }
+        ensures { result ≡ register_of (those (standing equal_too (values_of over)) (values_of self)) }
     {
         let n = self.size();
         let mut out = Register::new();
@@ -167,7 +167,7 @@ impl Register {
 
     // The register with a value put into it: the Rust's `apply`.
     pub fn put(self, v: Value) -> Wide
-        ensures { result ≡ wide_of (putValues (values_of self) v) }
+        ensures { result ≡ wide_of (put_values (values_of self) v) }
     {
         if v.clock.is_empty() {
             return self.wide();
@@ -183,7 +183,7 @@ impl Register {
 
     // Without the dots that `by` has seen: the Rust's `reset_remove`.
     pub fn cut(self, by: Clock) -> Register
-        ensures { result ≡ registerOf (cutValues (dotsOf by) (values_of self)) }
+        ensures { result ≡ register_of (cut_values (dots_of by) (values_of self)) }
     {
         let s = self.wide().cut(by).settle();
         s.register
@@ -191,7 +191,7 @@ impl Register {
 
     // Both registers' values, without those that the other has overwritten.
     pub fn merge(self, other: Register) -> Wide
-        ensures { result ≡ wide_of (mergeValues (values_of self) (values_of other)) }
+        ensures { result ≡ wide_of (merge_values (values_of self) (values_of other)) }
     {
         let ours = self.standing(other, false);
         let theirs = other.standing(ours, true);
@@ -200,7 +200,7 @@ impl Register {
 
     // The clocks of the values, joined: the Rust's `clock`.
     fn clock_over(self) -> Joined
-        ensures { result ≡ fitted (clockOver (values_of self)) }
+        ensures { result ≡ fitted (clock_over (values_of self)) }
     {
         let n = self.size();
         let mut out = Joined::new();
@@ -215,7 +215,7 @@ impl Register {
 
     // The values, without their clocks.
     fn contents(self) -> Contents
-        ensures { result ≡ contentsOf (map (λ v. v.value) (values_of self)) }
+        ensures { result ≡ contents_of (map (λ v. v.value) (values_of self)) }
     {
         let n = self.size();
         let none = Content {
@@ -247,8 +247,8 @@ impl Register {
 impl Contents {
     // One more behind the last.
     fn push(self, x: Content) -> Contents
-        requires { self.len < valueLimit }
-        ensures { (l : List Content) → self ≡ contentsOf l → result ≡ contentsOf (l ++ (x ∷ [])) }
+        requires { self.len < value_limit }
+        ensures { (l : List Content) → self ≡ contents_of l → result ≡ contents_of (l ++ (x ∷ [])) }
     {
         let mut out = self;
         let k = out.len;
@@ -277,7 +277,7 @@ impl Wide {
     }
 
     pub fn size(self) -> usize
-        ensures { (result ≡ length (wideValues self)) × (result ≤ wideRoom) }
+        ensures { (result ≡ length (wide_values self)) × (result ≤ wide_room) }
     {
         let n = self.len;
         if n < WIDE { n } else { WIDE }
@@ -285,7 +285,7 @@ impl Wide {
 
     // One value more behind the last.
     fn push(self, v: Value) -> Wide
-        requires { self.len < wideRoom }
+        requires { self.len < wide_room }
         ensures { (result.len ≡ self.len + 1) × ((l : List Value) → self ≡ wide_of l → result ≡ wide_of (l ++ (v ∷ []))) }
     {
         let mut out = self;
@@ -297,7 +297,7 @@ impl Wide {
 
     // A register's values behind the last.
     fn trail(self, from: Register) -> Wide
-        requires { self.len + length (values_of from) ≤ wideRoom }
+        requires { self.len + length (values_of from) ≤ wide_room }
         ensures { (l : List Value) → self ≡ wide_of l → result ≡ wide_of (l ++ values_of from) }
     {
         let n = from.size();
@@ -315,7 +315,7 @@ impl Wide {
 
     // Cut each value's clock, and drop the values left with none.
     pub fn cut(self, by: Clock) -> Wide
-        ensures { result ≡ wide_of (cutValues (dotsOf by) (wideValues self)) }
+        ensures { result ≡ wide_of (cut_values (dots_of by) (wide_values self)) }
     {
         let n = self.size();
         let mut out = Wide::new();
@@ -335,8 +335,8 @@ impl Wide {
 
     // The first values, as many as a register holds.
     fn narrow(self) -> Register
-        requires { length (wideValues self) ≤ valueLimit }
-        ensures { result ≡ registerOf (wideValues self) }
+        requires { length (wide_values self) ≤ value_limit }
+        ensures { result ≡ register_of (wide_values self) }
     {
         let n = self.size();
         let mut out = Register::new();
@@ -353,7 +353,7 @@ impl Wide {
 
     // The register of these values, or that they are over the limit.
     pub fn settle(self) -> Settled
-        ensures { result ≡ settled (wideValues self) }
+        ensures { result ≡ settled (wide_values self) }
     {
         if self.size() <= VALUES {
             let register = self.narrow();

@@ -13,8 +13,8 @@ use Rattle.listlaws.proofs.Orders.{apart}
 use Rattle.listlaws.proofs.Levels.{Level, Steady}
 use Rattle.clock.specs.declared.Dot.{Dot}
 use Rattle.removals.specs.declared.Removal.{Removal}
-use Rattle.removals.specs.Waits.{clockBefore, removalBefore}
-use Rattle.removals.specs.Model.{underOf}
+use Rattle.removals.specs.Waits.{clock_before, removal_before}
+use Rattle.removals.specs.Model.{under_of}
 
 or-false : (b : Bool) → (b || false) ≡ b
 or-false true = refl
@@ -22,19 +22,19 @@ or-false false = refl
 
 module _ (x y : Dot) (l m : List Dot) where
   -- the actors differ
-  pub before-actor : (x.actor ≡ y.actor → ⊥) → ltb x.actor y.actor ≡ clockBefore (x ∷ l) (y ∷ m)
-  unfolding clockBefore
+  pub before-actor : (x.actor ≡ y.actor → ⊥) → ltb x.actor y.actor ≡ clock_before (x ∷ l) (y ∷ m)
+  unfolding clock_before
   before-actor h = rw (ne_eqb x.actor y.actor h) (sym (or-false _))
 
   -- the counters differ
-  pub before-counter : x.actor ≡ y.actor → (x.counter ≡ y.counter → ⊥) → ltb x.counter y.counter ≡ clockBefore (x ∷ l) (y ∷ m)
-  unfolding clockBefore
+  pub before-counter : x.actor ≡ y.actor → (x.counter ≡ y.counter → ⊥) → ltb x.counter y.counter ≡ clock_before (x ∷ l) (y ∷ m)
+  unfolding clock_before
   before-counter e h = rw (le-ltb x.actor y.actor (omega arith), eq-eqb x.actor y.actor e, ne_eqb x.counter y.counter h)
       (sym (or-false _))
 
   -- the dots are equal
-  pub before-rest : x.actor ≡ y.actor → x.counter ≡ y.counter → clockBefore (x ∷ l) (y ∷ m) ≡ clockBefore l m
-  unfolding clockBefore
+  pub before-rest : x.actor ≡ y.actor → x.counter ≡ y.counter → clock_before (x ∷ l) (y ∷ m) ≡ clock_before l m
+  unfolding clock_before
   before-rest e f = rw (
     le-ltb x.actor y.actor (omega arith),
     eq-eqb x.actor y.actor e,
@@ -43,11 +43,11 @@ module _ (x y : Dot) (l m : List Dot) where
   )
 
 -- "a prefix first": of the empty clock and the rest of another, the empty one
-pub before-prefix : (m : List Dot) (i : ℕ) → ltb i (length m) ≡ clockBefore [] (drop i m)
-unfolding clockBefore
+pub before-prefix : (m : List Dot) (i : ℕ) → ltb i (length m) ≡ clock_before [] (drop i m)
+unfolding clock_before
 before-prefix m i = go (drop i m) (length-drop i m)
   where
-    go : (l : List Dot) → length l ≡ length m - i → ltb i (length m) ≡ clockBefore [] l
+    go : (l : List Dot) → length l ≡ length m - i → ltb i (length m) ≡ clock_before [] l
     go [] e = le-ltb i (length m) (omega arith)
     go (y ∷ l) e = lt-ltb i (length m) (omega arith)
 
@@ -88,38 +88,38 @@ compared x y = go (ltb x.actor y.actor) (ltb y.actor x.actor) (ltb x.counter y.c
         let f : x.counter ≡ y.counter = omega (arith, ltb-false x.counter y.counter r, ltb-false y.counter x.counter s) in
         same (λ i. record { actor = e i; counter = f i })
 
-below-before : {x y : Dot} (l m : List Dot) → Below x y → clockBefore (x ∷ l) (y ∷ m) ≡ true
+below-before : {x y : Dot} (l m : List Dot) → Below x y → clock_before (x ∷ l) (y ∷ m) ≡ true
 below-before {x} {y} l m (inl h) = sym (before-actor x y l m (λ e. omega arith)) ∙ lt-ltb x.actor y.actor h
 below-before {x} {y} l m (inr h) = sym (before-counter x y l m h.0 (λ e. omega arith)) ∙ lt-ltb x.counter y.counter h.1
 
-above_before : {x y : Dot} (l m : List Dot) → Below y x → clockBefore (x ∷ l) (y ∷ m) ≡ false
+above_before : {x y : Dot} (l m : List Dot) → Below y x → clock_before (x ∷ l) (y ∷ m) ≡ false
 above_before {x} {y} l m (inl h) = sym (before-actor x y l m (λ e. omega arith)) ∙ le-ltb x.actor y.actor (omega arith)
 above_before {x} {y} l m (inr h) = sym (before-counter x y l m (sym h.0) (λ e. omega arith)) ∙ le-ltb x.counter y.counter (omega arith)
 
-same-before : {x y : Dot} (l m : List Dot) → x ≡ y → clockBefore (x ∷ l) (y ∷ m) ≡ clockBefore l m
+same-before : {x y : Dot} (l m : List Dot) → x ≡ y → clock_before (x ∷ l) (y ∷ m) ≡ clock_before l m
 same-before {x} {y} l m e = before-rest x y l m (λ i. (e i).actor) (λ i. (e i).counter)
 
-pub before-strict : Strict clockBefore
-unfolding clockBefore
+pub before-strict : Strict clock_before
+unfolding clock_before
 before-strict [] [] t = refl
 before-strict (x ∷ l) [] t = apart (sym t)
 before-strict [] (y ∷ m) t = refl
 before-strict (x ∷ l) (y ∷ m) t = go (compared x y) (before-strict l m)
   where
-    go : Compared x y → (clockBefore l m ≡ true → clockBefore m l ≡ false) → clockBefore (y ∷ m) (x ∷ l) ≡ false
+    go : Compared x y → (clock_before l m ≡ true → clock_before m l ≡ false) → clock_before (y ∷ m) (x ∷ l) ≡ false
     go (below h) f = above_before m l h
     go (above h) f = apart (sym t ∙ above_before l m h)
     go (same e) f = same-before m l (sym e) ∙ f (sym (same-before l m e) ∙ t)
 
-pub before-steady : Steady clockBefore
-unfolding clockBefore
+pub before-steady : Steady clock_before
+unfolding clock_before
 before-steady x y [] e f = refl
 before-steady x [] (c ∷ n) e f = apart f
 before-steady [] (b ∷ m) (c ∷ n) e f = apart e
 before-steady (a ∷ l) (b ∷ m) (c ∷ n) e f = go (compared a b) (compared b c) (before-steady l m n)
   where
-    go : Compared a b → Compared b c → (clockBefore l m ≡ false → clockBefore m n ≡ false → clockBefore l n ≡ false)
-        → clockBefore (a ∷ l) (c ∷ n) ≡ false
+    go : Compared a b → Compared b c → (clock_before l m ≡ false → clock_before m n ≡ false → clock_before l n ≡ false)
+        → clock_before (a ∷ l) (c ∷ n) ≡ false
     go (below h) k g = apart (sym (below-before l m h) ∙ e)
     go (above h) (below k) g = apart (sym (below-before m n k) ∙ f)
     go (above h) (above k) g = above_before l n (below-below k h)
@@ -129,32 +129,32 @@ before-steady (a ∷ l) (b ∷ m) (c ∷ n) e f = go (compared a b) (compared b 
     go (same h) (same k) g = same-before l n (h ∙ k) ∙ g (sym (same-before l m h) ∙ e) (sym (same-before m n k) ∙ f)
 
 -- lists of dots that stand level are one
-pub before_same : (l m : List Dot) → Level clockBefore l m → l ≡ m
-unfolding clockBefore
+pub before_same : (l m : List Dot) → Level clock_before l m → l ≡ m
+unfolding clock_before
 before_same [] [] e = refl
 before_same (x ∷ l) [] e = apart e.1
 before_same [] (y ∷ m) e = apart e.0
 before_same (x ∷ l) (y ∷ m) e = go (compared x y) (λ h. before_same l m h)
   where
-    go : Compared x y → (Level clockBefore l m → l ≡ m) → x ∷ l ≡ y ∷ m
+    go : Compared x y → (Level clock_before l m → l ≡ m) → x ∷ l ≡ y ∷ m
     go (below h) f = apart (sym (below-before l m h) ∙ e.0)
     go (above h) f = apart (sym (below-before m l h) ∙ e.1)
     go (same q) f = ap₂ (λ z s. z ∷ s) q (f (sym (same-before l m q) ∙ e.0, sym (same-before m l (sym q)) ∙ e.1))
 
-pub before_self : (l : List Dot) → clockBefore l l ≡ false
-unfolding clockBefore
+pub before_self : (l : List Dot) → clock_before l l ≡ false
+unfolding clock_before
 before_self [] = refl
 before_self (x ∷ l) = same-before {x = x} l l refl ∙ before_self l
 
-pub removal-strict : Strict removalBefore
-removal-strict x y t = before-strict (underOf x) (underOf y) t
+pub removal-strict : Strict removal_before
+removal-strict x y t = before-strict (under_of x) (under_of y) t
 
-pub removal-steady : Steady removalBefore
-removal-steady x y z e f = before-steady (underOf x) (underOf y) (underOf z) e f
+pub removal-steady : Steady removal_before
+removal-steady x y z e f = before-steady (under_of x) (under_of y) (under_of z) e f
 
 -- removals that stand level are under the same clock
-pub removal-level : (x y : Removal) → Level removalBefore x y → underOf x ≡ underOf y
-removal-level x y e = before_same (underOf x) (underOf y) e
+pub removal-level : (x y : Removal) → Level removal_before x y → under_of x ≡ under_of y
+removal-level x y e = before_same (under_of x) (under_of y) e
 
-pub level-removal : (x y : Removal) → underOf x ≡ underOf y → Level removalBefore x y
-level-removal x y e = (rw e (before_self (underOf y)), rw e (before_self (underOf y)))
+pub level-removal : (x y : Removal) → under_of x ≡ under_of y → Level removal_before x y
+level-removal x y e = (rw e (before_self (under_of y)), rw e (before_self (under_of y)))

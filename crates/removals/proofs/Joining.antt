@@ -15,59 +15,59 @@ use Rattle.removals.specs.declared.Removal.{Removal}
 use Rattle.removals.specs.declared.JoinedWaiting.{JoinedWaiting}
 use Rattle.removals.specs.declared.UnitedKeys.{UnitedKeys}
 use Rattle.removals.specs.declared.Waiting.{Waiting}
-use Rattle.limits.specs.Limits.{waitingLimit, keyLimit}
-use Rattle.removals.specs.Model.{keysAs, listedIn, waitingAs}
-use Rattle.removals.specs.Counted.{unitedAs, overlong, joinedAs}
+use Rattle.limits.specs.Limits.{waiting_limit, key_limit}
+use Rattle.removals.specs.Model.{keys_as, listed_in, waiting_as}
+use Rattle.removals.specs.Counted.{united_as, overlong, joined_as}
 use Rattle.removals.proofs.KeyLimits.{keys-fit, united-over}
 
-module _ {g : JoinedWaiting} {u : UnitedKeys} (l : List Removal) (r : Removal) (q : g ≡ joinedAs l) (p : u ≡ unitedAs (listedIn r)) where
+module _ {g : JoinedWaiting} {u : UnitedKeys} (l : List Removal) (r : Removal) (q : g ≡ joined_as l) (p : u ≡ united_as (listed_in r)) where
   over : u.over ≡ overlong r
-  over = ap (λ k. k.over) p ∙ united-over (listedIn r)
+  over = ap (λ k. k.over) p ∙ united-over (listed_in r)
 
-  flags : (b : Bool) → (ltb g.count waitingLimit && not (g.long || u.over)) ≡ b
-      → (ltb (length l) waitingLimit && not (some overlong l || overlong r)) ≡ b
-  unfolding joinedAs
+  flags : (b : Bool) → (ltb g.count waiting_limit && not (g.long || u.over)) ≡ b
+      → (ltb (length l) waiting_limit && not (some overlong l || overlong r)) ≡ b
+  unfolding joined_as
   flags b t = rw (q, over) at t
 
   counted : (o : Waiting)
       → ◌≡◌ {A = JoinedWaiting} (record { count = g.count + 1; long = g.long || u.over; waiting = o })
       (record { count = length l + 1; long = some overlong l || overlong r; waiting = o })
-  unfolding joinedAs
+  unfolding joined_as
   counted o = rw (q, over)
 
-  pub joined-one : {c : Clock} {o : Waiting} → c ≡ r.clock → r.keys ≡ keysAs (listedIn r)
-      → (ltb g.count waitingLimit && not (g.long || u.over)) ≡ true
-      → ((m : List Removal) → g.waiting ≡ waitingAs m → o ≡ waitingAs (m ++ (record { clock = c; keys = u.keys } ∷ [])))
-      → record { count = g.count + 1; long = g.long || u.over; waiting = o } ≡ joinedAs (l ++ (r ∷ []))
-  unfolding joinedAs
+  pub joined-one : {c : Clock} {o : Waiting} → c ≡ r.clock → r.keys ≡ keys_as (listed_in r)
+      → (ltb g.count waiting_limit && not (g.long || u.over)) ≡ true
+      → ((m : List Removal) → g.waiting ≡ waiting_as m → o ≡ waiting_as (m ++ (record { clock = c; keys = u.keys } ∷ [])))
+      → record { count = g.count + 1; long = g.long || u.over; waiting = o } ≡ joined_as (l ++ (r ∷ []))
+  unfolding joined_as
   joined-one {c} {o} same laid t f =
       let v = flags true t in
-      let b = both-pass {n = length l} {k = waitingLimit} (some overlong l) (overlong r) v in
-      let room : length (listedIn r) ≤ keyLimit = ltb-false keyLimit (length (listedIn r)) b.2 in
-      let keys : u.keys ≡ r.keys = ap (λ k. k.keys) (p ∙ keys-fit (listedIn r) room) ∙ sym laid in
+      let b = both-pass {n = length l} {k = waiting_limit} (some overlong l) (overlong r) v in
+      let room : length (listed_in r) ≤ key_limit = ltb-false key_limit (length (listed_in r)) b.2 in
+      let keys : u.keys ≡ r.keys = ap (λ k. k.keys) (p ∙ keys-fit (listed_in r) room) ∙ sym laid in
       let item : ◌≡◌ {A = Removal} (record { clock = c; keys = u.keys }) r = λ i. record { clock = same i; keys = keys i } in
-      let store : g.waiting ≡ waitingAs l = ap (λ k. k.waiting) q ∙ rw (le-leb (length l) waitingLimit (omega (arith, b.0)), b.1) in
-      let stored : o ≡ waitingAs (l ++ (r ∷ [])) = f l store ∙ ap (λ x. waitingAs (l ++ (x ∷ []))) item in
+      let store : g.waiting ≡ waiting_as l = ap (λ k. k.waiting) q ∙ rw (le-leb (length l) waiting_limit (omega (arith, b.0)), b.1) in
+      let stored : o ≡ waiting_as (l ++ (r ∷ [])) = f l store ∙ ap (λ x. waiting_as (l ++ (x ∷ []))) item in
       counted o ∙ ap (λ x. record { count = length l + 1; long = some overlong l || overlong r; waiting = x }) stored
-      ∙ rw (tally-step waitingLimit overlong l r, some-snoc overlong l r, length-snoc l r, v)
+      ∙ rw (tally-step waiting_limit overlong l r, some-snoc overlong l r, length-snoc l r, v)
 
-  pub joined-none : {o : Waiting} → (ltb g.count waitingLimit && not (g.long || u.over)) ≡ false → o ≡ waitingAs []
-      → record { count = g.count + 1; long = g.long || u.over; waiting = o } ≡ joinedAs (l ++ (r ∷ []))
-  unfolding joinedAs
+  pub joined-none : {o : Waiting} → (ltb g.count waiting_limit && not (g.long || u.over)) ≡ false → o ≡ waiting_as []
+      → record { count = g.count + 1; long = g.long || u.over; waiting = o } ≡ joined_as (l ++ (r ∷ []))
+  unfolding joined_as
   joined-none {o} t e =
       counted o ∙ ap (λ x. record { count = length l + 1; long = some overlong l || overlong r; waiting = x }) e
-      ∙ rw (tally-step waitingLimit overlong l r, some-snoc overlong l r, length-snoc l r, flags false t)
+      ∙ rw (tally-step waiting_limit overlong l r, some-snoc overlong l r, length-snoc l r, flags false t)
 
 -- what is counted of united removals, and that they are stored where they fit
-pub joined-count : {g : JoinedWaiting} (l : List Removal) → g ≡ joinedAs l → g.count ≡ length l
-unfolding joinedAs
+pub joined-count : {g : JoinedWaiting} (l : List Removal) → g ≡ joined_as l → g.count ≡ length l
+unfolding joined_as
 joined-count l e = ap (λ g. g.count) e
 
-pub joined-long : {g : JoinedWaiting} (l : List Removal) → g ≡ joinedAs l → g.long ≡ some overlong l
-unfolding joinedAs
+pub joined-long : {g : JoinedWaiting} (l : List Removal) → g ≡ joined_as l → g.long ≡ some overlong l
+unfolding joined_as
 joined-long l e = ap (λ g. g.long) e
 
-pub joined-open : {g : JoinedWaiting} (l : List Removal) → g ≡ joinedAs l → length l ≤ waitingLimit → some overlong l ≡ false
-    → g.waiting ≡ waitingAs l
-unfolding joinedAs
-joined-open l e h t = ap (λ g. g.waiting) e ∙ rw (le-leb (length l) waitingLimit h, t)
+pub joined-open : {g : JoinedWaiting} (l : List Removal) → g ≡ joined_as l → length l ≤ waiting_limit → some overlong l ≡ false
+    → g.waiting ≡ waiting_as l
+unfolding joined_as
+joined-open l e h t = ap (λ g. g.waiting) e ∙ rw (le-leb (length l) waiting_limit h, t)

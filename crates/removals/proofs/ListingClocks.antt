@@ -13,25 +13,25 @@ use Rattle.listlaws.specs.Fold.{fold}
 use Rattle.listlaws.specs.Order.{◌∈◌}
 use Rattle.listlaws.proofs.Those.{those-means, those-holds}
 use Rattle.clock.specs.declared.Dot.{Dot}
-use Rattle.clock.specs.Dots.{joinDots, counterIn}
+use Rattle.clock.specs.Dots.{join_dots, counter_in}
 use Rattle.clock.specs.Lawful.{Lawful}
 use Rattle.clock.proofs.Counters.{counter-nil, same-clock}
 use Rattle.clock.proofs.Joins.{lawful-nil, lawful-join, counter-join}
 use Rattle.removals.specs.declared.Removal.{Removal}
-use Rattle.removals.specs.Model.{underOf, listedIn}
-use Rattle.removals.specs.Waits.{listed, unite, uniteAll}
+use Rattle.removals.specs.Model.{under_of, listed_in}
+use Rattle.removals.specs.Waits.{listed, unite, unite_all}
 use Rattle.removals.specs.Valid.{ValidWaiting, ValidRemoval}
 use Rattle.removals.proofs.Unions.{listed-means, listed-holds, union-means, union_left, union_right}
 use Rattle.removals.proofs.Uniting.{unite-keys, unite-each, unite-left, unite-right}
 use Rattle.removals.proofs.WaitingValid.{unite-valid}
 
 -- the clocks of those that list a key, joined
-unfoldable pub supOf : List Removal → ℕ → List Dot
-supOf ws k = fold (λ c w. joinDots c (underOf w)) [] (those (λ w. listed (listedIn w) k) ws)
+unfoldable pub sup_of : List Removal → ℕ → List Dot
+sup_of ws k = fold (λ c w. join_dots c (under_of w)) [] (those (λ w. listed (listed_in w) k) ws)
 
 -- removals under clocks
 abbrev pub Clocked : List Removal → Type 0
-Clocked ws = (w : Removal) → w ∈ ws → Lawful (underOf w)
+Clocked ws = (w : Removal) → w ∈ ws → Lawful (under_of w)
 
 pub clocked-valid : {ws : List Removal} → ValidWaiting ws → Clocked ws
 clocked-valid h w i = (h.each w i).clock
@@ -44,7 +44,7 @@ clocked-those p {ws} f w i = f w (those-means p ws i).0
 
 -- clocks joined to another
 abbrev over : List Dot → List Removal → List Dot
-over c ws = fold (λ d w. joinDots d (underOf w)) c ws
+over c ws = fold (λ d w. join_dots d (under_of w)) c ws
 
 pub tail-clocked : {w : Removal} {ws : List Removal} → Clocked (w ∷ ws) → Clocked ws
 tail-clocked f v i = f v (Memᴰ.tail i)
@@ -54,8 +54,8 @@ unfolding fold
 lawful-over [] h f = h
 lawful-over (w ∷ ws) h f = lawful-over ws (lawful-join h (f w (Memᴰ.head refl))) (tail-clocked f)
 
-over-least : {c : List Dot} (ws : List Removal) → Lawful c → Clocked ws → (a n : ℕ) → counterIn c a ≤ n
-    → ((w : Removal) → w ∈ ws → counterIn (underOf w) a ≤ n) → counterIn (over c ws) a ≤ n
+over-least : {c : List Dot} (ws : List Removal) → Lawful c → Clocked ws → (a n : ℕ) → counter_in c a ≤ n
+    → ((w : Removal) → w ∈ ws → counter_in (under_of w) a ≤ n) → counter_in (over c ws) a ≤ n
 unfolding fold
 over-least [] h f a n p q = p
 over-least (w ∷ ws) h f a n p q =
@@ -63,7 +63,7 @@ over-least (w ∷ ws) h f a n p q =
     over-least ws (lawful-join h k) (tail-clocked f) a n (omega (arith, counter-join h k a, q w (Memᴰ.head refl)))
     (λ v i. q v (Memᴰ.tail i))
 
-over-start : {c : List Dot} (ws : List Removal) → Lawful c → Clocked ws → (a : ℕ) → counterIn c a ≤ counterIn (over c ws) a
+over-start : {c : List Dot} (ws : List Removal) → Lawful c → Clocked ws → (a : ℕ) → counter_in c a ≤ counter_in (over c ws) a
 unfolding fold
 over-start [] h f a = omega arith
 over-start (w ∷ ws) h f a =
@@ -71,7 +71,7 @@ over-start (w ∷ ws) h f a =
     omega (arith, counter-join h k a, over-start ws (lawful-join h k) (tail-clocked f) a)
 
 over-each : {c : List Dot} (ws : List Removal) → Lawful c → Clocked ws → (a : ℕ) (w : Removal) → w ∈ ws
-    → counterIn (underOf w) a ≤ counterIn (over c ws) a
+    → counter_in (under_of w) a ≤ counter_in (over c ws) a
 unfolding fold
 over-each [] h f a w i = absurd (Memᴰ.not-nil i)
 over-each {c} (v ∷ ws) h f a w i =
@@ -83,60 +83,60 @@ over-each {c} (v ∷ ws) h f a w i =
 
 -- the counter of one of them, or of the clock that they are joined to
 over-reached : {c : List Dot} (ws : List Removal) → Lawful c → Clocked ws → (a : ℕ)
-    → (counterIn (over c ws) a ≡ counterIn c a) ⊎ ((w : Removal) × (w ∈ ws) × (counterIn (over c ws) a ≡ counterIn (underOf w) a))
+    → (counter_in (over c ws) a ≡ counter_in c a) ⊎ ((w : Removal) × (w ∈ ws) × (counter_in (over c ws) a ≡ counter_in (under_of w) a))
 unfolding fold
 over-reached [] h f a = inl refl
-over-reached {c} (w ∷ ws) h f a = go (over-reached ws (lawful-join h k) (tail-clocked f) a) (ltb (counterIn c a) (counterIn (underOf w) a)) refl
+over-reached {c} (w ∷ ws) h f a = go (over-reached ws (lawful-join h k) (tail-clocked f) a) (ltb (counter_in c a) (counter_in (under_of w) a)) refl
   where
-    k : Lawful (underOf w)
+    k : Lawful (under_of w)
     k = f w (Memᴰ.head refl)
 
     j : List Dot
-    j = joinDots c (underOf w)
+    j = join_dots c (under_of w)
 
     end : ℕ
-    end = counterIn (over (joinDots c (underOf w)) ws) a
+    end = counter_in (over (join_dots c (under_of w)) ws) a
 
-    go : (end ≡ counterIn j a) ⊎ ((v : Removal) × (v ∈ ws) × (end ≡ counterIn (underOf v) a)) → (b : Bool)
-        → ltb (counterIn c a) (counterIn (underOf w) a) ≡ b
-        → (end ≡ counterIn c a) ⊎ ((v : Removal) × (v ∈ (w ∷ ws)) × (end ≡ counterIn (underOf v) a))
-    go (inl e) true t = inr (w, Memᴰ.head refl, omega (arith, e, counter-join h k a, ltb-true (counterIn c a) (counterIn (underOf w) a) t))
-    go (inl e) false t = inl (omega (arith, e, counter-join h k a, ltb-false (counterIn c a) (counterIn (underOf w) a) t))
+    go : (end ≡ counter_in j a) ⊎ ((v : Removal) × (v ∈ ws) × (end ≡ counter_in (under_of v) a)) → (b : Bool)
+        → ltb (counter_in c a) (counter_in (under_of w) a) ≡ b
+        → (end ≡ counter_in c a) ⊎ ((v : Removal) × (v ∈ (w ∷ ws)) × (end ≡ counter_in (under_of v) a))
+    go (inl e) true t = inr (w, Memᴰ.head refl, omega (arith, e, counter-join h k a, ltb-true (counter_in c a) (counter_in (under_of w) a) t))
+    go (inl e) false t = inl (omega (arith, e, counter-join h k a, ltb-false (counter_in c a) (counter_in (under_of w) a) t))
     go (inr r) b t = inr (r.0, Memᴰ.tail r.1, r.2)
 
 module _ {ws : List Removal} (f : Clocked ws) (k : ℕ) where
-  among : Clocked (those (λ w. listed (listedIn w) k) ws)
-  among w i = f w (those-means (λ v. listed (listedIn v) k) ws i).0
+  among : Clocked (those (λ w. listed (listed_in w) k) ws)
+  among w i = f w (those-means (λ v. listed (listed_in v) k) ws i).0
 
-  pub lawful-sup : Lawful (supOf ws k)
-  unfolding supOf
-  lawful-sup = lawful-over (those (λ w. listed (listedIn w) k) ws) lawful-nil among
+  pub lawful-sup : Lawful (sup_of ws k)
+  unfolding sup_of
+  lawful-sup = lawful-over (those (λ w. listed (listed_in w) k) ws) lawful-nil among
 
   -- at least the counter of each that lists the key
-  pub sup-above : (a : ℕ) (w : Removal) → w ∈ ws → listed (listedIn w) k ≡ true → counterIn (underOf w) a ≤ counterIn (supOf ws k) a
-  unfolding supOf
+  pub sup-above : (a : ℕ) (w : Removal) → w ∈ ws → listed (listed_in w) k ≡ true → counter_in (under_of w) a ≤ counter_in (sup_of ws k) a
+  unfolding sup_of
   sup-above a w i t =
-      over-each (those (λ v. listed (listedIn v) k) ws) lawful-nil among a w (those-holds (λ v. listed (listedIn v) k) i t)
+      over-each (those (λ v. listed (listed_in v) k) ws) lawful-nil among a w (those-holds (λ v. listed (listed_in v) k) i t)
 
   -- and the least such
-  pub sup_least : (a n : ℕ) → ((w : Removal) → w ∈ ws → listed (listedIn w) k ≡ true → counterIn (underOf w) a ≤ n) → counterIn (supOf ws k) a ≤ n
-  unfolding supOf
+  pub sup_least : (a n : ℕ) → ((w : Removal) → w ∈ ws → listed (listed_in w) k ≡ true → counter_in (under_of w) a ≤ n) → counter_in (sup_of ws k) a ≤ n
+  unfolding sup_of
   sup_least a n g =
-      over-least (those (λ v. listed (listedIn v) k) ws) lawful-nil among a n (omega (arith, counter-nil a))
-      (λ w i. let r = those-means (λ v. listed (listedIn v) k) ws i in g w r.0 r.1)
+      over-least (those (λ v. listed (listed_in v) k) ws) lawful-nil among a n (omega (arith, counter-nil a))
+      (λ w i. let r = those-means (λ v. listed (listed_in v) k) ws i in g w r.0 r.1)
 
   -- the counter of one that lists the key, or 0
   pub sup-reached : (a : ℕ)
-      → (counterIn (supOf ws k) a ≡ 0) ⊎ ((w : Removal) × (w ∈ ws) × (listed (listedIn w) k ≡ true)
-      × (counterIn (supOf ws k) a ≡ counterIn (underOf w) a))
-  unfolding supOf
+      → (counter_in (sup_of ws k) a ≡ 0) ⊎ ((w : Removal) × (w ∈ ws) × (listed (listed_in w) k ≡ true)
+      × (counter_in (sup_of ws k) a ≡ counter_in (under_of w) a))
+  unfolding sup_of
   sup-reached a =
       ⊎_elim (λ e. inl (e ∙ counter-nil a))
-      (λ r. let q = those-means (λ v. listed (listedIn v) k) ws r.1 in inr (r.0, q.0, q.1, r.2))
-      (over-reached (those (λ v. listed (listedIn v) k) ws) lawful-nil among a)
+      (λ r. let q = those-means (λ v. listed (listed_in v) k) ws r.1 in inr (r.0, q.0, q.1, r.2))
+      (over-reached (those (λ v. listed (listed_in v) k) ws) lawful-nil among a)
 
-pub sup-listed : {w : Removal} {ws : List Removal} → Clocked (w ∷ ws) → (k : ℕ) → listed (listedIn w) k ≡ true
-    → supOf (w ∷ ws) k ≡ joinDots (underOf w) (supOf ws k)
+pub sup-listed : {w : Removal} {ws : List Removal} → Clocked (w ∷ ws) → (k : ℕ) → listed (listed_in w) k ≡ true
+    → sup_of (w ∷ ws) k ≡ join_dots (under_of w) (sup_of ws k)
 sup-listed {w} {ws} f k t =
     let h = f w (Memᴰ.head refl) in
     let s = lawful-sup (tail-clocked f) k in
@@ -144,61 +144,61 @@ sup-listed {w} {ws} f k t =
       arith,
       counter-join h s a,
       sup-above f k a w (Memᴰ.head refl) t,
-      sup_least (tail-clocked f) k a (counterIn (supOf (w ∷ ws) k) a) (λ v i u. sup-above f k a v (Memᴰ.tail i) u),
-      sup_least f k a (counterIn (joinDots (underOf w) (supOf ws k)) a) (λ v i u.
+      sup_least (tail-clocked f) k a (counter_in (sup_of (w ∷ ws) k) a) (λ v i u. sup-above f k a v (Memᴰ.tail i) u),
+      sup_least f k a (counter_in (join_dots (under_of w) (sup_of ws k)) a) (λ v i u.
           ⊎_elim (λ (e : v ≡ w). rw e (omega (arith, counter-join h s a)))
           (λ j. omega (arith, counter-join h s a, sup-above (tail-clocked f) k a v j u)) (Memᴰ.cases_cons i)),
     ))
 
-pub sup-other : (w : Removal) (ws : List Removal) (k : ℕ) → listed (listedIn w) k ≡ false → supOf (w ∷ ws) k ≡ supOf ws k
-unfolding supOf sift
+pub sup-other : (w : Removal) (ws : List Removal) (k : ℕ) → listed (listed_in w) k ≡ false → sup_of (w ∷ ws) k ≡ sup_of ws k
+unfolding sup_of sift
 sup-other w ws k t = rw t
 
 -- each clock that lists the key stands below the other run's
 abbrev pub Bounded : List Removal → List Removal → ℕ → Type 0
-Bounded ws vs k = (a : ℕ) (w : Removal) → w ∈ ws → listed (listedIn w) k ≡ true → counterIn (underOf w) a ≤ counterIn (supOf vs k) a
+Bounded ws vs k = (a : ℕ) (w : Removal) → w ∈ ws → listed (listed_in w) k ≡ true → counter_in (under_of w) a ≤ counter_in (sup_of vs k) a
 
 -- what two united removals list
 module _ {x y : Removal} (h : ValidRemoval x) (q : ValidRemoval y) (k : ℕ) where
-  unite-lists : listed (listedIn (unite x y)) k ≡ true → (listed (listedIn x) k ≡ true) ⊎ (listed (listedIn y) k ≡ true)
+  unite-lists : listed (listed_in (unite x y)) k ≡ true → (listed (listed_in x) k ≡ true) ⊎ (listed (listed_in y) k ≡ true)
   unite-lists t =
       ⊎_elim (λ i. inl (listed-holds i)) (λ i. inr (listed-holds i))
-      (union-means h.keys q.keys k (rw (unite-keys x y) at (listed-means (listedIn (unite x y)) k t)))
+      (union-means h.keys q.keys k (rw (unite-keys x y) at (listed-means (listed_in (unite x y)) k t)))
 
-  lists-left : listed (listedIn x) k ≡ true → listed (listedIn (unite x y)) k ≡ true
-  lists-left t = rw (unite-keys x y) (listed-holds (union_left h.keys q.keys (listed-means (listedIn x) k t)))
+  lists-left : listed (listed_in x) k ≡ true → listed (listed_in (unite x y)) k ≡ true
+  lists-left t = rw (unite-keys x y) (listed-holds (union_left h.keys q.keys (listed-means (listed_in x) k t)))
 
-  lists-right : listed (listedIn y) k ≡ true → listed (listedIn (unite x y)) k ≡ true
-  lists-right t = rw (unite-keys x y) (listed-holds (union_right h.keys q.keys (listed-means (listedIn y) k t)))
+  lists-right : listed (listed_in y) k ≡ true → listed (listed_in (unite x y)) k ≡ true
+  lists-right t = rw (unite-keys x y) (listed-holds (union_right h.keys q.keys (listed-means (listed_in y) k t)))
 
 module _ {l m : List Removal} (h : ValidWaiting l) (q : ValidWaiting m) (k : ℕ) where
-  united : Clocked (uniteAll l m)
+  united : Clocked (unite_all l m)
   united = clocked-valid (unite-valid h q)
 
   either : Clocked (l ++ m)
   either = clocked-append (clocked-valid h) (clocked-valid q)
 
-  pub unite-below : Bounded (uniteAll l m) (l ++ m) k
+  pub unite-below : Bounded (unite_all l m) (l ++ m) k
   unite-below a =
-      unite-each h.rising q.rising (λ w. listed (listedIn w) k ≡ true → counterIn (underOf w) a ≤ counterIn (supOf (l ++ m) k) a) left right
+      unite-each h.rising q.rising (λ w. listed (listed_in w) k ≡ true → counter_in (under_of w) a ≤ counter_in (sup_of (l ++ m) k) a) left right
       (λ x y i j e t. ⊎_elim (λ u. left x i u) (λ u. rw e (right y j u)) (unite-lists (h.each x i) (q.each y j) k t))
     where
-      left : (x : Removal) → x ∈ l → listed (listedIn x) k ≡ true → counterIn (underOf x) a ≤ counterIn (supOf (l ++ m) k) a
+      left : (x : Removal) → x ∈ l → listed (listed_in x) k ≡ true → counter_in (under_of x) a ≤ counter_in (sup_of (l ++ m) k) a
       left x i t = sup-above either k a x (Memᴰ.append_left m i) t
 
-      right : (y : Removal) → y ∈ m → listed (listedIn y) k ≡ true → counterIn (underOf y) a ≤ counterIn (supOf (l ++ m) k) a
+      right : (y : Removal) → y ∈ m → listed (listed_in y) k ≡ true → counter_in (under_of y) a ≤ counter_in (sup_of (l ++ m) k) a
       right y i t = sup-above either k a y (Memᴰ.append_right l i) t
 
-  pub unite-above : Bounded (l ++ m) (uniteAll l m) k
+  pub unite-above : Bounded (l ++ m) (unite_all l m) k
   unite-above a w i t = ⊎_elim left right (Memᴰ.append_cases l i)
     where
-      left : w ∈ l → counterIn (underOf w) a ≤ counterIn (supOf (uniteAll l m) k) a
+      left : w ∈ l → counter_in (under_of w) a ≤ counter_in (sup_of (unite_all l m) k) a
       left j =
           ⊎_elim (λ s. sup-above united k a w s t)
           (λ r. sup-above united k a (unite w r.0) r.3 (lists-left (h.each w j) (q.each r.0 r.1) k t))
           (unite-left h.rising q.rising j)
 
-      right : w ∈ m → counterIn (underOf w) a ≤ counterIn (supOf (uniteAll l m) k) a
+      right : w ∈ m → counter_in (under_of w) a ≤ counter_in (sup_of (unite_all l m) k) a
       right j =
           ⊎_elim (λ s. sup-above united k a w s t)
           (λ r. rw (← r.2) (sup-above united k a (unite r.0 w) r.3 (lists-right (h.each r.0 r.1) (q.each w j) k t)))

@@ -2,13 +2,13 @@
 ghost use Rattle.std.specs.Prelude.{◌≡◌, List, [], ◌∷◌, ◌++◌, map, ◌*◌, ◌-◌, ◌≤◌, ◌<◌, ◌+◌, length, drop};
 ghost use Rattle.listlaws.specs.Sift.{those};
 ghost use Rattle.listlaws.specs.Order.{◌∈◌};
-ghost use Rattle.clock.specs.Dots.{dotsOf};
+ghost use Rattle.clock.specs.Dots.{dots_of};
 ghost use Rattle.removals.specs.declared.Removal.{Removal};
-ghost use Rattle.limits.specs.Limits.{waitingLimit};
-ghost use Rattle.removals.specs.Model.{noRemoval, listedIn, waitingOf, waitingAs};
-ghost use Rattle.removals.specs.Waits.{waits, uniteAll, uniteInto, cutRemoval, resetWaiting};
+ghost use Rattle.limits.specs.Limits.{waiting_limit};
+ghost use Rattle.removals.specs.Model.{no_removal, listed_in, waiting_of, waiting_as};
+ghost use Rattle.removals.specs.Waits.{waits, unite_all, unite_into, cut_removal, reset_waiting};
 ghost use Rattle.removals.specs.Valid.{ValidWaiting};
-ghost use Rattle.removals.specs.Counted.{unitedAs, KeysLaid, joinedAs, Numbered, resetAs};
+ghost use Rattle.removals.specs.Counted.{united_as, KeysLaid, joined_as, Numbered, reset_as};
 
 use crate::{JoinedWaiting, Keys, Removal, ResetWaiting, UnitedKeys, Waiting, clock_before};
 use clock::{Clock, Order};
@@ -16,7 +16,7 @@ use limits::WAITING;
 
 impl Removal {
     pub fn new() -> Removal
-        ensures { result ≡ noRemoval }
+        ensures { result ≡ no_removal }
     {
         let clock = Clock::new();
         let keys = Keys::new();
@@ -25,7 +25,7 @@ impl Removal {
 
     // Whether a map clock is less than the removal's clock, or concurrent with it.
     pub fn waits(self, seen: Clock) -> bool
-        ensures { result ≡ waits (dotsOf seen) self }
+        ensures { result ≡ waits (dots_of seen) self }
     {
         let o = seen.compare(self.clock);
         match o {
@@ -38,7 +38,7 @@ impl Removal {
 
     // The removal under its clock without the dots that `by` has seen.
     fn cut(self, by: Clock) -> Removal
-        ensures { result ≡ cutRemoval (dotsOf by) self }
+        ensures { result ≡ cut_removal (dots_of by) self }
     {
         let clock = self.clock.cut(by).clock;
         let keys = self.keys;
@@ -48,7 +48,7 @@ impl Removal {
 
 impl Waiting {
     pub fn new() -> Waiting
-        ensures { result ≡ waitingAs [] }
+        ensures { result ≡ waiting_as [] }
     {
         let none = Removal::new();
         Waiting {
@@ -58,7 +58,7 @@ impl Waiting {
     }
 
     pub fn size(self) -> usize
-        ensures { (result ≡ length (waitingOf self)) × (result ≤ waitingLimit) }
+        ensures { (result ≡ length (waiting_of self)) × (result ≤ waiting_limit) }
     {
         let n = self.len;
         if n < WAITING { n } else { WAITING }
@@ -66,8 +66,8 @@ impl Waiting {
 
     // One removal more behind the last.
     pub fn push(self, r: Removal) -> Waiting
-        requires { self.len < waitingLimit }
-        ensures { (result.len ≡ self.len + 1) × ((l : List Removal) → self ≡ waitingAs l → result ≡ waitingAs (l ++ (r ∷ []))) }
+        requires { self.len < waiting_limit }
+        ensures { (result.len ≡ self.len + 1) × ((l : List Removal) → self ≡ waiting_as l → result ≡ waiting_as (l ++ (r ∷ []))) }
     {
         let mut out = self;
         let k = out.len;
@@ -78,7 +78,7 @@ impl Waiting {
 
     // Those that a map clock does not cover.
     pub fn uncovered(self, seen: Clock) -> Waiting
-        ensures { result ≡ waitingAs (those (waits (dotsOf seen)) (waitingOf self)) }
+        ensures { result ≡ waiting_as (those (waits (dots_of seen)) (waiting_of self)) }
     {
         let n = self.size();
         let mut out = Waiting::new();
@@ -97,8 +97,8 @@ impl Waiting {
 
     // Both lists as one: removals with equal clocks are united.
     pub fn join(self, other: Waiting) -> JoinedWaiting
-        requires { ((r : Removal) → r ∈ waitingOf self → KeysLaid r) × ((r : Removal) → r ∈ waitingOf other → KeysLaid r) }
-        ensures { result ≡ joinedAs (uniteAll (waitingOf self) (waitingOf other)) }
+        requires { ((r : Removal) → r ∈ waiting_of self → KeysLaid r) × ((r : Removal) → r ∈ waiting_of other → KeysLaid r) }
+        ensures { result ≡ joined_as (unite_all (waiting_of self) (waiting_of other)) }
     {
         let n = self.size();
         let m = other.size();
@@ -125,8 +125,8 @@ impl Waiting {
 
     // What a reset leaves of the waiting removals: cut, and united where clocks are equal then.
     pub fn reset(self, by: Clock) -> ResetWaiting
-        requires { ValidWaiting (waitingOf self) }
-        ensures { result ≡ resetAs (resetWaiting (dotsOf by) (waitingOf self)) }
+        requires { ValidWaiting (waiting_of self) }
+        ensures { result ≡ reset_as (reset_waiting (dots_of by) (waiting_of self)) }
     {
         let n = self.size();
         let none = Waiting::new();
@@ -149,7 +149,7 @@ impl Waiting {
 
 impl JoinedWaiting {
     fn new() -> JoinedWaiting
-        ensures { (result ≡ joinedAs []) × (result.count ≡ 0) × (result.waiting.len ≡ 0) }
+        ensures { (result ≡ joined_as []) × (result.count ≡ 0) × (result.waiting.len ≡ 0) }
     {
         let none = Waiting::new();
         JoinedWaiting {
@@ -161,9 +161,9 @@ impl JoinedWaiting {
 
     // One removal more behind the last, with keys that may be over the limit.
     fn add(self, clock: Clock, united: UnitedKeys) -> JoinedWaiting
-        requires { Numbered self (8 * waitingLimit - 1) }
-        ensures { Numbered result (self.count + 1) × ((l : List Removal) (r : Removal) → self ≡ joinedAs l → clock ≡ r.clock → KeysLaid r
-            → united ≡ unitedAs (listedIn r) → result ≡ joinedAs (l ++ (r ∷ []))) }
+        requires { Numbered self (8 * waiting_limit - 1) }
+        ensures { Numbered result (self.count + 1) × ((l : List Removal) (r : Removal) → self ≡ joined_as l → clock ≡ r.clock → KeysLaid r
+            → united ≡ united_as (listed_in r) → result ≡ joined_as (l ++ (r ∷ []))) }
     {
         let long = self.long | united.over;
         let count = self.count;
@@ -188,8 +188,8 @@ impl JoinedWaiting {
 
     // One removal more behind the last.
     fn keep(self, r: Removal) -> JoinedWaiting
-        requires { Numbered self (8 * waitingLimit - 1) }
-        ensures { Numbered result (self.count + 1) × ((l : List Removal) → self ≡ joinedAs l → KeysLaid r → result ≡ joinedAs (l ++ (r ∷ []))) }
+        requires { Numbered self (8 * waiting_limit - 1) }
+        ensures { Numbered result (self.count + 1) × ((l : List Removal) → self ≡ joined_as l → KeysLaid r → result ≡ joined_as (l ++ (r ∷ []))) }
     {
         let keys = r.keys;
         let united = UnitedKeys { over: false, keys };
@@ -198,9 +198,9 @@ impl JoinedWaiting {
 
     // The removals from place `at` on, behind the last.
     fn trail(self, from: Waiting, at: usize) -> JoinedWaiting
-        requires { Numbered self (6 * waitingLimit) }
-        ensures { Numbered result (self.count + waitingLimit) × ((l : List Removal) → ((r : Removal) → r ∈ waitingOf from → KeysLaid r)
-            → self ≡ joinedAs l → result ≡ joinedAs (l ++ map (λ r. r) (drop at (waitingOf from)))) }
+        requires { Numbered self (6 * waiting_limit) }
+        ensures { Numbered result (self.count + waiting_limit) × ((l : List Removal) → ((r : Removal) → r ∈ waiting_of from → KeysLaid r)
+            → self ≡ joined_as l → result ≡ joined_as (l ++ map (λ r. r) (drop at (waiting_of from)))) }
     {
         let n = from.size();
         let mut out = self;
@@ -217,8 +217,8 @@ impl JoinedWaiting {
 impl ResetWaiting {
     // One removal more, united with the one of the same clock if there is one.
     fn unite(self, r: Removal) -> ResetWaiting
-        requires { (self.waiting.len < waitingLimit) × ((w : Removal) → w ∈ waitingOf self.waiting → KeysLaid w) × KeysLaid r }
-        ensures { (l : List Removal) → ValidWaiting l → ValidWaiting (r ∷ []) → self ≡ resetAs l → result ≡ resetAs (uniteInto l r) }
+        requires { (self.waiting.len < waiting_limit) × ((w : Removal) → w ∈ waiting_of self.waiting → KeysLaid w) × KeysLaid r }
+        ensures { (l : List Removal) → ValidWaiting l → ValidWaiting (r ∷ []) → self ≡ reset_as l → result ≡ reset_as (unite_into l r) }
     {
         if self.over {
             return self;

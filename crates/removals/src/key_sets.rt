@@ -1,16 +1,16 @@
 // Sets of keys, ascending.
 ghost use Rattle.std.specs.Prelude.{◌≡◌, List, [], ◌∷◌, ◌++◌, map, ℕ, ◌≤◌, ◌<◌, length, drop};
-ghost use Rattle.limits.specs.Limits.{keyLimit};
-ghost use Rattle.removals.specs.Model.{keys_of, keysAs};
-ghost use Rattle.removals.specs.Waits.{listed, unionKeys};
-ghost use Rattle.removals.specs.Counted.{unitedAs};
+ghost use Rattle.limits.specs.Limits.{key_limit};
+ghost use Rattle.removals.specs.Model.{keys_of, keys_as};
+ghost use Rattle.removals.specs.Waits.{listed, union_keys};
+ghost use Rattle.removals.specs.Counted.{united_as};
 
 use crate::{Keys, UnitedKeys};
 use limits::KEYS;
 
 impl Keys {
     pub fn new() -> Keys
-        ensures { result ≡ keysAs [] }
+        ensures { result ≡ keys_as [] }
     {
         Keys {
             items: [0; KEYS],
@@ -19,7 +19,7 @@ impl Keys {
     }
 
     pub fn size(self) -> usize
-        ensures { (result ≡ length (keys_of self)) × (result ≤ keyLimit) }
+        ensures { (result ≡ length (keys_of self)) × (result ≤ key_limit) }
     {
         let n = self.len;
         if n < KEYS { n } else { KEYS }
@@ -27,8 +27,8 @@ impl Keys {
 
     // One key more behind the last.
     pub fn push(self, key: u32) -> Keys
-        requires { self.len < keyLimit }
-        ensures { (l : List ℕ) → self ≡ keysAs l → result ≡ keysAs (l ++ (key ∷ [])) }
+        requires { self.len < key_limit }
+        ensures { (l : List ℕ) → self ≡ keys_as l → result ≡ keys_as (l ++ (key ∷ [])) }
     {
         let mut out = self;
         let k = out.len;
@@ -53,7 +53,7 @@ impl Keys {
 
     // Both sets as one.
     pub fn union(self, other: Keys) -> UnitedKeys
-        ensures { result ≡ unitedAs (unionKeys (keys_of self) (keys_of other)) }
+        ensures { result ≡ united_as (union_keys (keys_of self) (keys_of other)) }
     {
         let n = self.size();
         let m = other.size();
@@ -81,7 +81,7 @@ impl Keys {
 
 impl UnitedKeys {
     fn new() -> UnitedKeys
-        ensures { result ≡ unitedAs [] }
+        ensures { result ≡ united_as [] }
     {
         let none = Keys::new();
         UnitedKeys {
@@ -92,7 +92,7 @@ impl UnitedKeys {
 
     // One key more behind the last, or over the limit.
     fn push(self, key: u32) -> UnitedKeys
-        ensures { (l : List ℕ) → self ≡ unitedAs l → result ≡ unitedAs (l ++ (key ∷ [])) }
+        ensures { (l : List ℕ) → self ≡ united_as l → result ≡ united_as (l ++ (key ∷ [])) }
     {
         if self.over {
             return self;
@@ -114,7 +114,7 @@ impl UnitedKeys {
 
     // The keys of `from` from place `at` on, behind the last.
     fn trail(self, from: Keys, at: usize) -> UnitedKeys
-        ensures { (l : List ℕ) → self ≡ unitedAs l → result ≡ unitedAs (l ++ map (λ k. k) (drop at (keys_of from))) }
+        ensures { (l : List ℕ) → self ≡ united_as l → result ≡ united_as (l ++ map (λ k. k) (drop at (keys_of from))) }
     {
         let n = from.size();
         let mut out = self;

@@ -3,8 +3,8 @@ mod by_clock;
 mod key_sets;
 
 ghost use Rattle.std.specs.Prelude.{◌≡◌};
-ghost use Rattle.clock.specs.Dots.{dotsOf};
-ghost use Rattle.removals.specs.Waits.{clockBefore};
+ghost use Rattle.clock.specs.Dots.{dots_of};
+ghost use Rattle.removals.specs.Waits.{clock_before};
 
 use clock::Clock;
 use limits::{KEYS, WAITING};
@@ -52,7 +52,7 @@ pub struct ResetWaiting {
 
 // Whether a clock stands before another: dots pair by pair, a prefix first.
 pub fn clock_before(a: Clock, b: Clock) -> bool
-    ensures { result ≡ clockBefore (dotsOf a) (dotsOf b) }
+    ensures { result ≡ clock_before (dots_of a) (dots_of b) }
 {
     let n = a.size();
     let m = b.size();

@@ -1,16 +1,16 @@
 // What a run of records says: slices that start with a record and hold whole ones.
 ghost use Rattle.std.specs.Prelude.{◌≡◌, ◌+◌, ◌*◌, ◌≤◌, length};
-ghost use Rattle.limits.specs.Limits.{dotLimit};
-ghost use Rattle.clock.specs.Dots.{clockOf};
+ghost use Rattle.limits.specs.Limits.{dot_limit};
+ghost use Rattle.clock.specs.Dots.{clock_of};
 ghost use Rattle.records.specs.Writing.{Wrote};
-ghost use Rattle.runs.specs.Run.{runDots};
+ghost use Rattle.runs.specs.Run.{run_dots};
 
 use clock::{Clock, Dot};
 
 // The clock of a run of dots.
 pub fn clock_of(run: &[u8]) -> Clock
-    requires { length run.now ≤ dotLimit * 16 }
-    ensures { result ≡ clockOf (runDots run.now) }
+    requires { length run.now ≤ dot_limit * 16 }
+    ensures { result ≡ clock_of (run_dots run.now) }
 {
     let n = run.len() / 16;
     let mut clock = Clock::new();

@@ -15,23 +15,23 @@ use Rattle.listlaws.specs.Sift.{those}
 use Rattle.listlaws.proofs.Orders.{apart, head-before, tail-ascends}
 use Rattle.listlaws.proofs.Those.{those-all}
 use Rattle.records.specs.declared.Record.{Record}
-use Rattle.records.specs.Kinds.{before, recordOk}
-use Rattle.records.specs.Records.{recordsOf, bytes_of}
+use Rattle.records.specs.Kinds.{before, record_ok}
+use Rattle.records.specs.Records.{records_of, bytes_of}
 use Rattle.records.proofs.RoundTrips.{length-bytes}
-use Rattle.salvagerules.specs.Calls.{salvagedImage}
-use Rattle.opimage.specs.OpImage.{noRecord}
+use Rattle.salvagerules.specs.Calls.{salvaged_image}
+use Rattle.opimage.specs.OpImage.{no_record}
 use Rattle.scan.proofs.Eachs.{decide, both, both_left, both_right}
 use Rattle.scan.proofs.Befores.{before-fields}
 use Rattle.salvagerules.specs.Fates.{staying}
-use Rattle.salvagerules.specs.Steps.{inOrderBy, fatesOf, salvaged}
+use Rattle.salvagerules.specs.Steps.{in_order_by, fates_of, salvaged}
 use Rattle.salvagelaws.proofs.Sorts.{order-means, order-holds, order-count}
-use Rattle.salvagelaws.proofs.Stages.{leftByFour, closed, staying-five, salvaged-is}
+use Rattle.salvagelaws.proofs.Stages.{left_by_four, closed, staying-five, salvaged-is}
 use Rattle.salvagelaws.proofs.Fourth.{four-supplied, lower-kind}
 use Rattle.salvagelaws.proofs.Fifth.{records-lead, written, written-ascends}
 use Rattle.salvagelaws.proofs.Limited.{written-good}
-use Rattle.culling.specs.Marks.{MarkedRecord, markedOf}
-use Rattle.mending.specs.Fated.{fateOf, Tells}
-use Rattle.salvage.specs.Selecting.{keptOf, topRecord, lesserOf, leastAbove, selectFrom}
+use Rattle.culling.specs.Marks.{MarkedRecord, marked_of}
+use Rattle.mending.specs.Fated.{fate_of, Tells}
+use Rattle.salvage.specs.Selecting.{kept_of, top_record, lesser_of, least_above, select_from}
 use Rattle.salvage.proofs.Kept.{kept-staying}
 
 -- no two records stand before each other
@@ -41,23 +41,23 @@ before-strict x y t =
 
 module _ (last x : Record) (above : before last x ≡ true) where
   -- once it is met, nothing lesser comes
-  stays-least : (l : List Record) → ((y : Record) → y ∈ l → before last y ≡ true → (y ≡ x) ⊎ (before x y ≡ true)) → fold (lesserOf last) x l ≡ x
+  stays-least : (l : List Record) → ((y : Record) → y ∈ l → before last y ≡ true → (y ≡ x) ⊎ (before x y ≡ true)) → fold (lesser_of last) x l ≡ x
   unfolding fold
   stays-least [] h = refl
   stays-least (y ∷ l) h = rw here (stays-least l (λ z i. h z (Memᴰ.tail i)))
     where
-      here : lesserOf last x y ≡ x
+      here : lesser_of last x y ≡ x
       here =
           decide (before last y)
           (λ t. ⊎_elim (λ (e : y ≡ x). rw e (unequal x)) (λ u. rw (t, before-strict x y u) refl) (h y (Memᴰ.head refl) t))
           (λ t. rw t refl)
         where
-          unequal : (w : Record) → lesserOf last w w ≡ w
+          unequal : (w : Record) → lesser_of last w w ≡ w
           unequal w = decide (before last w && before w w) (λ a. rw a refl) (λ a. rw a refl)
 
   -- it is met
   found-least : (l : List Record) (best : Record) → before x best ≡ true → x ∈ l
-      → ((y : Record) → y ∈ l → before last y ≡ true → (y ≡ x) ⊎ (before x y ≡ true)) → fold (lesserOf last) best l ≡ x
+      → ((y : Record) → y ∈ l → before last y ≡ true → (y ≡ x) ⊎ (before x y ≡ true)) → fold (lesser_of last) best l ≡ x
   unfolding fold
   found-least [] best b i h = absurd (Memᴰ.not-nil i)
   found-least (y ∷ l) best b i h =
@@ -65,7 +65,7 @@ module _ (last x : Record) (above : before last x ≡ true) where
       (λ (e : x ≡ y). rw (← e, above, b) (stays-least l (λ z j. h z (Memᴰ.tail j))))
       (λ j. decide (before last y && before y best)
       (λ t. rw t (⊎_elim
-      (λ (e : y ≡ x). ap (λ w. fold (lesserOf last) w l) e ∙ stays-least l (λ z k. h z (Memᴰ.tail k)))
+      (λ (e : y ≡ x). ap (λ w. fold (lesser_of last) w l) e ∙ stays-least l (λ z k. h z (Memᴰ.tail k)))
       (λ u. found-least l y u j (λ z k. h z (Memᴰ.tail k)))
       (h y (Memᴰ.head refl) (both_left (before last y) _ t))))
       (λ t. rw t (found-least l best b j (λ z k. h z (Memᴰ.tail k)))))
@@ -74,11 +74,11 @@ module _ (last x : Record) (above : before last x ≡ true) where
 -- an ascending list of the members above the last is what is selected
 select-all : (l q : List Record) (last : Record) → Ascending before q → ((x : Record) → x ∈ q → x ∈ l) → ((x : Record) → x ∈ q
     → before last x ≡ true)
-    → ((y : Record) → y ∈ l → before last y ≡ true → y ∈ q) → ((x : Record) → x ∈ l → before x topRecord ≡ true) → selectFrom (length q) last l ≡ q
-unfolding selectFrom
+    → ((y : Record) → y ∈ l → before last y ≡ true → y ∈ q) → ((x : Record) → x ∈ l → before x top_record ≡ true) → select_from (length q) last l ≡ q
+unfolding select_from
 select-all l [] last a f g h top = refl
 select-all l (x ∷ q) last a f g h top =
-    rw (found-least last x (g x (Memᴰ.head refl)) l topRecord (top x (f x (Memᴰ.head refl))) (f x (Memᴰ.head refl)) next)
+    rw (found-least last x (g x (Memᴰ.head refl)) l top_record (top x (f x (Memᴰ.head refl))) (f x (Memᴰ.head refl)) next)
     (ap (λ m. x ∷ m) (select-all l q x (tail-ascends a) (λ y i. f y (Memᴰ.tail i)) (head-before a) further top))
   where
     next : (y : Record) → y ∈ l → before last y ≡ true → (y ≡ x) ⊎ (before x y ≡ true)
@@ -92,8 +92,8 @@ select-all l (x ∷ q) last a f g h top =
         (Memᴰ.cases_cons (h y i (records-lead last x y (g x (Memᴰ.head refl)) t)))
 
 -- kinds of records that are good by themselves
-kinds : (x : Record) → recordOk 1 6 x ≡ true → (0 < x.kind) × (x.kind < 255)
-unfolding recordOk
+kinds : (x : Record) → record_ok 1 6 x ≡ true → (0 < x.kind) × (x.kind < 255)
+unfolding record_ok
 kinds x t =
     let a = leb-true 1 x.kind (both_left (leb 1 x.kind) _ t) in
     let b = leb-true x.kind 6 (both_left (leb x.kind 6) _ (both_right (leb 1 x.kind) _ t)) in
@@ -102,45 +102,45 @@ kinds x t =
 all_true : (l : List Record) → length (those (λ r. true) l) ≡ length l
 all_true l = ap length (those-all (λ r. true) l (λ x i. refl))
 
-pub selected : (marks s : List ℕ) → Tells marks s (fatesOf (recordsOf s))
-    → selectFrom (length (keptOf (markedOf marks s))) noRecord (keptOf (markedOf marks s)) ≡ salvaged (recordsOf s)
+pub selected : (marks s : List ℕ) → Tells marks s (fates_of (records_of s))
+    → select_from (length (kept_of (marked_of marks s))) no_record (kept_of (marked_of marks s)) ≡ salvaged (records_of s)
 selected marks s h =
-    let rs = recordsOf s in
-    let k = leftByFour rs in
+    let rs = records_of s in
+    let k = left_by_four rs in
     let c = closed k in
     let p = four-supplied rs in
-    let e = kept-staying (markedOf marks s) ∙ ap staying h.fates ∙ staying-five rs in
-    let n = sym (all_true c) ∙ sym (order-count before (λ r. true) c) ∙ all_true (inOrderBy before c) in
-    ap (λ m. selectFrom (length m) noRecord m) e ∙ ap (λ j. selectFrom j noRecord c) n
-    ∙ select-all c (inOrderBy before c) noRecord (written-ascends k p) (λ x i. order-means before c i)
-    (λ x i. lower-kind noRecord x (kinds x (written-good k p x i)).0) (λ y i t. order-holds before c i)
-    (λ x i. lower-kind x topRecord (kinds x (written-good k p x (order-holds before c i))).1)
+    let e = kept-staying (marked_of marks s) ∙ ap staying h.fates ∙ staying-five rs in
+    let n = sym (all_true c) ∙ sym (order-count before (λ r. true) c) ∙ all_true (in_order_by before c) in
+    ap (λ m. select_from (length m) no_record m) e ∙ ap (λ j. select_from j no_record c) n
+    ∙ select-all c (in_order_by before c) no_record (written-ascends k p) (λ x i. order-means before c i)
+    (λ x i. lower-kind no_record x (kinds x (written-good k p x i)).0) (λ y i t. order-holds before c i)
+    (λ x i. lower-kind x top_record (kinds x (written-good k p x (order-holds before c i))).1)
     ∙ sym (salvaged-is rs)
 
 -- as many as are asked for
-pub length-select : (n : ℕ) (last : Record) (l : List Record) → length (selectFrom n last l) ≡ n
-unfolding selectFrom
+pub length-select : (n : ℕ) (last : Record) (l : List Record) → length (select_from n last l) ≡ n
+unfolding select_from
 length-select zero last l = refl
-length-select (suc n) last l = ap suc (length-select n (leastAbove last l) l)
+length-select (suc n) last l = ap suc (length-select n (least_above last l) l)
 
-pub select-step : (n i : ℕ) (last r : Record) (l : List Record) → i < n → r ≡ leastAbove last l
-    → selectFrom (n - i) last l ≡ (r ∷ []) ++ selectFrom (n - (i + 1)) r l
-unfolding selectFrom
+pub select-step : (n i : ℕ) (last r : Record) (l : List Record) → i < n → r ≡ least_above last l
+    → select_from (n - i) last l ≡ (r ∷ []) ++ select_from (n - (i + 1)) r l
+unfolding select_from
 select-step n i last r l h e =
     let k : n - i ≡ suc (n - (i + 1)) = omega arith in
-    ap (λ m. selectFrom m last l) k ∙ sym (ap (λ x. x ∷ selectFrom (n - (i + 1)) x l) e)
+    ap (λ m. select_from m last l) k ∙ sym (ap (λ x. x ∷ select_from (n - (i + 1)) x l) e)
 
-pub select-end : (n i : ℕ) (last : Record) (l : List Record) → n ≤ i → selectFrom (n - i) last l ≡ []
-unfolding selectFrom
-select-end n i last l h = let k : n - i ≡ 0 = omega arith in ap (λ m. selectFrom m last l) k
+pub select-end : (n i : ℕ) (last : Record) (l : List Record) → n ≤ i → select_from (n - i) last l ≡ []
+unfolding select_from
+select-end n i last l h = let k : n - i ≡ 0 = omega arith in ap (λ m. select_from m last l) k
 
 -- the image that is written, and its length
-module _ (marks s : List ℕ) (h : Tells marks s (fatesOf (recordsOf s))) (n : ℕ) (e : n ≡ length (keptOf (markedOf marks s))) where
-  pub image-is : bytes_of (selectFrom n noRecord (keptOf (markedOf marks s))) ≡ salvagedImage s
-  unfolding salvagedImage
-  image-is = ap bytes_of (ap (λ m. selectFrom m noRecord (keptOf (markedOf marks s))) e ∙ selected marks s h)
+module _ (marks s : List ℕ) (h : Tells marks s (fates_of (records_of s))) (n : ℕ) (e : n ≡ length (kept_of (marked_of marks s))) where
+  pub image-is : bytes_of (select_from n no_record (kept_of (marked_of marks s))) ≡ salvaged_image s
+  unfolding salvaged_image
+  image-is = ap bytes_of (ap (λ m. select_from m no_record (kept_of (marked_of marks s))) e ∙ selected marks s h)
 
-  pub image-long : length (salvagedImage s) ≡ n * 16
+  pub image-long : length (salvaged_image s) ≡ n * 16
   image-long =
-      sym (ap length image-is) ∙ length-bytes (selectFrom n noRecord (keptOf (markedOf marks s)))
-      ∙ ap (λ m. m * 16) (length-select n noRecord (keptOf (markedOf marks s)))
+      sym (ap length image-is) ∙ length-bytes (select_from n no_record (kept_of (marked_of marks s)))
+      ∙ ap (λ m. m * 16) (length-select n no_record (kept_of (marked_of marks s)))

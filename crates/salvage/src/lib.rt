@@ -1,16 +1,16 @@
 // The salvage of a damaged image: an accepted image of what can be kept, and a report of every record that was removed or changed.
 ghost use Rattle.std.specs.Prelude.{◌≡◌, cond, [], ◌∷◌, ℕ, ◌+◌, ◌*◌, ◌/◌, ◌≤◌, ◌<◌, ltb, length, get_or};
-ghost use Rattle.records.specs.Bytes.{numBytes};
-ghost use Rattle.records.specs.Records.{recordsOf, bytes_of};
+ghost use Rattle.records.specs.Bytes.{num_bytes};
+ghost use Rattle.records.specs.Records.{records_of, bytes_of};
 ghost use Rattle.records.specs.Writing.{Wrote};
-ghost use Rattle.opimage.specs.OpImage.{noRecord};
-ghost use Rattle.mapimage.specs.MapImage.{mapLongest};
-ghost use Rattle.salvagerules.specs.Steps.{fatesOf};
-ghost use Rattle.salvagerules.specs.Report.{Told, toldFrom, toldBytes};
+ghost use Rattle.opimage.specs.OpImage.{no_record};
+ghost use Rattle.mapimage.specs.MapImage.{map_longest};
+ghost use Rattle.salvagerules.specs.Steps.{fates_of};
+ghost use Rattle.salvagerules.specs.Report.{Told, told_from, told_bytes};
 ghost use Rattle.salvagerules.specs.Calls.{SalvagePromise, SalvageReportPromise};
-ghost use Rattle.culling.specs.Marks.{markedOf};
+ghost use Rattle.culling.specs.Marks.{marked_of};
 ghost use Rattle.mending.specs.Fated.{Tells};
-ghost use Rattle.salvage.specs.Selecting.{renewedOf, keptOf, lesserOf, leastAbove, selectFrom, stepsIn};
+ghost use Rattle.salvage.specs.Selecting.{renewed_of, kept_of, lesser_of, least_above, select_from, steps_in};
 
 use culling::CHANGED;
 use mapimage::MAP_LONGEST;
@@ -24,8 +24,8 @@ const TOLD: usize = 5;
 
 // What becomes of each record.
 fn mark_all(image: &[u8], marks: &mut [u16])
-    requires { (length image.now / 16 ≤ length marks.old) × (length image.now ≤ mapLongest) }
-    ensures { Tells marks.new image.now (fatesOf (recordsOf image.now)) }
+    requires { (length image.now / 16 ≤ length marks.old) × (length image.now ≤ map_longest) }
+    ensures { Tells marks.new image.now (fates_of (records_of image.now)) }
 {
     culling::mark_bad(image, marks);
     culling::mark_order(image, marks);
@@ -36,7 +36,7 @@ fn mark_all(image: &[u8], marks: &mut [u16])
 // How many records stay.
 fn count_kept(image: &[u8], marks: &[u16]) -> usize
     requires { length image.now / 16 ≤ length marks.now }
-    ensures { (result ≡ length (keptOf (markedOf marks.now image.now))) × (result ≤ length image.now / 16) }
+    ensures { (result ≡ length (kept_of (marked_of marks.now image.now))) × (result ≤ length image.now / 16) }
 {
     let n = image.len() / 16;
     let mut count: usize = 0;
@@ -54,7 +54,7 @@ fn count_kept(image: &[u8], marks: &[u16]) -> usize
 // A record with the index that its mark gives it.
 fn renewed(mark: u16, r: Record) -> Record
     requires { mark < 264 }
-    ensures { result ≡ renewedOf (record { mark = mark; item = r }) }
+    ensures { result ≡ renewed_of (record { mark = mark; item = r }) }
 {
     if mark < CHANGED {
         return r;
@@ -71,7 +71,7 @@ fn renewed(mark: u16, r: Record) -> Record
 
 // The lesser of a record above `last` and the least so far.
 fn lesser(last: Record, best: Record, r: Record) -> Record
-    ensures { result ≡ lesserOf last best r }
+    ensures { result ≡ lesser_of last best r }
 {
     if records::before(last, r) & records::before(r, best) {
         r
@@ -83,7 +83,7 @@ fn lesser(last: Record, best: Record, r: Record) -> Record
 // Of the records that stay, the least above `last`.
 fn next_record(image: &[u8], marks: &[u16], last: Record) -> Record
     requires { (length image.now / 16 ≤ length marks.now) × ((i : ℕ) → i < length image.now / 16 → get_or marks.now i 0 < 264) }
-    ensures { result ≡ leastAbove last (keptOf (markedOf marks.now image.now)) }
+    ensures { result ≡ least_above last (kept_of (marked_of marks.now image.now)) }
 {
     let n = image.len() / 16;
     let mut best = Record {
@@ -113,7 +113,7 @@ fn next_record(image: &[u8], marks: &[u16], last: Record) -> Record
 fn write_kept(image: &[u8], marks: &[u16], n: usize, out: &mut [u8]) -> usize
     requires { (length image.now / 16 ≤ length marks.now) × ((i : ℕ) → i < length image.now / 16 → get_or marks.now i 0 < 264)
         × (n * 16 ≤ length out.old) }
-    ensures { Wrote 0 (bytes_of (selectFrom n noRecord (keptOf (markedOf marks.now image.now))))
+    ensures { Wrote 0 (bytes_of (select_from n no_record (kept_of (marked_of marks.now image.now))))
         out.old out.new result }
 {
     let mut last = Record {
@@ -144,7 +144,7 @@ fn step_of(mark: u16) -> u8
 // Writes what is told of a record, and answers the place behind it.
 fn write_told(out: &mut [u8], at: usize, place: u32, step: u8) -> usize
     requires { at + 5 ≤ length out.old }
-    ensures { Wrote at (toldBytes (record { place = place; step = step } ∷ [])) out.old out.new result }
+    ensures { Wrote at (told_bytes (record { place = place; step = step } ∷ [])) out.old out.new result }
 {
     records::put32(out, at, place);
     records::put8(out, at + 4, step);
@@ -154,7 +154,7 @@ fn write_told(out: &mut [u8], at: usize, place: u32, step: u8) -> usize
 // How many records are told.
 fn count_told(image: &[u8], marks: &[u16]) -> usize
     requires { length image.now / 16 ≤ length marks.now }
-    ensures { (result ≡ length (toldFrom 0 (stepsIn (markedOf marks.now image.now)))) × (result ≤ length image.now / 16) }
+    ensures { (result ≡ length (told_from 0 (steps_in (marked_of marks.now image.now)))) × (result ≤ length image.now / 16) }
 {
     let n = image.len() / 16;
     let mut count: usize = 0;
@@ -172,9 +172,9 @@ fn count_told(image: &[u8], marks: &[u16]) -> usize
 // Writes what is told of the whole records.
 fn write_report(image: &[u8], marks: &[u16], out: &mut [u8]) -> usize
     requires { (length image.now / 16 ≤ length marks.now) × ((i : ℕ) → i < length image.now / 16 → get_or marks.now i 0 < 264)
-        × (length image.now ≤ mapLongest)
-        × (length (toldFrom 0 (stepsIn (markedOf marks.now image.now))) * 5 ≤ length out.old) }
-    ensures { Wrote 0 (toldBytes (toldFrom 0 (stepsIn (markedOf marks.now image.now))))
+        × (length image.now ≤ map_longest)
+        × (length (told_from 0 (steps_in (marked_of marks.now image.now))) * 5 ≤ length out.old) }
+    ensures { Wrote 0 (told_bytes (told_from 0 (steps_in (marked_of marks.now image.now))))
         out.old out.new result }
 {
     let n = image.len() / 16;

@@ -17,27 +17,27 @@ use Rattle.listlaws.proofs.Perms.{perm_in}
 use Rattle.listlaws.proofs.Those.{those-means}
 use Rattle.records.specs.declared.Record.{Record}
 use Rattle.records.specs.Bytes.{Bytes}
-use Rattle.records.specs.Records.{recordsOf, bytes_of}
+use Rattle.records.specs.Records.{records_of, bytes_of}
 use Rattle.records.proofs.Joined.{length-records}
 use Rattle.records.proofs.RoundTrips.{written_read}
-use Rattle.scan.specs.Numbers.{scanNumber}
+use Rattle.scan.specs.Numbers.{scan_number}
 use Rattle.scan.proofs.Eachs.{decide}
 use Rattle.entries.proofs.Packs.{entries-of}
-use Rattle.map.specs.Model.{entriesIn}
-use Rattle.mapimage.specs.MapImage.{mapLongest}
-use Rattle.maprecords.specs.Reading.{entriesFor, mapIn}
-use Rattle.maprecords.specs.Related.{related, readMap, refusedMap, judgedMap}
+use Rattle.map.specs.Model.{entries_in}
+use Rattle.mapimage.specs.MapImage.{map_longest}
+use Rattle.maprecords.specs.Reading.{entries_for, map_in}
+use Rattle.maprecords.specs.Related.{related, read_map, refused_map, judged_map}
 use Rattle.clockimage.proofs.RoundTrip.{accepted}
 use Rattle.answers.specs.Answer.{Answer, Answered, number_of, word_of, out_of, first_of}
 use Rattle.answers.proofs.Answers.{same_answer, Written}
 use Rattle.sentencelaws.specs.Sentences.{MapSentences}
 use Rattle.sentencelaws.proofs.Holding.{holding}
 use Rattle.salvagerules.specs.Fates.{Fate, untouched, stayed}
-use Rattle.salvagerules.specs.Indexes.{withIndex}
-use Rattle.salvagerules.specs.Report.{Told, toldFrom, toldOf, toldBytes, stepOne, steps_of}
-use Rattle.salvagerules.specs.Steps.{fatesOf}
-use Rattle.salvagerules.specs.Calls.{longNumber, salvagedImage, salvageReport, salvageAnswer, reportAnswer, SalvagePromise, SalvageReportPromise}
-use Rattle.salvagelaws.specs.Accounts.{Became, Paired, nothing, also, Accounts, Salvages, OnlyTwoRefusals, stepsBy}
+use Rattle.salvagerules.specs.Indexes.{with_index}
+use Rattle.salvagerules.specs.Report.{Told, told_from, told_of, told_bytes, step_one, steps_of}
+use Rattle.salvagerules.specs.Steps.{fates_of}
+use Rattle.salvagerules.specs.Calls.{long_number, salvaged_image, salvage_report, salvage_answer, report_answer, SalvagePromise, SalvageReportPromise}
+use Rattle.salvagelaws.specs.Accounts.{Became, Paired, nothing, also, Accounts, Salvages, OnlyTwoRefusals, steps_by}
 use Rattle.salvagelaws.proofs.Accepted.{image-accepted, image-records, salvaged-short}
 use Rattle.salvagelaws.proofs.Unchanged.{fates-same, salvaged-same}
 use Rattle.salvagelaws.proofs.Fated.{all-came, paired-length, written-perm, all-untold, untold-same}
@@ -47,35 +47,35 @@ use Rattle.salvagelaws.proofs.Reported.{length-told, bytes-none, told-few, told_
 -- an accepted image's records
 pub record Sound (s : List ℕ) : Type 0 where
   pub whole : length s % 16 ≡ 0
-  pub scan : scanNumber 1 6 (recordsOf s) ≡ 0
-  pub sentences : MapSentences (recordsOf s)
+  pub scan : scan_number 1 6 (records_of s) ≡ 0
+  pub sentences : MapSentences (records_of s)
 
 record Judged (l : List Record) : Type 0 where
-  scan : scanNumber 1 6 l ≡ 0
+  scan : scan_number 1 6 l ≡ 0
   related : related l ≡ true
-  reads : (judgedMap l).map ≡ mapIn l
+  reads : (judged_map l).map ≡ map_in l
 
-judged : (l : List Record) → (judgedMap l).number ≡ 0 → Judged l
+judged : (l : List Record) → (judged_map l).number ≡ 0 → Judged l
 judged l j =
-    decide (eqb (scanNumber 1 6 l) 0)
-    (λ t. decide (related l) (λ u. record { scan = eqb-true (scanNumber 1 6 l) 0 t; related = u; reads = rw (t, u) })
+    decide (eqb (scan_number 1 6 l) 0)
+    (λ t. decide (related l) (λ u. record { scan = eqb-true (scan_number 1 6 l) 0 t; related = u; reads = rw (t, u) })
     (λ f. absurd (let q = rw (t, f) at j in omega arith)))
-    (λ f. absurd (eqb-false (scanNumber 1 6 l) 0 f (rw f at j)))
+    (λ f. absurd (eqb-false (scan_number 1 6 l) 0 f (rw f at j)))
 
-pub sound : (s : List ℕ) → (readMap s).number ≡ 0 → Sound s
-unfolding readMap
+pub sound : (s : List ℕ) → (read_map s).number ≡ 0 → Sound s
+unfolding read_map
 sound s e =
-    let a = accepted (λ r. r.number) mapLongest refusedMap judgedMap s (λ n. refl) e in
-    let j = judged (recordsOf s) (ap (λ r. r.number) (sym a.same) ∙ e) in
-    record { whole = a.whole; scan = j.scan; sentences = holding (recordsOf s) j.scan j.related }
+    let a = accepted (λ r. r.number) map_longest refused_map judged_map s (λ n. refl) e in
+    let j = judged (records_of s) (ap (λ r. r.number) (sym a.same) ∙ e) in
+    record { whole = a.whole; scan = j.scan; sentences = holding (records_of s) j.scan j.related }
 
 -- and the entries of its map
-pub read_as : (s : List ℕ) → (readMap s).number ≡ 0 → entriesIn (readMap s).map ≡ entriesFor (recordsOf s)
-unfolding readMap
+pub read_as : (s : List ℕ) → (read_map s).number ≡ 0 → entries_in (read_map s).map ≡ entries_for (records_of s)
+unfolding read_map
 read_as s e =
-    let a = accepted (λ r. r.number) mapLongest refusedMap judgedMap s (λ n. refl) e in
-    let j = judged (recordsOf s) (ap (λ r. r.number) (sym a.same) ∙ e) in
-    ap (λ r. entriesIn r.map) a.same ∙ ap entriesIn j.reads ∙ entries-of (entriesFor (recordsOf s))
+    let a = accepted (λ r. r.number) map_longest refused_map judged_map s (λ n. refl) e in
+    let j = judged (records_of s) (ap (λ r. r.number) (sym a.same) ∙ e) in
+    ap (λ r. entries_in r.map) a.same ∙ ap entries_in j.reads ∙ entries-of (entries_for (records_of s))
 
 steps-untold : (l : List Record) (n : ℕ) → n ∈ map (λ (f : Fate). f.step) (map untouched l) → n ≡ 0
 steps-untold [] n i = absurd (Memᴰ.not-nil i)
@@ -100,13 +100,13 @@ get_in (x ∷ l) (Prim.Native.Nat.suc i) n = let b = get_in l i n in omega arith
 
 module _ (s : List ℕ) (b : Bytes s) where
   abbrev l : List Record
-  l = recordsOf s
+  l = records_of s
 
   steps-length : length (steps_of s) ≤ length s / 16 + 1
   unfolding steps_of
   steps-length =
-      let a = length-append (map (λ (f : Fate). f.step) (fatesOf l)) (stepOne s) in
-      let c = length-map (fatesOf l) (λ f. f.step) in
+      let a = length-append (map (λ (f : Fate). f.step) (fates_of l)) (step_one s) in
+      let c = length-map (fates_of l) (λ f. f.step) in
       let d = paired-length (all-came l) in
       let e = length-records s 0 (length s / 16) in
       let f = one-most (eqb (length s % 16) 0) in
@@ -120,11 +120,11 @@ module _ (s : List ℕ) (b : Bytes s) where
   unfolding steps_of
   step_small n i =
       ⊎_elim
-      (λ j. let (f, m, e) = Memᴰ.of_map (λ (f : Fate). f.step) (fatesOf l) j in
+      (λ j. let (f, m, e) = Memᴰ.of_map (λ (f : Fate). f.step) (fates_of l) j in
       let (r, k, c) = paired-has (all-came l) m in
       let small = fate-small (c) in omega arith)
       (λ j. last (eqb (length s % 16) 0) j)
-      (Memᴰ.append_cases (map (λ (f : Fate). f.step) (fatesOf l)) i)
+      (Memᴰ.append_cases (map (λ (f : Fate). f.step) (fates_of l)) i)
     where
       fate-small : {r : Record} {f : Fate} → Became r f → f.step ≤ 5
       fate-small {r} {f} c =
@@ -137,20 +137,20 @@ module _ (s : List ℕ) (b : Bytes s) where
       last true j = absurd (Memᴰ.not-nil j)
       last false j = ⊎_elim (λ (e : n ≡ 1). omega arith) (λ k. absurd (Memᴰ.not-nil k)) (Memᴰ.cases_cons j)
 
-  steps-are : steps_of s ≡ stepsBy (fatesOf l) s
+  steps-are : steps_of s ≡ steps_by (fates_of l) s
   unfolding steps_of
   steps-are = refl
 
   -- the report and the image of an input
-  report-accounts : length s ≤ mapLongest → Accounts s (salvagedImage s) (salvageReport s)
-  unfolding salvageReport toldOf
+  report-accounts : length s ≤ map_longest → Accounts s (salvaged_image s) (salvage_report s)
+  unfolding salvage_report told_of
   report-accounts short = record {
-    fates = fatesOf l;
+    fates = fates_of l;
     came = all-came l;
     written = rw (image-records s b) (written-perm l);
-    told = toldFrom 0 (steps_of s);
+    told = told_from 0 (steps_of s);
     reported = refl;
-    reads-back = told_back (toldFrom 0 (steps_of s)) (λ t i. let (j, c, at, e, n) = told-means 0 (steps_of s) t i in
+    reads-back = told_back (told_from 0 (steps_of s)) (λ t i. let (j, c, at, e, n) = told-means 0 (steps_of s) t i in
         let few = steps-length in
         let small = step_small (get_or (steps_of s) j 0) (Rattle.salvagelaws.proofs.Counting.get_in (steps_of s) j 0 c) in
         record { place = omega arith; step = omega arith });
@@ -163,30 +163,30 @@ module _ (s : List ℕ) (b : Bytes s) where
   }
 
   -- an accepted image
-  back : (readMap s).number ≡ 0 → (salvagedImage s ≡ s) × (salvageReport s ≡ [])
-  unfolding salvagedImage salvageReport toldOf steps_of toldBytes
+  back : (read_map s).number ≡ 0 → (salvaged_image s ≡ s) × (salvage_report s ≡ [])
+  unfolding salvaged_image salvage_report told_of steps_of told_bytes
   back e =
       let h = sound s e in (
         ap bytes_of (salvaged-same l h.scan h.sentences) ∙ written_read s b h.whole,
-        ap toldBytes (told_none 0 (steps_of s) (λ n i.
+        ap told_bytes (told_none 0 (steps_of s) (λ n i.
             ⊎_elim (λ j. steps-untold l n (rw (fates-same l h.scan h.sentences) at j))
             (λ j. absurd (Memᴰ.not-nil (rw (eq-eqb (length s % 16) 0 h.whole) at j)))
-            (Memᴰ.append_cases (map (λ (f : Fate). f.step) (fatesOf l)) i))),
+            (Memᴰ.append_cases (map (λ (f : Fate). f.step) (fates_of l)) i))),
       )
 
   -- an empty report
-  empty : salvageReport s ≡ [] → salvagedImage s ≡ s
-  unfolding salvagedImage salvageReport toldOf steps_of
+  empty : salvage_report s ≡ [] → salvaged_image s ≡ s
+  unfolding salvaged_image salvage_report told_of steps_of
   empty e =
-      let none = none_told 0 (steps_of s) (bytes-none (toldFrom 0 (steps_of s)) e) in
-      let all = all-untold (all-came l) (λ f i. none f.step (Memᴰ.append_left (stepOne s) (Memᴰ.map (λ (f : Fate). f.step) i))) in
+      let none = none_told 0 (steps_of s) (bytes-none (told_from 0 (steps_of s)) e) in
+      let all = all-untold (all-came l) (λ f i. none f.step (Memᴰ.append_left (step_one s) (Memᴰ.map (λ (f : Fate). f.step) i))) in
       let whole = decide (eqb (length s % 16) 0) (λ t. eqb-true (length s % 16) 0 t)
-      (λ f. absurd (let z = none 1 (Memᴰ.append_right (map (λ (f : Fate). f.step) (fatesOf l)) (rw f (Memᴰ.head refl))) in omega arith)) in
+      (λ f. absurd (let z = none 1 (Memᴰ.append_right (map (λ (f : Fate). f.step) (fates_of l)) (rw f (Memᴰ.head refl))) in omega arith)) in
       ap bytes_of (untold-same l all) ∙ written_read s b whole
 
-image-short : (s : List ℕ) → length (salvagedImage s) ≤ mapLongest
-unfolding salvagedImage
-image-short s = salvaged-short (recordsOf s)
+image-short : (s : List ℕ) → length (salvaged_image s) ≤ map_longest
+unfolding salvaged_image
+image-short s = salvaged-short (records_of s)
 
 -- what a call that answers 0 has handed over
 pub record Handed (a : Answer) (entry exit : List ℕ) (word : ℕ) : Type 0 where
@@ -204,59 +204,59 @@ handed a entry exit word w z =
     (λ f. absurd (eqb-false (number_of a entry) 0 f (let e = rw f at w.packed in omega arith)))
 
 -- it was not refused for its length
-short-enough : (image bytes entry : List ℕ) → number_of (record { first = longNumber image; second = 0; own = 0; bytes = bytes }) entry ≡ 0
-    → length image ≤ mapLongest
+short-enough : (image bytes entry : List ℕ) → number_of (record { first = long_number image; second = 0; own = 0; bytes = bytes }) entry ≡ 0
+    → length image ≤ map_longest
 unfolding number_of first_of
 short-enough image bytes entry e =
-    decide (ltb mapLongest (length image)) (λ t. absurd (let q = rw t at e in omega arith)) (λ f. ltb-false mapLongest (length image) f)
+    decide (ltb map_longest (length image)) (λ t. absurd (let q = rw t at e in omega arith)) (λ f. ltb-false map_longest (length image) f)
 
 -- "no others": 2, then 10, then 0
 numbers : (image bytes out : List ℕ)
-    → OnlyTwoRefusals image bytes out (number_of (record { first = longNumber image; second = 0; own = 0; bytes = bytes }) out)
+    → OnlyTwoRefusals image bytes out (number_of (record { first = long_number image; second = 0; own = 0; bytes = bytes }) out)
 unfolding number_of first_of
 numbers image bytes out = record {
-  too_long = λ h. rw (lt-ltb mapLongest (length image) h);
-  short = λ h c. rw (le-ltb mapLongest (length image) h, lt-ltb (length out) (length bytes) c);
-  done = λ h c. rw (le-ltb mapLongest (length image) h, le-ltb (length out) (length bytes) c);
+  too_long = λ h. rw (lt-ltb map_longest (length image) h);
+  short = λ h c. rw (le-ltb map_longest (length image) h, lt-ltb (length out) (length bytes) c);
+  done = λ h c. rw (le-ltb map_longest (length image) h, le-ltb (length out) (length bytes) c);
 }
 
-pub salvage-numbers : (image out : List ℕ) → OnlyTwoRefusals image (salvagedImage image) out (number_of (salvageAnswer image) out)
-salvage-numbers image out = numbers image (salvagedImage image) out
+pub salvage-numbers : (image out : List ℕ) → OnlyTwoRefusals image (salvaged_image image) out (number_of (salvage_answer image) out)
+salvage-numbers image out = numbers image (salvaged_image image) out
 
-pub report-numbers : (image out : List ℕ) → OnlyTwoRefusals image (salvageReport image) out (number_of (reportAnswer image) out)
-report-numbers image out = numbers image (salvageReport image) out
+pub report-numbers : (image out : List ℕ) → OnlyTwoRefusals image (salvage_report image) out (number_of (report_answer image) out)
+report-numbers image out = numbers image (salvage_report image) out
 
 -- all that is promised of what is handed over
-pub salvages-by : (image : List ℕ) → Bytes image → length image ≤ mapLongest → Salvages image (salvagedImage image) (salvageReport image)
-unfolding salvageReport toldOf
+pub salvages-by : (image : List ℕ) → Bytes image → length image ≤ map_longest → Salvages image (salvaged_image image) (salvage_report image)
+unfolding salvage_report told_of
 salvages-by image b h = record {
   accepted = image-accepted image b;
   unchanged = back image b;
-  only = λ e. let same = empty image b e in (ap (λ s. (readMap s).number) (sym same) ∙ image-accepted image b, same);
+  only = λ e. let same = empty image b e in (ap (λ s. (read_map s).number) (sym same) ∙ image-accepted image b, same);
   nothing-new = λ x i.
-      let m = perm_in (Permᴰ.symm (written-perm (recordsOf image))) x (rw (image-records image b) at i) in
-      let (f, j, e) = Memᴰ.of_map (λ (f : Fate). f.item) (those stayed (fatesOf (recordsOf image))) m in
-      let (r, k, c) = paired-has (all-came (recordsOf image)) (those-means stayed (fatesOf (recordsOf image)) j).0 in
-      (r, k, sym e ∙ c.like ∙ ap (λ (q : Record). withIndex q.index r) e);
+      let m = perm_in (Permᴰ.symm (written-perm (records_of image))) x (rw (image-records image b) at i) in
+      let (f, j, e) = Memᴰ.of_map (λ (f : Fate). f.item) (those stayed (fates_of (records_of image))) m in
+      let (r, k, c) = paired-has (all-came (records_of image)) (those-means stayed (fates_of (records_of image)) j).0 in
+      (r, k, sym e ∙ c.like ∙ ap (λ (q : Record). with_index q.index r) e);
   accounts = report-accounts image b h;
   image-length = short-image;
   report-length =
-      let a = length-told (toldFrom 0 (steps_of image)) in
+      let a = length-told (told_from 0 (steps_of image)) in
       let c = told-few 0 (steps_of image) in
       let d = steps-length image b in
       omega arith;
 }
   where
-    short-image : length (salvagedImage image) ≤ mapLongest
+    short-image : length (salvaged_image image) ≤ map_longest
     short-image = image-short image
 
 pub salvages : (image : List ℕ) → Bytes image → (entry exit : List ℕ) (word : ℕ) → SalvagePromise image entry exit word → word / 2 ^ 32 ≡ 0
     → (other left : List ℕ) (says : ℕ) → SalvageReportPromise image other left says → says / 2 ^ 32 ≡ 0
     → Salvages image (take (word % 2 ^ 32) exit) (take (says % 2 ^ 32) left)
 salvages image b entry exit word p z other left says q y =
-    let h = handed (salvageAnswer image) entry exit word p z in
-    let g = handed (reportAnswer image) other left says q y in
-    rw (h.bytes, g.bytes) (salvages-by image b (short-enough image (salvagedImage image) entry h.number))
+    let h = handed (salvage_answer image) entry exit word p z in
+    let g = handed (report_answer image) other left says q y in
+    rw (h.bytes, g.bytes) (salvages-by image b (short-enough image (salvaged_image image) entry h.number))
 
 -- "Salvaging what was salvaged changes nothing."
 pub twice : {image out report again told : List ℕ} → Salvages image out report → Salvages out again told → (again ≡ out) × (told ≡ [])

@@ -9,27 +9,27 @@ use borrow.Author.Tests.{eq-eqb}
 use Rattle.listlaws.specs.Order.{◌∈◌, Ascending}
 use Rattle.listlaws.specs.Sift.{those}
 use Rattle.listlaws.proofs.Those.{those-means, those-holds, those-ascends}
-use Rattle.clock.specs.Dots.{counterIn}
+use Rattle.clock.specs.Dots.{counter_in}
 use Rattle.clock.proofs.Counters.{counter-member}
-use Rattle.removals.specs.Waits.{clockBefore}
+use Rattle.removals.specs.Waits.{clock_before}
 use Rattle.records.specs.declared.Record.{Record}
 use Rattle.records.specs.Kinds.{before}
-use Rattle.scan.specs.Numbers.{scanNumber}
+use Rattle.scan.specs.Numbers.{scan_number}
 use Rattle.scan.proofs.Befores.{before-fields}
 use Rattle.scan.proofs.Rooms.{no_key}
-use Rattle.clockimage.specs.Image.{isKind, dotOf, dotsFrom}
-use Rattle.clockimage.specs.ClockImage.{clockIn}
-use Rattle.maprecords.specs.Reading.{underIndex}
+use Rattle.clockimage.specs.Image.{is_kind, dot_of, dots_from}
+use Rattle.clockimage.specs.ClockImage.{clock_in}
+use Rattle.maprecords.specs.Reading.{under_index}
 use Rattle.acceptancelaws.proofs.Grouped.{rises}
 use Rattle.acceptancelaws.proofs.Limited.{at-index}
 use Rattle.acceptancelaws.proofs.Entered.{clock-lawful}
 use Rattle.oneimagelaws.proofs.Selected.{selected}
 use Rattle.sentencelaws.specs.Sentences.{Stands, RecordUnder, UnderKey, UnderIndex, MapSentences}
-use Rattle.salvagerules.specs.Indexes.{newIndex, waitingClock, waitingIndexes, isLowest, waitingIndex}
+use Rattle.salvagerules.specs.Indexes.{new_index, waiting_clock, waiting_indexes, is_lowest, waiting_index}
 use Rattle.salvagelaws.proofs.Counting.{pairs-ascend}
 use Rattle.salvagelaws.proofs.Stages.{united, renamed}
 use Rattle.salvagelaws.proofs.Fourth.{Supplied}
-use Rattle.salvagelaws.proofs.Values.{valuesBelow, below-filled}
+use Rattle.salvagelaws.proofs.Values.{values_below, below-filled}
 use Rattle.salvagelaws.proofs.Waiting.{index-all, index-from, lowest-has, index_same, index-filled, clock-order}
 use Rattle.salvagelaws.proofs.Fifth.{new-value, new-dot, new-clock, new-key, renamed-plain}
 use Rattle.salvagelaws.proofs.Fifth.{before_of, good, united-in, united-plain, united-clock}
@@ -37,15 +37,15 @@ use Rattle.salvagelaws.proofs.Fifth.{united-lowest, written, written-ascends, wr
 use Rattle.salvagelaws.proofs.Limited.{clocks-one, key-known, written-scan}
 
 -- a record of a group, and the fields of one that is written
-under_of : (kind index : ℕ) (r : Record) → UnderIndex kind index r → underIndex kind index r ≡ true
+under_of : (kind index : ℕ) (r : Record) → UnderIndex kind index r → under_index kind index r ≡ true
 under_of kind index r u = rw (eq-eqb r.kind kind u.0, eq-eqb r.index index u.1)
 
-dots-renamed : (k l : List Record) → map dotOf (map (renamed k) l) ≡ map dotOf l
+dots-renamed : (k l : List Record) → map dot_of (map (renamed k) l) ≡ map dot_of l
 dots-renamed k [] = refl
-dots-renamed k (r ∷ l) = ap (λ m. dotOf r ∷ m) (dots-renamed k l)
+dots-renamed k (r ∷ l) = ap (λ m. dot_of r ∷ m) (dots-renamed k l)
 
 module _ (k : List Record) (h : Supplied k) where
-  z : scanNumber 1 6 k ≡ 0
+  z : scan_number 1 6 k ≡ 0
   z = h.scan
 
   abbrev w : List Record
@@ -67,12 +67,12 @@ module _ (k : List Record) (h : Supplied k) where
   key_of : {r : Record} (s : Source r) → s.old.key ≡ r.key
   key_of s = ap (λ (q : Record). q.key) (sym s.named)
 
-  index_of : {r : Record} (s : Source r) → newIndex k s.old ≡ r.index
+  index_of : {r : Record} (s : Source r) → new_index k s.old ≡ r.index
   index_of s = ap (λ (q : Record). q.index) (sym s.named)
 
   -- a value and its dots take one index
-  one_place : (v d : Record) → v.kind ≡ 3 → d.kind ≡ 4 → d.key ≡ v.key → d.index ≡ v.index → newIndex k d ≡ newIndex k v
-  one_place v d e f y i = new-dot k d f ∙ ap₂ (valuesBelow k) y i ∙ sym (new-value k v e)
+  one_place : (v d : Record) → v.kind ≡ 3 → d.kind ≡ 4 → d.key ≡ v.key → d.index ≡ v.index → new_index k d ≡ new_index k v
+  one_place v d e f y i = new-dot k d f ∙ ap₂ (values_below k) y i ∙ sym (new-value k v e)
 
   plain-written : (r : Record) → r ∈ k → r.kind < 5 → renamed k r ∈ w
   plain-written r i b = written-holds k r (united-plain k z r i b)
@@ -131,7 +131,7 @@ module _ (k : List Record) (h : Supplied k) where
   values-no-gap r i e j b =
       let s = source r i in
       let y = s.old in
-      let below : j < valuesBelow k y.key y.index = omega (arith, index_of s, new-value k y (kind-of s ∙ e)) in
+      let below : j < values_below k y.key y.index = omega (arith, index_of s, new-value k y (kind-of s ∙ e)) in
       let (v, m, u, n) = below-filled k z y.key r y.index j below in (
         renamed k v,
         plain-written v m (omega (arith, u.0)),
@@ -139,25 +139,25 @@ module _ (k : List Record) (h : Supplied k) where
           u.0,
           (
             u.1 ∙ key_of s,
-            new-value k v u.0 ∙ ap (λ a. valuesBelow k a v.index) u.1 ∙ n,
+            new-value k v u.0 ∙ ap (λ a. values_below k a v.index) u.1 ∙ n,
           ),
         ),
       )
 
   -- a clock dot of a lowest index
-  lowest-written : (j : ℕ) → j ∈ waitingIndexes k → isLowest k j ≡ true → Stands w (UnderIndex 5 (waitingIndex k j))
+  lowest-written : (j : ℕ) → j ∈ waiting_indexes k → is_lowest k j ≡ true → Stands w (UnderIndex 5 (waiting_index k j))
   lowest-written j m t =
       let (s, n, u) = index-from k z j m in (
         renamed k s,
-        written-holds k s (united-clock k z s n u.0 (ap (isLowest k) u.1 ∙ t)),
-        (u.0, new-clock k s u.0 ∙ ap (waitingIndex k) u.1),
+        written-holds k s (united-clock k z s n u.0 (ap (is_lowest k) u.1 ∙ t)),
+        (u.0, new-clock k s u.0 ∙ ap (waiting_index k) u.1),
       )
 
   waiting-no-gap : (r : Record) → r ∈ w → r.kind ≡ 5 → (j : ℕ) → j < r.index → Stands w (UnderIndex 5 j)
   waiting-no-gap r i e j b =
       let s = source r i in
       let y = s.old in
-      let below : j < waitingIndex k y.index = omega (arith, index_of s, new-clock k y (kind-of s ∙ e)) in
+      let below : j < waiting_index k y.index = omega (arith, index_of s, new-clock k y (kind-of s ∙ e)) in
       let (n, m, t, q) = index-filled k z y.index j below in
       let (d, o, u) = lowest-written n m t in
       (d, o, (u.0, u.1 ∙ q))
@@ -173,13 +173,13 @@ module _ (k : List Record) (h : Supplied k) where
   -- the dots under a new index are those under the old
   module _ (y : Record) (j : y ∈ united k) (e : y.kind ≡ 5) where
     abbrev old : List Record
-    old = those (underIndex 5 y.index) k
+    old = those (under_index 5 y.index) k
 
     old-in : {u : Record} → u ∈ old → (u ∈ k) × UnderIndex 5 y.index u
-    old-in {u} i = let m = those-means (underIndex 5 y.index) k i in (m.0, at-index y.index 5 u m.1)
+    old-in {u} i = let m = those-means (under_index 5 y.index) k i in (m.0, at-index y.index 5 u m.1)
 
     old-ascends : Ascending before (map (renamed k) old)
-    old-ascends = pairs-ascend before before (renamed k) old (those-ascends (underIndex 5 y.index) (rises 1 6 k z)) (λ a c p q b.
+    old-ascends = pairs-ascend before before (renamed k) old (those-ascends (under_index 5 y.index) (rises 1 6 k z)) (λ a c p q b.
         let f = old-in p in
         let g = old-in q in
         let kind = f.1.0 ∙ sym g.1.0 in
@@ -187,31 +187,31 @@ module _ (k : List Record) (h : Supplied k) where
         let key = no_key 1 6 a (good k z a f.0) f.1.0 refl ∙ sym (no_key 1 6 c (good k z c g.0) g.1.0 refl) in
         before_of (renamed k a) (renamed k c) kind (omega arith)
         (λ s. mathlib.Core.Logic.inr (
-          new-clock k a f.1.0 ∙ ap (waitingIndex k) index ∙ sym (new-clock k c g.1.0),
+          new-clock k a f.1.0 ∙ ap (waiting_index k) index ∙ sym (new-clock k c g.1.0),
           (before-fields b).actor kind key index,
         )))
 
-    pub dots-kept : dotsFrom (underIndex 5 (newIndex k y)) w ≡ waitingClock k y.index
+    pub dots-kept : dots_from (under_index 5 (new_index k y)) w ≡ waiting_clock k y.index
     dots-kept =
-        ap (map dotOf) (selected (underIndex 5 (newIndex k y)) (written-ascends k h) {target = map (renamed k) old} old-ascends
+        ap (map dot_of) (selected (under_index 5 (new_index k y)) (written-ascends k h) {target = map (renamed k) old} old-ascends
         (λ r i t. let s = source r i in
-        let a = at-index (newIndex k y) 5 r t in
+        let a = at-index (new_index k y) 5 r t in
         let same = clocks-one k h s.old y s.stays j (kind-of s ∙ a.0) e (index_of s ∙ a.1) in
-        Memᴰ.cast s.named (Memᴰ.map (renamed k) (those-holds (underIndex 5 y.index) s.stood
+        Memᴰ.cast s.named (Memᴰ.map (renamed k) (those-holds (under_index 5 y.index) s.stood
         (under_of 5 y.index s.old (kind-of s ∙ a.0, same)))))
         (λ r i. let (u, m, q) = Memᴰ.of_map (renamed k) old i in
         let f = old-in m in (
-          Memᴰ.cast (sym q) (written-holds k u (united-clock k z u f.0 f.1.0 (ap (isLowest k) f.1.1 ∙ united-lowest k z y j e))),
-          under_of 5 (newIndex k y) r (
+          Memᴰ.cast (sym q) (written-holds k u (united-clock k z u f.0 f.1.0 (ap (is_lowest k) f.1.1 ∙ united-lowest k z y j e))),
+          under_of 5 (new_index k y) r (
             ap (λ (v : Record). v.kind) (sym q) ∙ f.1.0,
             ap (λ (v : Record). v.index) (sym q) ∙ new-clock k u f.1.0
-                ∙ ap (waitingIndex k) f.1.1 ∙ sym (new-clock k y e),
+                ∙ ap (waiting_index k) f.1.1 ∙ sym (new-clock k y e),
           ),
         )))
         ∙ dots-renamed k old
 
   clocks-ascend : (r s : Record) → r ∈ w → s ∈ w → r.kind ≡ 5 → s.kind ≡ 5 → r.index < s.index
-      → clockBefore (dotsFrom (underIndex 5 r.index) w) (dotsFrom (underIndex 5 s.index) w) ≡ true
+      → clock_before (dots_from (under_index 5 r.index) w) (dots_from (under_index 5 s.index) w) ≡ true
   clocks-ascend r s i j e f b =
       let p = source r i in
       let q = source s j in
@@ -219,21 +219,21 @@ module _ (k : List Record) (h : Supplied k) where
       let y = q.old in
       let a = kind-of p ∙ e in
       let c = kind-of q ∙ f in
-      ap₂ clockBefore
-      (ap (λ n. dotsFrom (underIndex 5 n) w) (sym (index_of p)) ∙ dots-kept x p.stays a)
-      (ap (λ n. dotsFrom (underIndex 5 n) w) (sym (index_of q)) ∙ dots-kept y q.stays c)
+      ap₂ clock_before
+      (ap (λ n. dots_from (under_index 5 n) w) (sym (index_of p)) ∙ dots-kept x p.stays a)
+      (ap (λ n. dots_from (under_index 5 n) w) (sym (index_of q)) ∙ dots-kept y q.stays c)
       ∙ clock-order k x.index y.index (index-all k z x p.stood a) (index-all k z y q.stood c)
       (omega (arith, index_of p, index_of q, new-clock k x a, new-clock k y c))
 
-  dots-within : (r : Record) → r ∈ w → r.kind ≡ 2 → r.number ≤ counterIn (clockIn w) r.actor
+  dots-within : (r : Record) → r ∈ w → r.kind ≡ 2 → r.number ≤ counter_in (clock_in w) r.actor
   dots-within r i e =
       let s = source r i in
       let (c, m, u) = h.in-clock s.old s.stood (kind-of s ∙ e) in
-      let here = Memᴰ.map dotOf (those-holds (isKind 1) (clock-written c m u.0) (eq-eqb c.kind 1 u.0)) in
+      let here = Memᴰ.map dot_of (those-holds (is_kind 1) (clock-written c m u.0) (eq-eqb c.kind 1 u.0)) in
       let count = counter-member (clock-lawful w (written-scan k h)) here in
       let number = ap (λ (q : Record). q.number) s.named in
       let actor = u.1.0 ∙ ap (λ (q : Record). q.actor) (sym s.named) in
-      let same = ap (counterIn (clockIn w)) actor in
+      let same = ap (counter_in (clock_in w)) actor in
       omega (arith, u.1.1)
 
   pub written-sentences : MapSentences w

@@ -14,11 +14,11 @@ use Rattle.listlaws.proofs.Orders.{by-strict}
 use Rattle.listlaws.proofs.Those.{those-means, those-holds, those-those, those-ascends}
 use Rattle.records.specs.declared.Record.{Record}
 use Rattle.records.specs.Kinds.{before}
-use Rattle.scan.specs.Numbers.{scanNumber}
+use Rattle.scan.specs.Numbers.{scan_number}
 use Rattle.scan.proofs.Befores.{before-fields}
 use Rattle.scan.proofs.Rooms.{unordered}
 use Rattle.scan.proofs.Eachs.{both, both_left, both_right}
-use Rattle.maprecords.specs.Reading.{underKey}
+use Rattle.maprecords.specs.Reading.{under_key}
 use Rattle.acceptancelaws.proofs.Grouped.{fine, rises}
 use Rattle.acceptancelaws.proofs.Limited.{at_key, values-few}
 use Rattle.sentencelaws.specs.Sentences.{UnderKey, RecordUnder}
@@ -26,43 +26,43 @@ use Rattle.salvagelaws.proofs.Counting.{count_less, count-few, count-all, get_in
 use Rattle.salvagelaws.proofs.Sorts.{place-counts}
 
 -- how many values of a key have a lower index
-abbrev pub valuesBelow : List Record → ℕ → ℕ → ℕ
-valuesBelow k key index = length (those (λ s. underKey 3 key s && ltb s.index index) k)
+abbrev pub values_below : List Record → ℕ → ℕ → ℕ
+values_below k key index = length (those (λ s. under_key 3 key s && ltb s.index index) k)
 
-module _ (k : List Record) (z : scanNumber 1 6 k ≡ 0) (key : ℕ) where
+module _ (k : List Record) (z : scan_number 1 6 k ≡ 0) (key : ℕ) where
   abbrev pub values_of : List Record
-  values_of = those (underKey 3 key) k
+  values_of = those (under_key 3 key) k
 
   -- a value of the key has passed, and is not below itself
-  passes : (v : Record) (i j : ℕ) → RecordUnder 3 key i v → i < j → (underKey 3 key v && ltb v.index j) ≡ true
+  passes : (v : Record) (i j : ℕ) → RecordUnder 3 key i v → i < j → (under_key 3 key v && ltb v.index j) ≡ true
   passes v i j u h = rw (eq-eqb v.kind 3 u.0, eq-eqb v.key key u.1.0, u.1.1, lt-ltb i j h)
 
-  fails : (v : Record) (i : ℕ) → RecordUnder 3 key i v → (underKey 3 key v && ltb v.index i) ≡ false
+  fails : (v : Record) (i : ℕ) → RecordUnder 3 key i v → (under_key 3 key v && ltb v.index i) ≡ false
   fails v i u = rw (eq-eqb v.kind 3 u.0, eq-eqb v.key key u.1.0, u.1.1, le-ltb i i (omega arith))
 
-  pub below-rises : (v : Record) → v ∈ k → (i j : ℕ) → RecordUnder 3 key i v → i < j → valuesBelow k key i < valuesBelow k key j
+  pub below-rises : (v : Record) → v ∈ k → (i j : ℕ) → RecordUnder 3 key i v → i < j → values_below k key i < values_below k key j
   below-rises v m i j u h =
-      count_less (λ s. underKey 3 key s && ltb s.index i) (λ s. underKey 3 key s && ltb s.index j) k
-      (λ s n t. both (underKey 3 key s) (ltb s.index j) (both_left (underKey 3 key s) (ltb s.index i) t)
-      (lt-ltb s.index j (let b = ltb-true s.index i (both_right (underKey 3 key s) (ltb s.index i) t) in omega arith)))
+      count_less (λ s. under_key 3 key s && ltb s.index i) (λ s. under_key 3 key s && ltb s.index j) k
+      (λ s n t. both (under_key 3 key s) (ltb s.index j) (both_left (under_key 3 key s) (ltb s.index i) t)
+      (lt-ltb s.index j (let b = ltb-true s.index i (both_right (under_key 3 key s) (ltb s.index i) t) in omega arith)))
       m (fails v i u) (passes v i j u h)
 
-  pub counted : (i : ℕ) → length (those (λ s. ltb s.index i) values_of) ≡ valuesBelow k key i
-  counted i = ap length (those-those (λ s. ltb s.index i) (underKey 3 key) k)
+  pub counted : (i : ℕ) → length (those (λ s. ltb s.index i) values_of) ≡ values_below k key i
+  counted i = ap length (those-those (λ s. ltb s.index i) (under_key 3 key) k)
 
-  pub below-few : (v : Record) → v ∈ k → (i : ℕ) → RecordUnder 3 key i v → valuesBelow k key i < 4
+  pub below-few : (v : Record) → v ∈ k → (i : ℕ) → RecordUnder 3 key i v → values_below k key i < 4
   below-few v m i u =
       let few = values-few key k z in
       let less = count-few (λ s. ltb s.index i) values_of
-      (those-holds (underKey 3 key) m (rw (eq-eqb v.kind 3 u.0, eq-eqb v.key key u.1.0)))
+      (those-holds (under_key 3 key) m (rw (eq-eqb v.kind 3 u.0, eq-eqb v.key key u.1.0)))
       (rw u.1.1 (le-ltb i i (omega arith))) in
       omega (arith, counted i)
 
   -- values of one key ascend by their indexes
   pub values-rise : Ascending (by (λ (r : Record). r.index)) values_of
-  values-rise = go values_of (those-ascends (underKey 3 key) (rises 1 6 k z)) (λ x i. those-means (underKey 3 key) k i)
+  values-rise = go values_of (those-ascends (under_key 3 key) (rises 1 6 k z)) (λ x i. those-means (under_key 3 key) k i)
     where
-      less : (x y : Record) → (x ∈ k) × (underKey 3 key x ≡ true) → (y ∈ k) × (underKey 3 key y ≡ true) → before x y ≡ true → x.index < y.index
+      less : (x y : Record) → (x ∈ k) × (under_key 3 key x ≡ true) → (y ∈ k) × (under_key 3 key y ≡ true) → before x y ≡ true → x.index < y.index
       less x y p q b =
           let f = before-fields b in
           let a = at_key key 3 x p.1 in
@@ -77,7 +77,7 @@ module _ (k : List Record) (z : scanNumber 1 6 k ≡ 0) (key : ℕ) where
           strictly : (m n : ℕ) → m ≤ n → (m ≡ n → ⊥) → m < n
           strictly m n h d = omega arith
 
-      go : (l : List Record) → Ascending before l → ((x : Record) → x ∈ l → (x ∈ k) × (underKey 3 key x ≡ true))
+      go : (l : List Record) → Ascending before l → ((x : Record) → x ∈ l → (x ∈ k) × (under_key 3 key x ≡ true))
           → Ascending (by (λ (r : Record). r.index)) l
       go [] a h = nil
       go (x ∷ l) (next f a) h =
@@ -85,13 +85,13 @@ module _ (k : List Record) (z : scanNumber 1 6 k ≡ 0) (key : ℕ) where
           (λ y i. lt-ltb x.index y.index (less x y (h x (Memᴰ.head refl)) (h y (Memᴰ.tail i)) (f y i)))
           (go l a (λ y i. h y (Memᴰ.tail i)))
 
-  pub below-filled : (d : Record) (i n : ℕ) → n < valuesBelow k key i
-      → (v : Record) × (v ∈ k) × UnderKey 3 key v × (valuesBelow k key v.index ≡ n)
+  pub below-filled : (d : Record) (i n : ℕ) → n < values_below k key i
+      → (v : Record) × (v ∈ k) × UnderKey 3 key v × (values_below k key v.index ≡ n)
   below-filled d i n h =
       let most = count-all (λ s. ltb s.index i) values_of in
       let here : n < length values_of = omega (arith, counted i) in
       let v = get_or values_of n d in
-      let m = those-means (underKey 3 key) k (get_in values_of n d here) in (
+      let m = those-means (under_key 3 key) k (get_in values_of n d here) in (
         v,
         m.0,
         at_key key 3 v m.1,

@@ -9,9 +9,9 @@ use Rattle.listlaws.specs.Order.{◌∈◌, Ascending, nil, next, Strict}
 use Rattle.listlaws.specs.Sift.{sift}
 use Rattle.listlaws.proofs.Orders.{apart, head-before, tail-ascends, never-itself}
 use Rattle.records.specs.declared.Record.{Record}
-use Rattle.scan.specs.Each.{eachAfter, each}
+use Rattle.scan.specs.Each.{each_after, each}
 use Rattle.scan.proofs.Eachs.{decide, both, both_left, both_right}
-use Rattle.salvagerules.specs.Fates.{Fate, staying, takenAfter}
+use Rattle.salvagerules.specs.Fates.{Fate, staying, taken_after}
 
 -- a member and what stands on either side
 pub record Parted {A : Type 0} (l : List A) (x : A) : Type 0 where
@@ -62,8 +62,8 @@ left_in {x = x} p s i = rw p.parts (Memᴰ.append_left (x ∷ p.right) i)
 
 module _ {A : Type 0} (test : List A → A → Bool) where
   -- each passes, where each passes given those on its left
-  each-of-after : (seen l : List A) → ((x : A) (p : Parted l x) → test (seen ++ p.left) x ≡ true) → eachAfter test seen l ≡ true
-  unfolding eachAfter
+  each-of-after : (seen l : List A) → ((x : A) (p : Parted l x) → test (seen ++ p.left) x ≡ true) → each_after test seen l ≡ true
+  unfolding each_after
   each-of-after seen [] h = refl
   each-of-after seen (x ∷ l) h =
       both (test seen x) _ (rw (append-nil seen) at (h x (record { left = []; right = l; parts = refl })))
@@ -74,8 +74,8 @@ module _ {A : Type 0} (test : List A → A → Bool) where
   pub each_of : (l : List A) → ((x : A) (p : Parted l x) → test p.left x ≡ true) → each test l ≡ true
   each_of l h = each-of-after [] l h
 
-  each-at-after : (seen l : List A) → eachAfter test seen l ≡ true → {x : A} → x ∈ l → (p : Parted l x) × (test (seen ++ p.left) x ≡ true)
-  unfolding eachAfter
+  each-at-after : (seen l : List A) → each_after test seen l ≡ true → {x : A} → x ∈ l → (p : Parted l x) × (test (seen ++ p.left) x ≡ true)
+  unfolding each_after
   each-at-after seen [] e i = absurd (Memᴰ.not-nil i)
   each-at-after seen (y ∷ l) e {x} i =
       ⊎_elim
@@ -93,23 +93,23 @@ module _ {A : Type 0} (test : List A → A → Bool) where
   each_at l e i = each-at-after [] l e i
 
   -- those that stay
-  unfoldable pub keptAfter : List A → List A → List A
-  keptAfter seen [] = []
-  keptAfter seen (x ∷ l) = cond (test seen x) (x ∷ keptAfter (seen ++ (x ∷ [])) l) (keptAfter seen l)
+  unfoldable pub kept_after : List A → List A → List A
+  kept_after seen [] = []
+  kept_after seen (x ∷ l) = cond (test seen x) (x ∷ kept_after (seen ++ (x ∷ [])) l) (kept_after seen l)
 
   abbrev pub kept : List A → List A
-  kept l = keptAfter [] l
+  kept l = kept_after [] l
 
-  pub kept-means : (seen l : List A) {z : A} → z ∈ keptAfter seen l → z ∈ l
-  unfolding keptAfter
+  pub kept-means : (seen l : List A) {z : A} → z ∈ kept_after seen l → z ∈ l
+  unfolding kept_after
   kept-means seen [] i = i
   kept-means seen (x ∷ l) {z} i =
       decide (test seen x)
       (λ t. ⊎_elim (λ (e : z ≡ x). Memᴰ.head e) (λ j. Memᴰ.tail (kept-means (seen ++ (x ∷ [])) l j)) (Memᴰ.cases_cons (rw t at i)))
       (λ f. Memᴰ.tail (kept-means seen l (rw f at i)))
 
-  kept-each-after : (seen l : List A) → eachAfter test seen (keptAfter seen l) ≡ true
-  unfolding keptAfter eachAfter
+  kept-each-after : (seen l : List A) → each_after test seen (kept_after seen l) ≡ true
+  unfolding kept_after each_after
   kept-each-after seen [] = refl
   kept-each-after seen (x ∷ l) =
       decide (test seen x) (λ t. rw (t, t) (kept-each-after (seen ++ (x ∷ [])) l)) (λ f. rw f (kept-each-after seen l))
@@ -118,8 +118,8 @@ module _ {A : Type 0} (test : List A → A → Bool) where
   pub kept-each : (l : List A) → each test (kept l) ≡ true
   kept-each l = kept-each-after [] l
 
-  pub kept-ascends : {first : A → A → Bool} (seen l : List A) → Ascending first l → Ascending first (keptAfter seen l)
-  unfolding keptAfter
+  pub kept-ascends : {first : A → A → Bool} (seen l : List A) → Ascending first l → Ascending first (kept_after seen l)
+  unfolding kept_after
   kept-ascends seen [] a = nil
   kept-ascends seen (x ∷ l) a =
       decide (test seen x)
@@ -127,8 +127,8 @@ module _ {A : Type 0} (test : List A → A → Bool) where
       (λ f. rw f (kept-ascends seen l (tail-ascends a)))
 
   -- where each passes, all stay
-  kept-all-after : (seen l : List A) → eachAfter test seen l ≡ true → keptAfter seen l ≡ l
-  unfolding keptAfter eachAfter
+  kept-all-after : (seen l : List A) → each_after test seen l ≡ true → kept_after seen l ≡ l
+  unfolding kept_after each_after
   kept-all-after seen [] e = refl
   kept-all-after seen (x ∷ l) e =
       rw (both_left (test seen x) _ e) (ap (λ m. x ∷ m) (kept-all-after (seen ++ (x ∷ [])) l (both_right (test seen x) _ e)))
@@ -136,39 +136,39 @@ module _ {A : Type 0} (test : List A → A → Bool) where
   pub kept-all : (l : List A) → each test l ≡ true → kept l ≡ l
   kept-all l e = kept-all-after [] l e
 
-  kept_append : (seen l m : List A) → keptAfter seen (l ++ m) ≡ keptAfter seen l ++ keptAfter (seen ++ keptAfter seen l) m
-  unfolding keptAfter
+  kept_append : (seen l m : List A) → kept_after seen (l ++ m) ≡ kept_after seen l ++ kept_after (seen ++ kept_after seen l) m
+  unfolding kept_after
   kept_append seen [] m = rw (append-nil seen)
   kept_append seen (x ∷ l) m =
       decide (test seen x)
-      (λ t. rw t (ap (λ n. x ∷ n) (kept_append (seen ++ (x ∷ [])) l m ∙ ap (λ s. keptAfter (seen ++ (x ∷ [])) l ++ keptAfter s m)
-      (append_assoc seen (x ∷ []) (keptAfter (seen ++ (x ∷ [])) l)))))
+      (λ t. rw t (ap (λ n. x ∷ n) (kept_append (seen ++ (x ∷ [])) l m ∙ ap (λ s. kept_after (seen ++ (x ∷ [])) l ++ kept_after s m)
+      (append_assoc seen (x ∷ []) (kept_after (seen ++ (x ∷ [])) l)))))
       (λ f. rw f (kept_append seen l m))
 
   -- an element is tested given those that stay on its left: where it passes, it stays
   module _ {l : List A} {x : A} (p : Parted l x) where
-    abbrev pub leftKept : List A
-    leftKept = keptAfter [] p.left
+    abbrev pub left_kept : List A
+    left_kept = kept_after [] p.left
 
-    parts-kept : kept l ≡ leftKept ++ keptAfter leftKept (x ∷ p.right)
+    parts-kept : kept l ≡ left_kept ++ kept_after left_kept (x ∷ p.right)
     parts-kept = ap kept p.parts ∙ kept_append [] p.left (x ∷ p.right)
 
-    pub left-kept : {s : A} → s ∈ leftKept → s ∈ kept l
-    left-kept i = rw parts-kept (Memᴰ.append_left (keptAfter leftKept (x ∷ p.right)) i)
+    pub left-kept : {s : A} → s ∈ left_kept → s ∈ kept l
+    left-kept i = rw parts-kept (Memᴰ.append_left (kept_after left_kept (x ∷ p.right)) i)
 
-    here : test leftKept x ≡ true → x ∈ keptAfter leftKept (x ∷ p.right)
-    unfolding keptAfter
+    here : test left_kept x ≡ true → x ∈ kept_after left_kept (x ∷ p.right)
+    unfolding kept_after
     here u = rw u (Memᴰ.head refl)
 
-    pub passed-stays : test leftKept x ≡ true → x ∈ kept l
-    passed-stays t = rw parts-kept (Memᴰ.append_right leftKept (here t))
+    pub passed-stays : test left_kept x ≡ true → x ∈ kept l
+    passed-stays t = rw parts-kept (Memᴰ.append_right left_kept (here t))
 
     -- one that stays and stands before it is among those
-    pub kept-left : {first : A → A → Bool} → Strict first → Ascending first l → {s : A} → s ∈ kept l → first s x ≡ true → s ∈ leftKept
+    pub kept-left : {first : A → A → Bool} → Strict first → Ascending first l → {s : A} → s ∈ kept l → first s x ≡ true → s ∈ left_kept
     kept-left {first} strict a {s} i t =
-        ⊎_elim (λ j. j) (λ j. behind (kept-means leftKept (x ∷ p.right) j)) (Memᴰ.append_cases leftKept (rw parts-kept at i))
+        ⊎_elim (λ j. j) (λ j. behind (kept-means left_kept (x ∷ p.right) j)) (Memᴰ.append_cases left_kept (rw parts-kept at i))
       where
-        behind : s ∈ (x ∷ p.right) → s ∈ leftKept
+        behind : s ∈ (x ∷ p.right) → s ∈ left_kept
         behind j =
             ⊎_elim (λ (e : s ≡ x). never-itself strict x (rw e at t))
             (λ k. apart (sym (head-before (ascends-right p.left (x ∷ p.right) (whole a p)) s k) ∙ strict s x t))
@@ -176,20 +176,20 @@ module _ {A : Type 0} (test : List A → A → Bool) where
 
 -- of a walk over fates, the records that stay are those kept
 pub staying-taken : (n : ℕ) (test : List Record → Record → Bool) (seen : List Record) (l : List Fate)
-    → staying (takenAfter n test seen l) ≡ keptAfter test seen (staying l)
-unfolding takenAfter keptAfter sift
+    → staying (taken_after n test seen l) ≡ kept_after test seen (staying l)
+unfolding taken_after kept_after sift
 staying-taken n test seen [] = refl
 staying-taken n test seen (f ∷ l) =
     decide f.stays
     (λ s. decide (test seen f.item)
     (λ t. rw (s, t) (ap (λ m. f.item ∷ m) (staying-taken n test (seen ++ (f.item ∷ [])) l)))
-    (λ t. rw (s, t) (ap (λ m. staying (takenAfter n test m l)) (append-nil seen) ∙ staying-taken n test seen l)))
-    (λ s. rw s (ap (λ m. staying (takenAfter n test m l)) (append-nil seen) ∙ staying-taken n test seen l))
+    (λ t. rw (s, t) (ap (λ m. staying (taken_after n test m l)) (append-nil seen) ∙ staying-taken n test seen l)))
+    (λ s. rw s (ap (λ m. staying (taken_after n test m l)) (append-nil seen) ∙ staying-taken n test seen l))
 
 -- where each that stays passes, nothing changes
-pub taken-all : (n : ℕ) (test : List Record → Record → Bool) (seen : List Record) (l : List Fate) → eachAfter test seen (staying l) ≡ true
-    → takenAfter n test seen l ≡ l
-unfolding takenAfter eachAfter sift
+pub taken-all : (n : ℕ) (test : List Record → Record → Bool) (seen : List Record) (l : List Fate) → each_after test seen (staying l) ≡ true
+    → taken_after n test seen l ≡ l
+unfolding taken_after each_after sift
 taken-all n test seen [] e = refl
 taken-all n test seen (f ∷ l) e =
     decide f.stays
@@ -199,4 +199,4 @@ taken-all n test seen (f ∷ l) e =
     (taken-all n test (seen ++ (f.item ∷ [])) l (both_right (test seen f.item) _ h))))
     (λ s. rw s
     (ap (λ m. record { item = f.item; stays = false; step = f.step } ∷ m)
-    (ap (λ m. takenAfter n test m l) (append-nil seen) ∙ taken-all n test seen l (rw s at e))))
+    (ap (λ m. taken_after n test m l) (append-nil seen) ∙ taken-all n test seen l (rw s at e))))

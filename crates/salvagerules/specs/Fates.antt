@@ -13,8 +13,8 @@ pub record Fate : Type 0 where
 abbrev pub untouched : Record → Fate
 untouched r = record { item = r; stays = true; step = 0 }
 
-abbrev pub goneBy : ℕ → Fate → Fate
-goneBy n f = record { item = f.item; stays = false; step = n }
+abbrev pub gone_by : ℕ → Fate → Fate
+gone_by n f = record { item = f.item; stays = false; step = n }
 
 -- the records that still stay, in order
 abbrev pub stayed : Fate → Bool
@@ -25,13 +25,13 @@ staying l = map (λ f. f.item) (those stayed l)
 
 -- one that still stays goes by step n, where it does not pass the test, given the records that stay before it
 abbrev pub tested : ℕ → (List Record → Record → Bool) → List Record → Fate → Fate
-tested n test seen f = cond (f.stays && not (test seen f.item)) (goneBy n f) f
+tested n test seen f = cond (f.stays && not (test seen f.item)) (gone_by n f) f
 
 -- "taken in order": each is tested, given the records that stay before it, which begin with `seen`
-unfoldable pub takenAfter : ℕ → (List Record → Record → Bool) → List Record → List Fate → List Fate
-takenAfter n test seen [] = []
-takenAfter n test seen (f ∷ l) =
-    tested n test seen f ∷ takenAfter n test (seen ++ staying (tested n test seen f ∷ [])) l
+unfoldable pub taken_after : ℕ → (List Record → Record → Bool) → List Record → List Fate → List Fate
+taken_after n test seen [] = []
+taken_after n test seen (f ∷ l) =
+    tested n test seen f ∷ taken_after n test (seen ++ staying (tested n test seen f ∷ [])) l
 
 abbrev pub taken : ℕ → (List Record → Record → Bool) → List Fate → List Fate
-taken n test l = takenAfter n test [] l
+taken n test l = taken_after n test [] l

@@ -7,7 +7,7 @@ use lib.Dec.{eqb, ltb}
 use borrow.Author.Tests.{ltb-true, ltb-false, lt-ltb, eq-eqb, eqb-true}
 use Rattle.listlaws.proofs.Orders.{apart}
 use Rattle.records.specs.declared.Record.{Record}
-use Rattle.records.specs.Kinds.{actorOf, before}
+use Rattle.records.specs.Kinds.{actor_of, before}
 use Rattle.records.proofs.Rule.{is_value}
 use Rattle.scan.proofs.Eachs.{decide}
 
@@ -15,7 +15,7 @@ pub record Before (a b : Record) : Type 0 where
   pub kind : a.kind ≤ b.kind
   pub key : a.kind ≡ b.kind → a.key ≤ b.key
   pub index : a.kind ≡ b.kind → a.key ≡ b.key → a.index ≤ b.index
-  pub actor : a.kind ≡ b.kind → a.key ≡ b.key → a.index ≡ b.index → actorOf a < actorOf b
+  pub actor : a.kind ≡ b.kind → a.key ≡ b.key → a.index ≡ b.index → actor_of a < actor_of b
 
 -- one field, and what is to hold where it is equal
 one_field : (x y : ℕ) (rest : Bool) → (ltb x y || (eqb x y && rest)) ≡ true → (x ≤ y) × (x ≡ y → rest ≡ true)
@@ -40,7 +40,7 @@ before-fields {a} {b} e =
       kind = one.0;
       key = λ k. (one_field a.key b.key _ (one.1 k)).0;
       index = λ k y. (one_field a.index b.index _ ((one_field a.key b.key _ (one.1 k)).1 y)).0;
-      actor = λ k y i. ltb-true (actorOf a) (actorOf b) ((one_field a.index b.index _ ((one_field a.key b.key _ (one.1 k)).1 y)).1 i);
+      actor = λ k y i. ltb-true (actor_of a) (actor_of b) ((one_field a.index b.index _ ((one_field a.key b.key _ (one.1 k)).1 y)).1 i);
     }
 
 -- dots of one kind, key and index ascend by their actors
@@ -53,7 +53,7 @@ unfolding before
 fields-before {a} {b} h =
     field-one a.kind b.kind _ h.kind
     (λ k. field-one a.key b.key _ (h.key k)
-    (λ y. field-one a.index b.index _ (h.index k y) (λ i. lt-ltb (actorOf a) (actorOf b) (h.actor k y i))))
+    (λ y. field-one a.index b.index _ (h.index k y) (λ i. lt-ltb (actor_of a) (actor_of b) (h.actor k y i))))
 
 pub before-trans : {a b c : Record} → Before a b → Before b c → Before a c
 before-trans {a} {b} {c} f g = record {

@@ -10,29 +10,29 @@ use lib.Dec.{eqb, leb}
 use lib.ListN.{length}
 use borrow.Author.Tests.{eq-eqb, eqb-true, le-leb}
 use Rattle.listlaws.specs.Order.{◌∈◌, Ascending, nil, next}
-use Rattle.listlaws.specs.First.{firstIn, some}
+use Rattle.listlaws.specs.First.{first_in, some}
 use Rattle.listlaws.proofs.Orders.{apart, head-before, tail-ascends}
 use Rattle.listlaws.proofs.Tally.{some-snoc}
 use Rattle.records.specs.declared.Record.{Record}
-use Rattle.records.specs.Kinds.{before, recordOk}
-use Rattle.scan.specs.Each.{eachAfter, countAfter}
-use Rattle.scan.specs.Formed.{follows, wellFormed}
-use Rattle.scan.specs.Limits.{outer, middle, inner, Limits, today, outerBy, middleBy, innerLimits, limitAt, sameKind, sameOuter, sameMiddle}
-use Rattle.scan.specs.Limits.{fresh, tally, roomBy, withinBy, within}
-use Rattle.scan.specs.Numbers.{scanNumber}
+use Rattle.records.specs.Kinds.{before, record_ok}
+use Rattle.scan.specs.Each.{each_after, count_after}
+use Rattle.scan.specs.Formed.{follows, well_formed}
+use Rattle.scan.specs.Limits.{outer, middle, inner, Limits, today, outer_by, middle_by, inner_limits, limit_at, same_kind, same_outer, same_middle}
+use Rattle.scan.specs.Limits.{fresh, tally, room_by, within_by, within}
+use Rattle.scan.specs.Numbers.{scan_number}
 use Rattle.scan.proofs.Eachs.{both_left, both_right, both, decide, every-at, every_of}
 use Rattle.scan.proofs.Tallies.{tally-none}
 
 -- good records in ascending order
 module _ (low high : ℕ) where
   formed-after : (seen l : List Record) → ((s x : Record) → s ∈ seen → x ∈ l → before s x ≡ true) → Ascending before l
-      → ((x : Record) → x ∈ l → recordOk low high x ≡ true)
-      → eachAfter (follows low high) seen l ≡ true
-  unfolding eachAfter
+      → ((x : Record) → x ∈ l → record_ok low high x ≡ true)
+      → each_after (follows low high) seen l ≡ true
+  unfolding each_after
   formed-after seen [] b a g = refl
   formed-after seen (x ∷ l) b a g =
       both (follows low high seen x) _
-      (both (recordOk low high x) _ (g x (Memᴰ.head refl)) (every_of (λ s. before s x) seen (λ s i. b s x i (Memᴰ.head refl))))
+      (both (record_ok low high x) _ (g x (Memᴰ.head refl)) (every_of (λ s. before s x) seen (λ s i. b s x i (Memᴰ.head refl))))
       (formed-after (seen ++ (x ∷ [])) l further (tail-ascends a) (λ y i. g y (Memᴰ.tail i)))
     where
       further : (s y : Record) → s ∈ (seen ++ (x ∷ [])) → y ∈ l → before s y ≡ true
@@ -40,8 +40,8 @@ module _ (low high : ℕ) where
           ⊎_elim (λ k. b s y k (Memᴰ.tail j)) (λ k. ap (λ z. before z y) (Memᴰ.eq_of_singleton k) ∙ head-before a y j)
           (Memᴰ.append_cases seen i)
 
-  pub formed-of : (l : List Record) → Ascending before l → ((x : Record) → x ∈ l → recordOk low high x ≡ true) → wellFormed low high l ≡ true
-  unfolding wellFormed
+  pub formed-of : (l : List Record) → Ascending before l → ((x : Record) → x ∈ l → record_ok low high x ≡ true) → well_formed low high l ≡ true
+  unfolding well_formed
   formed-of l a g = formed-after [] l (λ s x i j. absurd (Memᴰ.not-nil i)) a g
 
 -- a group without the records that give k, and what it has been counted so far of them
@@ -52,13 +52,13 @@ module _ (f : Record → ℕ) (k : ℕ) (group : Record → Bool) where
   abbrev given : Record → Bool
   given x = group x && eqb (f x) k
 
-  less-after : (seen l : List Record) → countAfter (fresh group f) seen l ≤ countAfter (fresh without f) seen l + cond (some given seen) 0 1
-  unfolding countAfter
+  less-after : (seen l : List Record) → count_after (fresh group f) seen l ≤ count_after (fresh without f) seen l + cond (some given seen) 0 1
+  unfolding count_after
   less-after seen [] = omega arith
   less-after seen (x ∷ l) =
       let rest = less-after (seen ++ (x ∷ [])) l in
-      let a = countAfter (fresh group f) (seen ++ (x ∷ [])) l in
-      let b = countAfter (fresh without f) (seen ++ (x ∷ [])) l in
+      let a = count_after (fresh group f) (seen ++ (x ∷ [])) l in
+      let b = count_after (fresh without f) (seen ++ (x ∷ [])) l in
       decide (group x)
       (λ g. decide (eqb (f x) k)
       (λ e. rw (eqb-true (f x) k e, g, eq-eqb k k refl) (same (some given seen) a b (rw (some-snoc given seen x, g, e) at rest)))
@@ -96,7 +96,7 @@ module _ (f : Record → ℕ) (k : ℕ) (group : Record → Bool) where
           none false b = refl
 
   tally-less : (l : List Record) → tally group f l ≤ tally without f l + 1
-  unfolding tally firstIn
+  unfolding tally first_in
   tally-less l = less-after [] l
 
 -- what is given lies among the numbers ks
@@ -121,28 +121,28 @@ pub record AmongBy (t : Limits) (l : List Record) (r : Record) : Type 0 where
   pub outers : List ℕ
   pub middles : List ℕ
   pub inners : List ℕ
-  pub in-outers : (x : Record) → x ∈ l → sameKind r x ≡ true → outer x ∈ outers
-  pub in-middles : (x : Record) → x ∈ l → sameOuter r x ≡ true → middle x ∈ middles
-  pub in-inners : (x : Record) → x ∈ l → sameMiddle r x ≡ true → inner x ∈ inners
-  pub few-outers : length outers ≤ limitAt (outerBy t) r.kind
-  pub few-middles : length middles ≤ limitAt (middleBy t) r.kind
-  pub few-inners : length inners ≤ limitAt innerLimits r.kind
+  pub in-outers : (x : Record) → x ∈ l → same_kind r x ≡ true → outer x ∈ outers
+  pub in-middles : (x : Record) → x ∈ l → same_outer r x ≡ true → middle x ∈ middles
+  pub in-inners : (x : Record) → x ∈ l → same_middle r x ≡ true → inner x ∈ inners
+  pub few-outers : length outers ≤ limit_at (outer_by t) r.kind
+  pub few-middles : length middles ≤ limit_at (middle_by t) r.kind
+  pub few-inners : length inners ≤ limit_at inner_limits r.kind
 
 abbrev pub Among : List Record → Record → Type 0
 Among = AmongBy today
 
 within-after : (t : Limits) (seen l whole : List Record) → ((x : Record) → x ∈ seen → x ∈ whole) → ((x : Record) → x ∈ l → x ∈ whole)
-    → ((r : Record) → r ∈ whole → AmongBy t whole r) → eachAfter (roomBy t) seen l ≡ true
-unfolding eachAfter
+    → ((r : Record) → r ∈ whole → AmongBy t whole r) → each_after (room_by t) seen l ≡ true
+unfolding each_after
 within-after t seen [] whole a b h = refl
 within-after t seen (r ∷ l) whole a b h =
     let m = h r (b r (Memᴰ.head refl)) in
-    both (roomBy t seen r) _
-    (both (leb (tally (sameKind r) outer (seen ++ (r ∷ []))) (limitAt (outerBy t) r.kind)) _
-    (le-leb _ _ (fits (sameKind r) outer m.outers m.few-outers m.in-outers))
-    (both (leb (tally (sameOuter r) middle (seen ++ (r ∷ []))) (limitAt (middleBy t) r.kind)) _
-    (le-leb _ _ (fits (sameOuter r) middle m.middles m.few-middles m.in-middles))
-    (le-leb _ _ (fits (sameMiddle r) inner m.inners m.few-inners m.in-inners))))
+    both (room_by t seen r) _
+    (both (leb (tally (same_kind r) outer (seen ++ (r ∷ []))) (limit_at (outer_by t) r.kind)) _
+    (le-leb _ _ (fits (same_kind r) outer m.outers m.few-outers m.in-outers))
+    (both (leb (tally (same_outer r) middle (seen ++ (r ∷ []))) (limit_at (middle_by t) r.kind)) _
+    (le-leb _ _ (fits (same_outer r) middle m.middles m.few-middles m.in-middles))
+    (le-leb _ _ (fits (same_middle r) inner m.inners m.few-inners m.in-inners))))
     (within-after t (seen ++ (r ∷ [])) l whole further (λ x i. b x (Memᴰ.tail i)) h)
   where
     further : (x : Record) → x ∈ (seen ++ (r ∷ [])) → x ∈ whole
@@ -153,7 +153,7 @@ within-after t seen (r ∷ l) whole a b h =
     fits group f ks few h = let e = tally-among f ks group (seen ++ (r ∷ [])) (λ x i. h x (further x i)) in omega arith
 
 -- records whose groups give few numbers
-pub within_by : (t : Limits) (l : List Record) → ((r : Record) → r ∈ l → AmongBy t l r) → withinBy t l ≡ true
+pub within_by : (t : Limits) (l : List Record) → ((r : Record) → r ∈ l → AmongBy t l r) → within_by t l ≡ true
 within_by t l h = within-after t [] l l (λ x i. absurd (Memᴰ.not-nil i)) (λ x i. i) h
 
 pub within_of : (l : List Record) → ((r : Record) → r ∈ l → Among l r) → within l ≡ true
@@ -161,30 +161,30 @@ unfolding within
 within_of l h = within_by today l h
 
 -- number 0
-pub scan-of : (low high : ℕ) (l : List Record) → Ascending before l → ((x : Record) → x ∈ l → recordOk low high x ≡ true)
-    → ((r : Record) → r ∈ l → Among l r) → scanNumber low high l ≡ 0
-unfolding scanNumber
+pub scan-of : (low high : ℕ) (l : List Record) → Ascending before l → ((x : Record) → x ∈ l → record_ok low high x ≡ true)
+    → ((r : Record) → r ∈ l → Among l r) → scan_number low high l ≡ 0
+unfolding scan_number
 scan-of low high l a g h = rw (formed-of low high l a g, within_of l h)
 
 -- and back: well-formed records stand in ascending order
 module _ (low high : ℕ) where
-  behind-seen : (seen l : List Record) → eachAfter (follows low high) seen l ≡ true → (s x : Record) → s ∈ seen → x ∈ l → before s x ≡ true
-  unfolding eachAfter
+  behind-seen : (seen l : List Record) → each_after (follows low high) seen l ≡ true → (s x : Record) → s ∈ seen → x ∈ l → before s x ≡ true
+  unfolding each_after
   behind-seen seen [] e s x i j = absurd (Memᴰ.not-nil j)
   behind-seen seen (y ∷ l) e s x i j =
       ⊎_elim
-      (λ (q : x ≡ y). rw q (every-at (λ s. before s y) seen s (both_right (recordOk low high y) _ (both_left (follows low high seen y) _ e)) i))
+      (λ (q : x ≡ y). rw q (every-at (λ s. before s y) seen s (both_right (record_ok low high y) _ (both_left (follows low high seen y) _ e)) i))
       (λ k. behind-seen (seen ++ (y ∷ [])) l (both_right (follows low high seen y) _ e) s x (Memᴰ.append_left (y ∷ []) i) k)
       (Memᴰ.cases_cons j)
 
-  ascends-after : (seen l : List Record) → eachAfter (follows low high) seen l ≡ true → Ascending before l
-  unfolding eachAfter
+  ascends-after : (seen l : List Record) → each_after (follows low high) seen l ≡ true → Ascending before l
+  unfolding each_after
   ascends-after seen [] e = nil
   ascends-after seen (x ∷ l) e =
       let rest = both_right (follows low high seen x) _ e in
       next (λ y i. behind-seen (seen ++ (x ∷ [])) l rest x y (Memᴰ.append_right seen (Memᴰ.head refl)) i)
       (ascends-after (seen ++ (x ∷ [])) l rest)
 
-  pub formed-ascends : (l : List Record) → wellFormed low high l ≡ true → Ascending before l
-  unfolding wellFormed
+  pub formed-ascends : (l : List Record) → well_formed low high l ≡ true → Ascending before l
+  unfolding well_formed
   formed-ascends l e = ascends-after [] l e

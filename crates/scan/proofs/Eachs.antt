@@ -8,7 +8,7 @@ use Prim.Native.Nat.{ℕ, suc, ◌+◌}
 use native.Mathlib.Omega.{arith}
 use Rattle.listlaws.specs.Order.{◌∈◌}
 use Rattle.listlaws.proofs.Orders.{apart}
-use Rattle.scan.specs.Each.{every, eachAfter, countAfter, each, countGiven}
+use Rattle.scan.specs.Each.{every, each_after, count_after, each, count_given}
 
 pub both_left : (a b : Bool) → (a && b) ≡ true → a ≡ true
 both_left true b e = refl
@@ -44,24 +44,24 @@ module _ {A : Type 0} where
   every_of test [] f = refl
   every_of test (y ∷ l) f = both (test y) (every test l) (f y (Memᴰ.head refl)) (every_of test l (λ x i. f x (Memᴰ.tail i)))
 
-  each_after : (test : List A → A → Bool) (seen l : List A) (x : A) → eachAfter test seen (l ++ (x ∷ [])) ≡ eachAfter test seen l
+  each_after : (test : List A → A → Bool) (seen l : List A) (x : A) → each_after test seen (l ++ (x ∷ [])) ≡ each_after test seen l
       && test (seen ++ l) x
-  unfolding eachAfter
+  unfolding each_after
   each_after test seen [] x = and-true (test seen x) ∙ ap (λ s. test s x) (sym (mathlib.Core.List.append-nil seen))
   each_after test seen (y ∷ l) x =
       rw (each_after test (seen ++ (y ∷ [])) l x, append_assoc seen (y ∷ []) l)
-      (sym (and_assoc (test seen y) (eachAfter test (seen ++ (y ∷ [])) l) (test (seen ++ (y ∷ l)) x)))
+      (sym (and_assoc (test seen y) (each_after test (seen ++ (y ∷ [])) l) (test (seen ++ (y ∷ l)) x)))
 
   pub each_snoc : (test : List A → A → Bool) (l : List A) (x : A) → each test (l ++ (x ∷ [])) ≡ each test l && test l x
   each_snoc test l x = each_after test [] l x
 
-  count-after : (test : List A → A → Bool) (seen l : List A) (x : A) → countAfter test seen (l ++ (x ∷ [])) ≡ cond (test (seen ++ l) x)
-      (countAfter test seen l + 1) (countAfter test seen l)
-  unfolding countAfter
+  count-after : (test : List A → A → Bool) (seen l : List A) (x : A) → count_after test seen (l ++ (x ∷ [])) ≡ cond (test (seen ++ l) x)
+      (count_after test seen l + 1) (count_after test seen l)
+  unfolding count_after
   count-after test seen [] x = rw (mathlib.Core.List.append-nil seen)
   count-after test seen (y ∷ l) x =
       rw (count-after test (seen ++ (y ∷ [])) l x, append_assoc seen (y ∷ []) l)
-      (go (test seen y) (test (seen ++ (y ∷ l)) x) (countAfter test (seen ++ (y ∷ [])) l))
+      (go (test seen y) (test (seen ++ (y ∷ l)) x) (count_after test (seen ++ (y ∷ [])) l))
     where
       go : (a b : Bool) (n : ℕ) → cond a (suc (cond b (n + 1) n)) (cond b (n + 1) n) ≡ cond b (cond a (suc n) n + 1) (cond a (suc n) n)
       go true true n = omega arith
@@ -69,6 +69,6 @@ module _ {A : Type 0} where
       go false true n = refl
       go false false n = refl
 
-  pub count-snoc : (test : List A → A → Bool) (l : List A) (x : A) → countGiven test (l ++ (x ∷ [])) ≡ cond (test l x) (countGiven test l + 1)
-      (countGiven test l)
+  pub count-snoc : (test : List A → A → Bool) (l : List A) (x : A) → count_given test (l ++ (x ∷ [])) ≡ cond (test l x) (count_given test l + 1)
+      (count_given test l)
   count-snoc test l x = count-after test [] l x

@@ -12,17 +12,17 @@ use Rattle.listlaws.specs.First.{some}
 use Rattle.listlaws.proofs.Orders.{apart}
 use Rattle.listlaws.proofs.Somes.{some_holds, false-some}
 use Rattle.records.specs.declared.Record.{Record}
-use Rattle.records.specs.Kinds.{actorOf, before, recordOk}
+use Rattle.records.specs.Kinds.{actor_of, before, record_ok}
 use Rattle.scan.specs.Each.{every}
-use Rattle.scan.specs.Formed.{follows, wellFormed}
-use Rattle.scan.specs.Limits.{outer, middle, inner, sameKind, sameOuter, sameMiddle, tally, within, room}
-use Rattle.scan.specs.Scanned.{tallyOn, Ends}
+use Rattle.scan.specs.Formed.{follows, well_formed}
+use Rattle.scan.specs.Limits.{outer, middle, inner, same_kind, same_outer, same_middle, tally, within, room}
+use Rattle.scan.specs.Scanned.{tally_on, Ends}
 use Rattle.scan.proofs.Eachs.{both_left, both_right, both, decide, each_snoc, every-snoc, every-at, every_of}
 use Rattle.scan.proofs.Befores.{Before, before-fields, fields-before, before-trans}
 use Rattle.scan.proofs.Tallies.{tally-step}
 
-pub formed-snoc : (low high : ℕ) (l : List Record) (r : Record) → wellFormed low high (l ++ (r ∷ [])) ≡ wellFormed low high l && follows low high l r
-unfolding wellFormed
+pub formed-snoc : (low high : ℕ) (l : List Record) (r : Record) → well_formed low high (l ++ (r ∷ [])) ≡ well_formed low high l && follows low high l r
+unfolding well_formed
 formed-snoc low high l r = each_snoc (follows low high) l r
 
 pub within-snoc : (l : List Record) (r : Record) → within (l ++ (r ∷ [])) ≡ within l && room l r
@@ -30,21 +30,21 @@ unfolding within
 within-snoc l r = each_snoc room l r
 
 -- behind the last is behind all
-pub follows-last : (low high : ℕ) (l : List Record) (any : Bool) (q r : Record) → wellFormed low high l ≡ true → Ends l any q
-    → (recordOk low high r && (not any || before q r)) ≡ follows low high l r
+pub follows-last : (low high : ℕ) (l : List Record) (any : Bool) (q r : Record) → well_formed low high l ≡ true → Ends l any q
+    → (record_ok low high r && (not any || before q r)) ≡ follows low high l r
 unfolding every
 follows-last low high l any q r w (inl e) = rw (e.0, e.1)
-follows-last low high l any q r w (inr e) = rw (e.0, e.1.1) (ap (λ b. recordOk low high r && b) (go (before q r) refl))
+follows-last low high l any q r w (inr e) = rw (e.0, e.1.1) (ap (λ b. record_ok low high r && b) (go (before q r) refl))
   where
     pre : List Record
     pre = e.1.0
 
     formed : follows low high pre q ≡ true
-    formed = both_right (wellFormed low high pre) (follows low high pre q)
-        (sym (formed-snoc low high pre q) ∙ ap (wellFormed low high) (sym e.1.1) ∙ w)
+    formed = both_right (well_formed low high pre) (follows low high pre q)
+        (sym (formed-snoc low high pre q) ∙ ap (well_formed low high) (sym e.1.1) ∙ w)
 
     before-q : (s : Record) → s ∈ pre → before s q ≡ true
-    before-q s i = every-at (λ s. before s q) pre s (both_right (recordOk low high q) (every (λ s. before s q) pre) formed) i
+    before-q s i = every-at (λ s. before s q) pre s (both_right (record_ok low high q) (every (λ s. before s q) pre) formed) i
 
     go : (b : Bool) → before q r ≡ b → before q r ≡ every (λ s. before s r) (pre ++ (q ∷ []))
     go true t =
@@ -65,26 +65,26 @@ pub record Alike (r s : Record) : Type 0 where
   pub kind : s.kind ≡ r.kind
   pub key : s.key ≡ r.key
 
-pub alike : (r s : Record) → (r.kind ≡ 6 → ⊥) → sameOuter r s ≡ true → Alike r s
+pub alike : (r s : Record) → (r.kind ≡ 6 → ⊥) → same_outer r s ≡ true → Alike r s
 alike r s plain t =
-    let k = eqb-true s.kind r.kind (both_left (sameKind r s) (eqb (outer s) (outer r)) t) in
-    let y = eqb-true (outer s) (outer r) (both_right (sameKind r s) (eqb (outer s) (outer r)) t) in
+    let k = eqb-true s.kind r.kind (both_left (same_kind r s) (eqb (outer s) (outer r)) t) in
+    let y = eqb-true (outer s) (outer r) (both_right (same_kind r s) (eqb (outer s) (outer r)) t) in
     record { kind = k; key = sym (outer-key s (λ e. plain (sym k ∙ e))) ∙ y ∙ outer-key r plain }
 
-pub alike-outer : (r s : Record) → (r.kind ≡ 6 → ⊥) → s.kind ≡ r.kind → s.key ≡ r.key → sameOuter r s ≡ true
+pub alike-outer : (r s : Record) → (r.kind ≡ 6 → ⊥) → s.kind ≡ r.kind → s.key ≡ r.key → same_outer r s ≡ true
 alike-outer r s plain k y =
-    both (sameKind r s) (eqb (outer s) (outer r)) (eq-eqb s.kind r.kind k)
+    both (same_kind r s) (eqb (outer s) (outer r)) (eq-eqb s.kind r.kind k)
     (eq-eqb (outer s) (outer r) (outer-key s (λ e. plain (sym k ∙ e)) ∙ y ∙ sym (outer-key r plain)))
 
-pub alike-index : (r s : Record) → (r.kind ≡ 6 → ⊥) → sameMiddle r s ≡ true → s.index ≡ r.index
+pub alike-index : (r s : Record) → (r.kind ≡ 6 → ⊥) → same_middle r s ≡ true → s.index ≡ r.index
 alike-index r s plain t =
-    let h = alike r s plain (both_left (sameOuter r s) (eqb (middle s) (middle r)) t) in
-    sym (middle-index s (λ e. plain (sym h.kind ∙ e))) ∙ eqb-true (middle s) (middle r) (both_right (sameOuter r s) (eqb (middle s) (middle r)) t)
+    let h = alike r s plain (both_left (same_outer r s) (eqb (middle s) (middle r)) t) in
+    sym (middle-index s (λ e. plain (sym h.kind ∙ e))) ∙ eqb-true (middle s) (middle r) (both_right (same_outer r s) (eqb (middle s) (middle r)) t)
     ∙ middle-index r plain
 
-pub alike-middle : (r s : Record) → (r.kind ≡ 6 → ⊥) → s.kind ≡ r.kind → s.key ≡ r.key → s.index ≡ r.index → sameMiddle r s ≡ true
+pub alike-middle : (r s : Record) → (r.kind ≡ 6 → ⊥) → s.kind ≡ r.kind → s.key ≡ r.key → s.index ≡ r.index → same_middle r s ≡ true
 alike-middle r s plain k y x =
-    both (sameOuter r s) (eqb (middle s) (middle r)) (alike-outer r s plain k y)
+    both (same_outer r s) (eqb (middle s) (middle r)) (alike-outer r s plain k y)
     (eq-eqb (middle s) (middle r) (middle-index s (λ e. plain (sym k ∙ e)) ∙ x ∙ sym (middle-index r plain)))
 
 -- q is the last of l, and r goes behind it
@@ -126,75 +126,75 @@ module _ (l : List Record) (q r : Record) (last : q ∈ l) (upto : (s : Record) 
   some-by-last t between =
       decide (t q) (λ y. some_holds t last y ∙ sym y) (λ n. false-some t l (none-by-last t between n) ∙ sym n)
 
-  same_kind : (s : Record) → s ∈ l → sameKind r s ≡ true → sameKind r q ≡ true
+  same_kind : (s : Record) → s ∈ l → same_kind r s ≡ true → same_kind r q ≡ true
   same_kind s i t = eq-eqb q.kind r.kind (kind-between s i (eqb-true s.kind r.kind t))
 
   module _ (plain : r.kind ≡ 6 → ⊥) where
-    pub same-outer : (s : Record) → s ∈ l → sameOuter r s ≡ true → sameOuter r q ≡ true
+    pub same-outer : (s : Record) → s ∈ l → same_outer r s ≡ true → same_outer r q ≡ true
     same-outer s i t =
         let h = alike r s plain t in alike-outer r q plain (kind-between s i h.kind) (key-between s i h.kind h.key)
 
-    same-middle : (s : Record) → s ∈ l → sameMiddle r s ≡ true → sameMiddle r q ≡ true
+    same-middle : (s : Record) → s ∈ l → same_middle r s ≡ true → same_middle r q ≡ true
     same-middle s i t =
-        let o = both_left (sameOuter r s) (eqb (middle s) (middle r)) t in
+        let o = both_left (same_outer r s) (eqb (middle s) (middle r)) t in
         let h = alike r s plain o in
         let kq = kind-between s i h.kind in
         alike-middle r q plain kq (key-between s i h.kind h.key) (index-between s i h.kind h.key (alike-index r s plain t))
 
     -- no record before r shares its actor too
-    apart-inner : (s : Record) → s ∈ l → Before s r → (sameMiddle r s && eqb (inner s) (inner r)) ≡ false
+    apart-inner : (s : Record) → s ∈ l → Before s r → (same_middle r s && eqb (inner s) (inner r)) ≡ false
     apart-inner s i b =
-        decide (sameMiddle r s)
-        (λ t. let h = alike r s plain (both_left (sameOuter r s) (eqb (middle s) (middle r)) t) in
-        rw t (ne_eqb (actorOf s) (actorOf r) (λ e. omega (arith, b.actor h.kind h.key (alike-index r s plain t)))))
+        decide (same_middle r s)
+        (λ t. let h = alike r s plain (both_left (same_outer r s) (eqb (middle s) (middle r)) t) in
+        rw t (ne_eqb (actor_of s) (actor_of r) (λ e. omega (arith, b.actor h.kind h.key (alike-index r s plain t)))))
         (λ n. rw n)
 
   module _ (n : ℕ) where
-    pub outer-on : (same : Bool) → n ≡ tally (sameKind q) outer l → some (sameOuter r) l ≡ same
-        → tallyOn n (sameKind r q) same ≡ tally (sameKind r) outer (l ++ (r ∷ []))
+    pub outer-on : (same : Bool) → n ≡ tally (same_kind q) outer l → some (same_outer r) l ≡ same
+        → tally_on n (same_kind r q) same ≡ tally (same_kind r) outer (l ++ (r ∷ []))
     outer-on same e f =
-        tally-step (sameKind r) outer l r n (sameKind r q) same (eq-eqb r.kind r.kind refl) (none-by-last (sameKind r) same_kind)
+        tally-step (same_kind r) outer l r n (same_kind r q) same (eq-eqb r.kind r.kind refl) (none-by-last (same_kind r) same_kind)
         (λ t. (e ∙ ap (λ k. tally (λ s. eqb s.kind k) outer l) (eqb-true q.kind r.kind t), f))
 
     module _ (plain : r.kind ≡ 6 → ⊥) where
-      same_here : sameOuter r r ≡ true
-      same_here = both (sameKind r r) (eqb (outer r) (outer r)) (eq-eqb r.kind r.kind refl) (eq-eqb (outer r) (outer r) refl)
+      same_here : same_outer r r ≡ true
+      same_here = both (same_kind r r) (eqb (outer r) (outer r)) (eq-eqb r.kind r.kind refl) (eq-eqb (outer r) (outer r) refl)
 
-      pub middle-on : n ≡ tally (sameOuter q) middle l → tallyOn n (sameOuter r q) (sameMiddle r q) ≡ tally (sameOuter r) middle (l ++ (r ∷ []))
+      pub middle-on : n ≡ tally (same_outer q) middle l → tally_on n (same_outer r q) (same_middle r q) ≡ tally (same_outer r) middle (l ++ (r ∷ []))
       middle-on e =
-          tally-step (sameOuter r) middle l r n (sameOuter r q) (sameMiddle r q) same_here (none-by-last (sameOuter r) (same-outer plain))
-          (λ t. let k = eqb-true q.kind r.kind (both_left (sameKind r q) (eqb (outer q) (outer r)) t) in
-          let o = eqb-true (outer q) (outer r) (both_right (sameKind r q) (eqb (outer q) (outer r)) t) in (
+          tally-step (same_outer r) middle l r n (same_outer r q) (same_middle r q) same_here (none-by-last (same_outer r) (same-outer plain))
+          (λ t. let k = eqb-true q.kind r.kind (both_left (same_kind r q) (eqb (outer q) (outer r)) t) in
+          let o = eqb-true (outer q) (outer r) (both_right (same_kind r q) (eqb (outer q) (outer r)) t) in (
             e ∙ ap (λ k. tally (λ s. eqb s.kind k && eqb (outer s) (outer q)) middle l) k
                 ∙ ap (λ o. tally (λ s. eqb s.kind r.kind && eqb (outer s) o) middle l) o,
-            some-by-last (sameMiddle r) (same-middle plain),
+            some-by-last (same_middle r) (same-middle plain),
           ))
 
-      pub inner-on : ((s : Record) → s ∈ l → Before s r) → n ≡ tally (sameMiddle q) inner l
-          → tallyOn n (sameMiddle r q) false ≡ tally (sameMiddle r) inner (l ++ (r ∷ []))
+      pub inner-on : ((s : Record) → s ∈ l → Before s r) → n ≡ tally (same_middle q) inner l
+          → tally_on n (same_middle r q) false ≡ tally (same_middle r) inner (l ++ (r ∷ []))
       inner-on b e =
-          tally-step (sameMiddle r) inner l r n (sameMiddle r q) false
-          (both (sameOuter r r) (eqb (middle r) (middle r)) same_here (eq-eqb (middle r) (middle r) refl))
-          (none-by-last (sameMiddle r) (same-middle plain))
-          (λ t. let u = both_left (sameOuter r q) (eqb (middle q) (middle r)) t in
-          let k = eqb-true q.kind r.kind (both_left (sameKind r q) (eqb (outer q) (outer r)) u) in
-          let o = eqb-true (outer q) (outer r) (both_right (sameKind r q) (eqb (outer q) (outer r)) u) in
-          let m = eqb-true (middle q) (middle r) (both_right (sameOuter r q) (eqb (middle q) (middle r)) t) in (
+          tally-step (same_middle r) inner l r n (same_middle r q) false
+          (both (same_outer r r) (eqb (middle r) (middle r)) same_here (eq-eqb (middle r) (middle r) refl))
+          (none-by-last (same_middle r) (same-middle plain))
+          (λ t. let u = both_left (same_outer r q) (eqb (middle q) (middle r)) t in
+          let k = eqb-true q.kind r.kind (both_left (same_kind r q) (eqb (outer q) (outer r)) u) in
+          let o = eqb-true (outer q) (outer r) (both_right (same_kind r q) (eqb (outer q) (outer r)) u) in
+          let m = eqb-true (middle q) (middle r) (both_right (same_outer r q) (eqb (middle q) (middle r)) t) in (
             e ∙ ap (λ k. tally (λ s. eqb s.kind k && eqb (outer s) (outer q) && eqb (middle s) (middle q)) inner l) k
                 ∙ ap (λ o. tally (λ s. eqb s.kind r.kind && eqb (outer s) o && eqb (middle s) (middle q)) inner l) o
                 ∙ ap (λ m. tally (λ s. eqb s.kind r.kind && eqb (outer s) (outer r) && eqb (middle s) m) inner l) m,
-            false-some (λ s. sameMiddle r s && eqb (inner s) (inner r)) l (λ s i. apart-inner plain s i (b s i)),
+            false-some (λ s. same_middle r s && eqb (inner s) (inner r)) l (λ s i. apart-inner plain s i (b s i)),
           ))
 
 -- the machine's tests of the last record, where the kind is none of waiting keys
-pub last-outer : (q r : Record) → (r.kind ≡ 6 → ⊥) → (eqb q.kind r.kind && eqb q.key r.key) ≡ sameOuter r q
+pub last-outer : (q r : Record) → (r.kind ≡ 6 → ⊥) → (eqb q.kind r.kind && eqb q.key r.key) ≡ same_outer r q
 last-outer q r plain =
     decide (eqb q.kind r.kind)
     (λ t. rw (outer-key q (λ e. plain (sym (eqb-true q.kind r.kind t) ∙ e)), outer-key r plain))
     (λ n. rw n)
 
 pub last-middle : (q r : Record) → (r.kind ≡ 6 → ⊥) → (eqb q.kind r.kind && eqb q.key r.key && eqb q.index r.index)
-    ≡ sameMiddle r q
+    ≡ same_middle r q
 last-middle q r plain =
     decide (eqb q.kind r.kind)
     (λ t. rw (

@@ -15,16 +15,16 @@ use Rattle.scan.proofs.Eachs.{decide}
 use Rattle.scan.proofs.Befores.{before-fields}
 
 -- of kind k, and from kind k on
-abbrev pub ofKind : ℕ → List Record → List Record
-ofKind k l = those (λ x. eqb x.kind k) l
+abbrev pub of_kind : ℕ → List Record → List Record
+of_kind k l = those (λ x. eqb x.kind k) l
 
 abbrev pub from : ℕ → List Record → List Record
 from k l = those (λ x. leb k x.kind) l
 
-none_of : (k : ℕ) (l : List Record) → ((x : Record) → x ∈ l → k < x.kind) → ofKind k l ≡ []
+none_of : (k : ℕ) (l : List Record) → ((x : Record) → x ∈ l → k < x.kind) → of_kind k l ≡ []
 none_of k l h = those-none (λ x. eqb x.kind k) l (λ x i. let b = h x i in ne_eqb x.kind k (λ e. omega arith))
 
-pub split : (k : ℕ) (l : List Record) → Ascending before l → from k l ≡ ofKind k l ++ from (k + 1) l
+pub split : (k : ℕ) (l : List Record) → Ascending before l → from k l ≡ of_kind k l ++ from (k + 1) l
 unfolding sift
 split k [] a = refl
 split k (x ∷ l) a =

@@ -8,13 +8,13 @@ use Prim.Native.Nat.{ℕ, ◌+◌, ◌<◌}
 use native.Mathlib.Omega.{arith}
 use lib.Dec.{eqb}
 use Rattle.listlaws.specs.Order.{◌∈◌}
-use Rattle.listlaws.specs.First.{firstIn, some}
+use Rattle.listlaws.specs.First.{first_in, some}
 use Rattle.listlaws.proofs.Orders.{apart}
 use Rattle.listlaws.proofs.Somes.{false-some}
 use Rattle.records.specs.declared.Record.{Record}
-use Rattle.scan.specs.Each.{countAfter}
+use Rattle.scan.specs.Each.{count_after}
 use Rattle.scan.specs.Limits.{fresh, tally}
-use Rattle.scan.specs.Scanned.{tallyOn}
+use Rattle.scan.specs.Scanned.{tally_on}
 use Rattle.scan.proofs.Eachs.{decide, count-snoc}
 
 module _ (group : Record → Bool) (f : Record → ℕ) where
@@ -39,8 +39,8 @@ module _ (group : Record → Bool) (f : Record → ℕ) where
       go true = refl
       go false = refl
 
-  none_after : (seen l : List Record) → ((s : Record) → s ∈ l → group s ≡ false) → countAfter (fresh group f) seen l ≡ 0
-  unfolding countAfter
+  none_after : (seen l : List Record) → ((s : Record) → s ∈ l → group s ≡ false) → count_after (fresh group f) seen l ≡ 0
+  unfolding count_after
   none_after seen [] h = refl
   none_after seen (x ∷ l) h = rw (h x (Memᴰ.head refl)) (none_after (seen ++ (x ∷ [])) l (λ s i. h s (Memᴰ.tail i)))
 
@@ -48,8 +48,8 @@ module _ (group : Record → Bool) (f : Record → ℕ) where
   unfolding tally
   tally-none l h = none_after [] l h
 
-  some_after : (seen l : List Record) → ((s : Record) → s ∈ seen → group s ≡ false) → some group l ≡ true → 0 < countAfter (fresh group f) seen l
-  unfolding countAfter firstIn
+  some_after : (seen l : List Record) → ((s : Record) → s ∈ seen → group s ≡ false) → some group l ≡ true → 0 < count_after (fresh group f) seen l
+  unfolding count_after first_in
   some_after seen [] h t = apart (sym t)
   some_after seen (x ∷ l) h t =
       decide (group x)
@@ -71,7 +71,7 @@ module _ (group : Record → Bool) (f : Record → ℕ) where
   pub tally-step : (l : List Record) (r : Record) (n : ℕ) (grouped same : Bool) → group r ≡ true
       → (grouped ≡ false → (s : Record) → s ∈ l → group s ≡ false)
       → (grouped ≡ true → (n ≡ tally group f l) × (some (λ s. group s && eqb (f s) (f r)) l ≡ same))
-      → tallyOn n grouped same ≡ tally group f (l ++ (r ∷ []))
+      → tally_on n grouped same ≡ tally group f (l ++ (r ∷ []))
   tally-step l r n false same g a b =
       let none = tally-none l (a refl) in
       sym (tally-new l r g (false-some (λ s. group s && eqb (f s) (f r)) l (λ s i. rw (a refl s i))) ∙ rw none)

@@ -1,9 +1,9 @@
 // What the records of an image show one after the other, before any is given a meaning: bad order (1), an excess (2).
 ghost use Rattle.std.specs.Prelude.{◌≡◌, List, [], ◌∷◌, ◌++◌, cond, eqb, ℕ};
 ghost use Rattle.records.specs.declared.Record.{Record};
-ghost use Rattle.records.specs.Kinds.{waitingKeyKind};
-ghost use Rattle.scan.specs.Limits.{limitAt, withinLimits};
-ghost use Rattle.scan.specs.Stepping.{tallyTo, byKey, byIndex, limitsJudged, countedOn, behindLast, scanOn, underOn};
+ghost use Rattle.records.specs.Kinds.{waiting_key_kind};
+ghost use Rattle.scan.specs.Limits.{limit_at, within_limits};
+ghost use Rattle.scan.specs.Stepping.{tally_to, by_key, by_index, limits_judged, counted_on, behind_last, scan_on, under_on};
 ghost use Rattle.scan.specs.Scanned.{Scanned, CountsUnder};
 
 use limits::{DOTS, ENTRIES, KEYS, VALUES, WAITING};
@@ -58,7 +58,7 @@ pub struct Scan {
 
 // A count after one more record: of another group, of the same group and thing, or of the same group and another thing. It stops at 256.
 fn tally(n: usize, group: bool, same: bool) -> usize
-    ensures { result ≡ tallyTo n group same }
+    ensures { result ≡ tally_to n group same }
 {
     if !group {
         return 1;
@@ -70,7 +70,7 @@ fn tally(n: usize, group: bool, same: bool) -> usize
 }
 
 fn limit(limits: [u8; 13], kind: u8) -> usize
-    ensures { result ≡ limitAt limits kind }
+    ensures { result ≡ limit_at limits kind }
 {
     if kind < 13 {
         limits[kind as usize] as usize
@@ -80,7 +80,7 @@ fn limit(limits: [u8; 13], kind: u8) -> usize
 }
 
 fn within(kind: u8, outer: usize, middle: usize, inner: usize) -> bool
-    ensures { result ≡ withinLimits kind outer middle inner }
+    ensures { result ≡ within_limits kind outer middle inner }
 {
     (outer <= limit(OUTER, kind))
         & ((middle <= limit(MIDDLE, kind)) & (inner <= limit(INNER, kind)))
@@ -109,7 +109,7 @@ impl Scan {
 
     // Whether a record is good by itself and stands behind the last.
     fn follows(self, low: u8, high: u8, r: Record) -> bool
-        ensures { result ≡ behindLast low high self r }
+        ensures { result ≡ behind_last low high self r }
     {
         let ok = records::record_ok(low, high, r);
         ok & (!self.any | records::before(self.last, r))
@@ -117,7 +117,7 @@ impl Scan {
 
     // The counts with a record that is no waiting key.
     fn by_key(self, r: Record) -> Scan
-        ensures { result ≡ byKey self r }
+        ensures { result ≡ by_key self r }
     {
         let last = self.last;
         let kind = self.any & (last.kind == r.kind);
@@ -132,7 +132,7 @@ impl Scan {
 
     // The counts with a waiting key, whose index has n.
     fn by_index(self, r: Record, n: u8) -> Scan
-        ensures { result ≡ byIndex self r n }
+        ensures { result ≡ by_index self r n }
     {
         let last = self.last;
         let kind = self.any & (last.kind == r.kind);
@@ -145,7 +145,7 @@ impl Scan {
 
     // The counts with a record.
     fn tallied(self, r: Record, n: u8) -> Scan
-        ensures { result ≡ cond (eqb r.kind waitingKeyKind) (byIndex self r n) (byKey self r) }
+        ensures { result ≡ cond (eqb r.kind waiting_key_kind) (by_index self r n) (by_key self r) }
     {
         if r.kind == WAITING_KEY {
             self.by_index(r, n)
@@ -156,7 +156,7 @@ impl Scan {
 
     // The counts held against the limits of a record's kind; the record becomes the last.
     fn judged(self, r: Record) -> Scan
-        ensures { result ≡ limitsJudged self r }
+        ensures { result ≡ limits_judged self r }
     {
         let mut next = self;
         next.any = true;
@@ -170,7 +170,7 @@ impl Scan {
 
     // The scan with a record that follows the last.
     fn counted(self, r: Record, n: u8) -> Scan
-        ensures { result ≡ countedOn self r n }
+        ensures { result ≡ counted_on self r n }
     {
         if self.number == 0 {
             return self.tallied(r, n).judged(r);
@@ -183,7 +183,7 @@ impl Scan {
 
     // One record more; where it is a waiting key, n stand under its index so far: they are not side by side, and whoever reads them counts them.
     pub fn next(self, low: u8, high: u8, r: Record, n: u8) -> Scan
-        ensures { result ≡ scanOn low high self r n }
+        ensures { result ≡ scan_on low high self r n }
     {
         if self.number == 1 {
             return self;
@@ -206,7 +206,7 @@ impl Scan {
 
 // The waiting keys under an index, with a record of a kind.
 pub fn under(n: u8, kind: u8) -> u8
-    ensures { result ≡ underOn n kind }
+    ensures { result ≡ under_on n kind }
 {
     if kind == WAITING_KEY {
         if n < 255 {

@@ -1,16 +1,16 @@
 -- Two updates that may come in either order, in the words of change request 13.
 use Rattle.std.specs.Prelude.{◌≡◌, [], ◌<◌}
-use Rattle.clock.specs.Dots.{counterIn}
+use Rattle.clock.specs.Dots.{counter_in}
 use Rattle.entries.specs.declared.Update.{Update}
 use Rattle.map.specs.declared.Map.{Map}
 use Rattle.map.specs.declared.Judged.{Judged}
-use Rattle.map.specs.Model.{seenBy, waitingIn}
+use Rattle.map.specs.Model.{seen_by, waiting_in}
 use Rattle.map.specs.Updating.{update}
 use Rattle.map.specs.Judging.{judged}
 
 -- an "unseen" update
 abbrev pub Unseen : Map → Update → Type 0
-Unseen m u = counterIn (seenBy m) u.dot.actor < u.dot.counter
+Unseen m u = counter_in (seen_by m) u.dot.actor < u.dot.counter
 
 -- "two unseen updates by different actors on different keys [...] when nothing is waiting"
 pub record Independent (m : Map) (u v : Update) : Type 0 where
@@ -18,7 +18,7 @@ pub record Independent (m : Map) (u v : Update) : Type 0 where
   pub second : Unseen m v
   pub actors : u.dot.actor ≡ v.dot.actor → ⊥
   pub keys : u.key ≡ v.key → ⊥
-  pub nothing : waitingIn m ≡ []
+  pub nothing : waiting_in m ≡ []
 
 -- the answer to an update, and to a second one of the map that the first left
 abbrev pub answer : Map → Update → Judged

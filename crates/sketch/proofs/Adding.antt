@@ -10,27 +10,27 @@ use lib.Dec.{eqb, ltb}
 use lib.ListN.{length, take, set}
 use lib.Seq.{take-suc-set}
 use borrow.Author.Tests.{ne_eqb, lt-ltb, ltb-false}
-use Rattle.listlaws.specs.First.{some, firstIn}
+use Rattle.listlaws.specs.First.{some, first_in}
 use Rattle.listlaws.specs.Sift.{sift, those}
 use Rattle.listlaws.specs.Order.{◌∈◌}
 use Rattle.listlaws.proofs.Pads.{take-pad, length-snoc}
 use Rattle.listlaws.proofs.Tally.{some-snoc, both-pass}
 use Rattle.clock.specs.declared.Dot.{Dot}
-use Rattle.limits.specs.Limits.{dotLimit, valueLimit, entryLimit}
-use Rattle.clock.specs.Dots.{dotsOf, is_empty}
+use Rattle.limits.specs.Limits.{dot_limit, value_limit, entry_limit}
+use Rattle.clock.specs.Dots.{dots_of, is_empty}
 use Rattle.clock.proofs.Packs.{dots-of}
 use Rattle.register.specs.declared.Value.{Value}
-use Rattle.register.specs.Values.{noValue, alive}
+use Rattle.register.specs.Values.{no_value, alive}
 use Rattle.entries.specs.declared.Entry.{Entry}
-use Rattle.entries.specs.Model.{entryAs, dotsIn, valuesIn}
+use Rattle.entries.specs.Model.{entry_as, dots_in, values_in}
 use Rattle.entries.specs.Steps.{overfull}
 use Rattle.listlaws.specs.Fold.{total_of}
-use Rattle.answers.specs.Sizes.{entrySize}
-use Rattle.marks.specs.Marks.{marksSet}
+use Rattle.answers.specs.Sizes.{entry_size}
+use Rattle.marks.specs.Marks.{marks_set}
 use Rattle.sketch.specs.declared.Source.{Source}
 use Rattle.sketch.specs.declared.Sketched.{Sketched}
 use Rattle.sketch.specs.declared.Sums.{Sums}
-use Rattle.sketch.specs.Drawn.{valueNamed, imageNamed, valueFrom, Placed, sourcesOf, sourceSize, clockApart, drawn, Ready, Draws, Summed}
+use Rattle.sketch.specs.Drawn.{value_named, image_named, value_from, Placed, sources_of, source_size, clock_apart, drawn, Ready, Draws, Summed}
 use Rattle.sketch.specs.Drawn.{Sketches}
 use Rattle.sketch.proofs.Counts.{value-size, entry-size, total-snoc}
 
@@ -42,37 +42,37 @@ each_more : {A : Type 0} (P : A → Type 0) (l : List A) (a : A) → ((x : A) �
 each_more P l a f p x i = ⊎_elim (λ j. f x j) (λ j. subst P (sym (Memᴰ.eq_of_singleton j)) p) (Memᴰ.append_cases l i)
 
 -- some mark is set where not none is
-some-set : (l : List Bool) → some (λ b. b) l ≡ not (eqb (marksSet l) 0)
-unfolding firstIn sift
+some-set : (l : List Bool) → some (λ b. b) l ≡ not (eqb (marks_set l) 0)
+unfolding first_in sift
 some-set [] = refl
-some-set (true ∷ l) = sym (ap not (ne_eqb (suc (marksSet l)) 0 (λ e. omega arith)))
+some-set (true ∷ l) = sym (ap not (ne_eqb (suc (marks_set l)) 0 (λ e. omega arith)))
 some-set (false ∷ l) = some-set l
 
 -- a value of which a dot is left
-left-alive : {s : List ℕ} (x : Source) → Placed s x → alive (valueNamed s x) ≡ some (λ b. b) (take (x.to - x.from) x.marks)
+left-alive : {s : List ℕ} (x : Source) → Placed s x → alive (value_named s x) ≡ some (λ b. b) (take (x.to - x.from) x.marks)
 unfolding is_empty
 left-alive {s} x h =
-    let m = marksSet (take (x.to - x.from) x.marks) in
-    let n : length (dotsOf (valueNamed s x).clock) ≡ m = omega (arith, value-size x h) in
+    let m = marks_set (take (x.to - x.from) x.marks) in
+    let n : length (dots_of (value_named s x).clock) ≡ m = omega (arith, value-size x h) in
     ap (λ k. not (eqb k 0)) n ∙ sym (some-set (take (x.to - x.from) x.marks))
 
 module _ {s t : List ℕ} {key : ℕ} {d : List Dot} {l : List Value} {k : Sketched} (h : Draws s t key d l k) (x : Source)
-    (p : Placed (imageNamed s t x) x) where
+    (p : Placed (image_named s t x) x) where
   pub add_none : {b : Bool} → b ≡ some (λ b. b) (take (x.to - x.from) x.marks) → b ≡ false
-      → Draws s t key d (l ++ those alive (valueFrom s t x ∷ [])) k
+      → Draws s t key d (l ++ those alive (value_from s t x ∷ [])) k
   unfolding sift
   add_none e f = rw (left-alive x p ∙ sym e ∙ f, append-nil l) h
 
   module _ {b : Bool} (e : b ≡ some (λ b. b) (take (x.to - x.from) x.marks)) (f : b ≡ true) where
-    kept : l ++ those alive (valueFrom s t x ∷ []) ≡ l ++ (valueFrom s t x ∷ [])
+    kept : l ++ those alive (value_from s t x ∷ []) ≡ l ++ (value_from s t x ∷ [])
     unfolding sift
     kept = rw (left-alive x p ∙ sym e ∙ f)
 
-    more : k.len + 1 ≡ length (l ++ (valueFrom s t x ∷ []))
-    more = ap (λ n. n + 1) h.many ∙ sym (length-snoc l (valueFrom s t x))
+    more : k.len + 1 ≡ length (l ++ (value_from s t x ∷ []))
+    more = ap (λ n. n + 1) h.many ∙ sym (length-snoc l (value_from s t x))
 
     pub add-one : length k.sources ≡ 4 → k.len < 4
-        → Draws s t key d (l ++ those alive (valueFrom s t x ∷ []))
+        → Draws s t key d (l ++ those alive (value_from s t x ∷ []))
         (record { key = k.key; own = k.own; sources = set k.sources k.len x; len = k.len + 1 })
     add-one room few =
         rw kept
@@ -83,28 +83,28 @@ module _ {s t : List ℕ} {key : ℕ} {d : List Dot} {l : List Value} {k : Sketc
           values = λ n.
               let v = h.values (omega (arith, h.many)) in
               let u = used-more k.len k.sources x (omega arith) in (
-                ap (map (valueFrom s t)) u ∙ map-append (valueFrom s t) (sourcesOf k) (x ∷ []) ∙ ap (λ y. y ++ (valueFrom s t x ∷ [])) v.0,
-                record { each = rw u (each_more (λ y. Placed (imageNamed s t y) y) (sourcesOf k) x v.1.each p) },
+                ap (map (value_from s t)) u ∙ map-append (value_from s t) (sources_of k) (x ∷ []) ∙ ap (λ y. y ++ (value_from s t x ∷ [])) v.0,
+                record { each = rw u (each_more (λ y. Placed (image_named s t y) y) (sources_of k) x v.1.each p) },
               );
         })
 
-    pub add-over : 4 ≤ k.len → Draws s t key d (l ++ those alive (valueFrom s t x ∷ []))
+    pub add-over : 4 ≤ k.len → Draws s t key d (l ++ those alive (value_from s t x ∷ []))
         (record { key = k.key; own = k.own; sources = k.sources; len = k.len + 1 })
     add-over full = rw kept (record { named = h.named; clock = h.clock; many = more; values = λ n. absurd (omega (arith, more)) })
 
 -- the entry that is drawn
-drawn-is : {s t : List ℕ} {key : ℕ} {d : List Dot} {l : List Value} {k : Sketched} → Draws s t key d l k → length l ≤ valueLimit
-    → drawn s t k ≡ entryAs key d l
-drawn-is {d = d} h n = let e = (h.values n).0 in let c = dots-of d h.clock in λ i. entryAs (h.named i) (c i) (e i)
+drawn-is : {s t : List ℕ} {key : ℕ} {d : List Dot} {l : List Value} {k : Sketched} → Draws s t key d l k → length l ≤ value_limit
+    → drawn s t k ≡ entry_as key d l
+drawn-is {d = d} h n = let e = (h.values n).0 in let c = dots-of d h.clock in λ i. entry_as (h.named i) (c i) (e i)
 
 -- the sums over one entry more
 module _ {s t : List ℕ} {l : List Entry} {n : Sums} (h : Summed l n) {key : ℕ} {d : List Dot} {vs : List Value} {k : Sketched}
     (g : Draws s t key d vs k) where
   abbrev one : Entry
-  one = entryAs key d vs
+  one = entry_as key d vs
 
   full : ltb 4 k.len ≡ overfull one
-  full = ap (ltb 4) (g.many ∙ ap length (sym (take-pad noValue valueLimit vs)))
+  full = ap (ltb 4) (g.many ∙ ap length (sym (take-pad no_value value_limit vs)))
 
   counted : n.count + 1 ≡ length (l ++ (one ∷ []))
   counted = ap (λ n. n + 1) h.count ∙ sym (length-snoc l one)
@@ -113,15 +113,15 @@ module _ {s t : List ℕ} {l : List Entry} {n : Sums} (h : Summed l n) {key : �
   wider = rw (h.wide, full) (sym (some-snoc overfull l one))
 
   -- what was within the limits with one more was so before, and that one is
-  pub within_both : length (l ++ (one ∷ [])) ≤ entryLimit → some overfull (l ++ (one ∷ [])) ≡ false
-      → (length l ≤ entryLimit) × ((some overfull l ≡ false) × (length vs ≤ valueLimit))
+  pub within_both : length (l ++ (one ∷ [])) ≤ entry_limit → some overfull (l ++ (one ∷ [])) ≡ false
+      → (length l ≤ entry_limit) × ((some overfull l ≡ false) × (length vs ≤ value_limit))
   within_both m thin =
-      let less : length l < entryLimit = omega (arith, m, length-snoc l one) in
-      let b = both-pass {n = length l} {k = entryLimit} (some overfull l) (overfull one)
-      (rw (lt-ltb (length l) entryLimit less, sym (some-snoc overfull l one) ∙ thin)) in
-      (omega arith, (b.1, omega (arith, ltb-false 4 (length (valuesIn one)) b.2, ap length (take-pad noValue valueLimit vs))))
+      let less : length l < entry_limit = omega (arith, m, length-snoc l one) in
+      let b = both-pass {n = length l} {k = entry_limit} (some overfull l) (overfull one)
+      (rw (lt-ltb (length l) entry_limit less, sym (some-snoc overfull l one) ∙ thin)) in
+      (omega arith, (b.1, omega (arith, ltb-false 4 (length (values_in one)) b.2, ap length (take-pad no_value value_limit vs))))
 
-  pub summed-over : entryLimit ≤ n.count
+  pub summed-over : entry_limit ≤ n.count
       → Summed (l ++ (one ∷ [])) (record { count = n.count + 1; wide = n.wide || ltb 4 k.len; dots = n.dots; others = n.others })
   summed-over many = record {
     count = counted;
@@ -132,16 +132,16 @@ module _ {s t : List ℕ} {l : List Entry} {n : Sums} (h : Summed l n) {key : �
     room = h.room;
   }
 
-  module _ {a b : ℕ} (p : a ≡ length (dotsOf (clockApart k.own))) (q : (s t : List ℕ) → Ready s t k → b ≡ total_of sourceSize (sourcesOf k)) where
-    own-dots : a ≡ length (dotsIn one)
-    own-dots = p ∙ ap (λ c. length (dotsOf c)) g.clock ∙ ap length (dots-of d refl) ∙ sym (ap length (dots-of d refl))
+  module _ {a b : ℕ} (p : a ≡ length (dots_of (clock_apart k.own))) (q : (s t : List ℕ) → Ready s t k → b ≡ total_of source_size (sources_of k)) where
+    own-dots : a ≡ length (dots_in one)
+    own-dots = p ∙ ap (λ c. length (dots_of c)) g.clock ∙ ap length (dots-of d refl) ∙ sym (ap length (dots-of d refl))
 
-    own-records : length vs ≤ valueLimit → a + b ≡ entrySize one
+    own-records : length vs ≤ value_limit → a + b ≡ entry_size one
     own-records short =
         let r = (g.values short).1 in
-        omega (arith, p, q s t r, entry-size k r, ap entrySize (drawn-is g short))
+        omega (arith, p, q s t r, entry-size k r, ap entry_size (drawn-is g short))
 
-    pub summed-one : a ≤ dotLimit → b ≤ valueLimit * (1 + dotLimit) → n.count < entryLimit
+    pub summed-one : a ≤ dot_limit → b ≤ value_limit * (1 + dot_limit) → n.count < entry_limit
         → Summed (l ++ (one ∷ [])) (record { count = n.count + 1; wide = n.wide || ltb 4 k.len; dots = n.dots + a; others = n.others + b })
     summed-one small thin less =
         let f = h.few (omega arith) in record {
@@ -149,10 +149,10 @@ module _ {s t : List ℕ} {l : List Entry} {n : Sums} (h : Summed l n) {key : �
           wide = wider;
           dots = λ m w.
               let x = within_both m w in
-              omega (arith, h.dots x.0 x.1.0, own-dots, total-snoc (λ e. length (dotsIn e)) l one);
+              omega (arith, h.dots x.0 x.1.0, own-dots, total-snoc (λ e. length (dots_in e)) l one);
           records = λ m w.
               let x = within_both m w in
-              omega (arith, h.records x.0 x.1.0, own-records x.1.1, total-snoc entrySize l one);
+              omega (arith, h.records x.0 x.1.0, own-records x.1.1, total-snoc entry_size l one);
           few = λ m. omega (arith, f, small, thin);
           room = omega (arith, f, small, thin, less);
         }
@@ -168,10 +168,10 @@ sketch-none {s} {t} {items} {n} e h = record {
 }
 
 module _ {s t : List ℕ} {l : List Entry} {items : List Sketched} {n : Sums} (h : Sketches s t l (record { items = items; sums = n })) {key : ℕ}
-    {d : List Dot} {vs : List Value} {k : Sketched} (g : Draws s t key d vs k) {m : Sums} (e : Summed (l ++ (entryAs key d vs ∷ [])) m)
+    {d : List Dot} {vs : List Value} {k : Sketched} (g : Draws s t key d vs k) {m : Sums} (e : Summed (l ++ (entry_as key d vs ∷ [])) m)
     (next : m.count ≡ n.count + 1) where
-  pub push-one : length items ≡ entryLimit → n.count < entryLimit
-      → Sketches s t (l ++ (entryAs key d vs ∷ [])) (record { items = set items n.count k; sums = m })
+  pub push-one : length items ≡ entry_limit → n.count < entry_limit
+      → Sketches s t (l ++ (entry_as key d vs ∷ [])) (record { items = set items n.count k; sums = m })
   push-one room few = record {
     sums = e;
     items = λ i thin.
@@ -184,5 +184,5 @@ module _ {s t : List ℕ} {l : List Entry} {items : List Sketched} {n : Sums} (h
         );
   }
 
-  pub push-over : entryLimit ≤ n.count → Sketches s t (l ++ (entryAs key d vs ∷ [])) (record { items = items; sums = m })
+  pub push-over : entry_limit ≤ n.count → Sketches s t (l ++ (entry_as key d vs ∷ [])) (record { items = items; sums = m })
   push-over many = record { sums = e; items = λ i thin. absurd (omega (arith, e.count, next, many, i)) }

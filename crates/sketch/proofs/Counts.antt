@@ -7,23 +7,23 @@ use native.Mathlib.Omega.{arith}
 use lib.ListN.{length, take, drop, length-take, length-drop, length-append}
 use Rattle.listlaws.specs.Order.{◌∈◌}
 use Rattle.listlaws.proofs.Pads.{take-pad}
-use Rattle.clock.specs.Dots.{dotsOf}
+use Rattle.clock.specs.Dots.{dots_of}
 use Rattle.clock.proofs.Packs.{dots-of}
-use Rattle.limits.specs.Limits.{valueLimit}
-use Rattle.register.specs.Values.{noValue}
+use Rattle.limits.specs.Limits.{value_limit}
+use Rattle.register.specs.Values.{no_value}
 use Rattle.entries.specs.declared.Entry.{Entry}
-use Rattle.mapimage.specs.MapImage.{flatFrom, entryRecords}
+use Rattle.mapimage.specs.MapImage.{flat_from, entry_records}
 use Rattle.listlaws.specs.Fold.{total_of}
-use Rattle.answers.specs.Sizes.{valueSize, entrySize}
+use Rattle.answers.specs.Sizes.{value_size, entry_size}
 use Rattle.answers.proofs.Lengths.{in-entries}
-use Rattle.runs.specs.Run.{runDots}
-use Rattle.marks.specs.Marks.{picked, marksSet}
+use Rattle.runs.specs.Run.{run_dots}
+use Rattle.marks.specs.Marks.{picked, marks_set}
 use Rattle.marks.proofs.Picks.{length-picked}
 use Rattle.marks.proofs.Dots.{length_run}
 use Rattle.sketch.specs.declared.Source.{Source}
 use Rattle.sketch.specs.declared.Sketched.{Sketched}
 use Rattle.walks.specs.Walk.{between}
-use Rattle.sketch.specs.Drawn.{valueNamed, valueFrom, Placed, sourceSize, sourcesOf, clockApart, drawn, Ready, sectionsOf}
+use Rattle.sketch.specs.Drawn.{value_named, value_from, Placed, source_size, sources_of, clock_apart, drawn, Ready, sections_of}
 
 -- a total over elements that g has changed
 pub total-map : {A B : Type 0} (size : A → ℕ) (other : B → ℕ) (g : A → B) (l : List A) → ((x : A) → x ∈ l → size x ≡ other (g x))
@@ -33,26 +33,26 @@ total-map size other g [] f = refl
 total-map size other g (x ∷ l) f = ap₂ ◌+◌ (f x (Memᴰ.head refl)) (total-map size other g l (λ y i. f y (Memᴰ.tail i)))
 
 -- a source stands for its value's records
-pub value-size : {s : List ℕ} (x : Source) → Placed s x → sourceSize x ≡ valueSize (valueNamed s x)
+pub value-size : {s : List ℕ} (x : Source) → Placed s x → source_size x ≡ value_size (value_named s x)
 value-size {s} x h =
     let run = between s x.from x.to in
     let a = h.order in
     let b = h.run in
-    let n : length (runDots run) ≡ x.to - x.from =
+    let n : length (run_dots run) ≡ x.to - x.from =
     length_run run ∙ ap (λ k. k / 16) (length-take (x.to * 16 - x.from * 16) (drop (x.from * 16) s))
     ∙ omega (arith, length-drop (x.from * 16) s) in
-    ap (λ k. 1 + k) (sym (ap length (dots-of (picked x.marks (runDots run)) refl) ∙ length-picked x.marks (runDots run)
-    ∙ ap (λ k. marksSet (take k x.marks)) n))
+    ap (λ k. 1 + k) (sym (ap length (dots-of (picked x.marks (run_dots run)) refl) ∙ length-picked x.marks (run_dots run)
+    ∙ ap (λ k. marks_set (take k x.marks)) n))
 
 -- the records of an entry that is drawn
-abbrev pub sketchedSize : Sketched → ℕ
-sketchedSize k = length (dotsOf (clockApart k.own)) + total_of sourceSize (sourcesOf k)
+abbrev pub sketched_size : Sketched → ℕ
+sketched_size k = length (dots_of (clock_apart k.own)) + total_of source_size (sources_of k)
 
-pub entry-size : {s t : List ℕ} (k : Sketched) → Ready s t k → sketchedSize k ≡ entrySize (drawn s t k)
+pub entry-size : {s t : List ℕ} (k : Sketched) → Ready s t k → sketched_size k ≡ entry_size (drawn s t k)
 entry-size {s} {t} k h =
-    ap₂ ◌+◌ (ap length (sym (dots-of (dotsOf (clockApart k.own)) refl)))
-    (total-map sourceSize valueSize (valueFrom s t) (sourcesOf k) (λ x i. value-size x (h.each x i))
-    ∙ ap (total_of valueSize) (sym (take-pad noValue valueLimit (map (valueFrom s t) (sourcesOf k)))))
+    ap₂ ◌+◌ (ap length (sym (dots-of (dots_of (clock_apart k.own)) refl)))
+    (total-map source_size value_size (value_from s t) (sources_of k) (λ x i. value-size x (h.each x i))
+    ∙ ap (total_of value_size) (sym (take-pad no_value value_limit (map (value_from s t) (sources_of k)))))
 
 -- one more
 pub total-snoc : {A : Type 0} (size : A → ℕ) (l : List A) (x : A) → total_of size (l ++ (x ∷ [])) ≡ total_of size l + size x
@@ -61,12 +61,12 @@ total-snoc size [] x = omega arith
 total-snoc size (y ∷ l) x = omega (arith, total-snoc size l x)
 
 -- all records of entries
-pub all-records : (l : List Entry) → total_of entrySize l ≡ length (sectionsOf l)
+pub all-records : (l : List Entry) → total_of entry_size l ≡ length (sections_of l)
 all-records l =
     sym (in-entries l)
     ∙ omega (
       arith,
-      length-append (flatFrom (entryRecords 2) 0 l) (flatFrom (entryRecords 3) 0 l ++ flatFrom (entryRecords 4) 0 l),
+      length-append (flat_from (entry_records 2) 0 l) (flat_from (entry_records 3) 0 l ++ flat_from (entry_records 4) 0 l),
       length-append
-          (flatFrom (entryRecords 3) 0 l) (flatFrom (entryRecords 4) 0 l),
+          (flat_from (entry_records 3) 0 l) (flat_from (entry_records 4) 0 l),
     )

@@ -6,7 +6,7 @@ use native.Mathlib.Omega.{arith}
 use lib.ListN.{length, take, set, get_or}
 use lib.Seq.{take-suc, take_all}
 use Rattle.clock.specs.declared.Dot.{Dot}
-use Rattle.clock.specs.Dots.{noDot}
+use Rattle.clock.specs.Dots.{no_dot}
 use Rattle.sketch.specs.Drawn.{beside}
 use Rattle.sketch.proofs.Adding.{used-more}
 
@@ -27,7 +27,7 @@ beside-set (b ∷ l) [] (suc i) a n = refl
 beside-set (b ∷ l) (k ∷ m) zero a n = refl
 beside-set (b ∷ l) (k ∷ m) (suc i) a n = ap (λ r. dot b k ∷ r) (beside-set l m i a n)
 
-beside_at : (l m : List ℕ) (i : ℕ) → length l ≡ length m → i < length l → get_or (beside l m) i noDot ≡ dot (get_or l i 0) (get_or m i 0)
+beside_at : (l m : List ℕ) (i : ℕ) → length l ≡ length m → i < length l → get_or (beside l m) i no_dot ≡ dot (get_or l i 0) (get_or m i 0)
 unfolding beside
 beside_at [] m i e h = absurd (omega (arith, h))
 beside_at (b ∷ l) [] i e h = absurd (omega (arith, e))
@@ -46,14 +46,14 @@ pub taken-all : {A : Type 0} (l m : List A) (i : ℕ) → take i l ≡ take i m 
 taken-all l m i e h k = sym (take_all i l h) ∙ e ∙ take_all i m k
 
 -- one dot more is set apart
-pub apart_more : (l m : List ℕ) (c : List Dot) (i : ℕ) (d : Dot) → length l ≡ length m → take i (beside l m) ≡ take i c → d ≡ get_or c i noDot
+pub apart_more : (l m : List ℕ) (c : List Dot) (i : ℕ) (d : Dot) → length l ≡ length m → take i (beside l m) ≡ take i c → d ≡ get_or c i no_dot
     → i < length l → i < length c → take (i + 1) (beside (set l i d.actor) (set m i d.counter)) ≡ take (i + 1) c
 apart_more l m c i d s e f h k =
     ap (take (i + 1)) (beside-set l m i d.actor d.counter)
-    ∙ taken_more (beside l m) c i noDot d e f (omega (arith, h, length-beside l m s)) k
+    ∙ taken_more (beside l m) c i no_dot d e f (omega (arith, h, length-beside l m s)) k
 
 -- one dot more is put together
 pub beside-more : (l m : List ℕ) (c : List Dot) (i : ℕ) → length l ≡ length m → take i c ≡ take i (beside l m) → i < length c → i < length l
     → take (i + 1) (set c i (dot (get_or l i 0) (get_or m i 0))) ≡ take (i + 1) (beside l m)
 beside-more l m c i s e h k =
-    taken_more c (beside l m) i noDot _ e (sym (beside_at l m i s k)) h (omega (arith, k, length-beside l m s))
+    taken_more c (beside l m) i no_dot _ e (sym (beside_at l m i s k)) h (omega (arith, k, length-beside l m s))

@@ -1,8 +1,8 @@
 // A clock with its counters and actors apart, and back.
 ghost use Rattle.std.specs.Prelude.{◌≡◌, ◌≤◌, length};
-ghost use Rattle.limits.specs.Limits.{dotLimit};
-ghost use Rattle.clock.specs.Dots.{dotsOf};
-ghost use Rattle.sketch.specs.Drawn.{clockApart};
+ghost use Rattle.limits.specs.Limits.{dot_limit};
+ghost use Rattle.clock.specs.Dots.{dots_of};
+ghost use Rattle.sketch.specs.Drawn.{clock_apart};
 
 use crate::Flat;
 use clock::{Clock, Dot};
@@ -10,7 +10,7 @@ use limits::DOTS;
 
 impl Flat {
     pub fn of(c: Clock) -> Flat
-        ensures { clockApart result ≡ c }
+        ensures { clock_apart result ≡ c }
     {
         let mut counters: [u64; DOTS] = [0; DOTS];
         let mut actors: [u16; DOTS] = [0; DOTS];
@@ -29,7 +29,7 @@ impl Flat {
     }
 
     pub fn clock(self) -> Clock
-        ensures { result ≡ clockApart self }
+        ensures { result ≡ clock_apart self }
     {
         let none = Dot {
             actor: 0,
@@ -50,7 +50,7 @@ impl Flat {
     }
 
     pub fn size(self) -> usize
-        ensures { (result ≡ length (dotsOf (clockApart self))) × (result ≤ dotLimit) }
+        ensures { (result ≡ length (dots_of (clock_apart self))) × (result ≤ dot_limit) }
     {
         let n = self.len;
         if n < DOTS { n } else { DOTS }

@@ -1,19 +1,19 @@
 // How many entries a sketch has, and how many records.
 ghost use Rattle.std.specs.Prelude.{◌≡◌, List, [], ◌∷◌, ◌++◌, ℕ, ◌+◌, ◌*◌, ◌-◌, ◌≤◌, ◌<◌};
 ghost use Rattle.clock.specs.declared.Dot.{Dot};
-ghost use Rattle.limits.specs.Limits.{dotLimit, valueLimit, entryLimit};
+ghost use Rattle.limits.specs.Limits.{dot_limit, value_limit, entry_limit};
 ghost use Rattle.register.specs.declared.Value.{Value};
 ghost use Rattle.entries.specs.declared.Entry.{Entry};
-ghost use Rattle.entries.specs.Model.{entryAs};
+ghost use Rattle.entries.specs.Model.{entry_as};
 ghost use Rattle.listlaws.specs.Fold.{total_of};
-ghost use Rattle.sketch.specs.Drawn.{Placed, sourceSize, sourcesOf, Ready, Draws, Summed};
+ghost use Rattle.sketch.specs.Drawn.{Placed, source_size, sources_of, Ready, Draws, Summed};
 
 use crate::{Sketched, Source, Sums};
 use limits::{DOTS, ENTRIES, VALUES};
 
 // How many dots a source's run has.
 fn run_length(x: Source) -> usize
-    ensures { (result ≤ dotLimit) × ((s : List ℕ) → Placed s x → result ≡ x.to - x.from) }
+    ensures { (result ≤ dot_limit) × ((s : List ℕ) → Placed s x → result ≡ x.to - x.from) }
 {
     if x.to < x.from {
         return 0;
@@ -24,7 +24,7 @@ fn run_length(x: Source) -> usize
 
 // The values of an entry and what is left of their dots.
 fn count_sources(e: Sketched) -> usize
-    ensures { (result ≤ valueLimit * (1 + dotLimit)) × ((s t : List ℕ) → Ready s t e → result ≡ total_of sourceSize (sourcesOf e)) }
+    ensures { (result ≤ value_limit * (1 + dot_limit)) × ((s t : List ℕ) → Ready s t e → result ≡ total_of source_size (sources_of e)) }
 {
     let n = e.size();
     let mut total: usize = 0;
@@ -53,9 +53,9 @@ impl Sums {
 
     // One entry more.
     pub fn with(self, k: Sketched) -> Sums
-        requires { (self.count < 2 * entryLimit) × ((l : List Entry) × Summed l self) }
+        requires { (self.count < 2 * entry_limit) × ((l : List Entry) × Summed l self) }
         ensures { (result.count ≡ self.count + 1) × ((s t : List ℕ) (l : List Entry) (key : ℕ) (d : List Dot) (vs : List Value)
-            → Summed l self → Draws s t key d vs k → Summed (l ++ (entryAs key d vs ∷ [])) result) }
+            → Summed l self → Draws s t key d vs k → Summed (l ++ (entry_as key d vs ∷ [])) result) }
     {
         let n = self.count;
         let wide = self.wide | (VALUES < k.len);

@@ -2,11 +2,11 @@
 ghost use Rattle.std.specs.Prelude.{◌≡◌, List, [], ◌∷◌, ◌++◌, ℕ, ◌+◌, ◌*◌, ◌≤◌, ◌<◌, length};
 ghost use Rattle.listlaws.specs.Sift.{those};
 ghost use Rattle.clock.specs.declared.Dot.{Dot};
-ghost use Rattle.limits.specs.Limits.{dotLimit, valueLimit};
-ghost use Rattle.clock.specs.Dots.{clockOf};
+ghost use Rattle.limits.specs.Limits.{dot_limit, value_limit};
+ghost use Rattle.clock.specs.Dots.{clock_of};
 ghost use Rattle.register.specs.declared.Value.{Value};
 ghost use Rattle.register.specs.Values.{alive};
-ghost use Rattle.sketch.specs.Drawn.{imageNamed, valueFrom, Placed, Draws, sourcesOf};
+ghost use Rattle.sketch.specs.Drawn.{image_named, value_from, Placed, Draws, sources_of};
 
 use crate::{Flat, Sketched, Source};
 use clock::Clock;
@@ -15,7 +15,7 @@ use limits::{DOTS, VALUES};
 impl Sketched {
     // An entry with no value yet.
     pub fn new(key: u32, clock: Clock) -> Sketched
-        ensures { (result.len ≡ 0) × ((s t : List ℕ) (d : List Dot) → clock ≡ clockOf d → Draws s t key d [] result) }
+        ensures { (result.len ≡ 0) × ((s t : List ℕ) (d : List Dot) → clock ≡ clock_of d → Draws s t key d [] result) }
     {
         let none = Source {
             second: false,
@@ -35,10 +35,10 @@ impl Sketched {
 
     // One value more, where a dot of it is left.
     pub fn add(self, x: Source) -> Sketched
-        requires { (self.len < 4 * valueLimit) × ((x.from ≤ x.to) × (x.to ≤ x.from + dotLimit)) }
+        requires { (self.len < 4 * value_limit) × ((x.from ≤ x.to) × (x.to ≤ x.from + dot_limit)) }
         ensures { (result.len ≤ self.len + 1) × ((s t : List ℕ) (key : ℕ) (d : List Dot) (l : List Value) → Draws s t key d l self
-            → Placed (imageNamed s t x) x
-            → Draws s t key d (l ++ those alive (valueFrom s t x ∷ [])) result) }
+            → Placed (image_named s t x) x
+            → Draws s t key d (l ++ those alive (value_from s t x ∷ [])) result) }
     {
         let marks = x.marks;
         let many = (x.to - x.from) as usize;
@@ -56,7 +56,7 @@ impl Sketched {
     }
 
     pub fn size(self) -> usize
-        ensures { (result ≡ length (sourcesOf self)) × (result ≤ valueLimit) }
+        ensures { (result ≡ length (sources_of self)) × (result ≤ value_limit) }
     {
         let n = self.len;
         if n < VALUES { n } else { VALUES }

@@ -1,14 +1,14 @@
 // A sketch written: dots, values and values' dots, one section behind the other.
 ghost use Rattle.std.specs.Prelude.{◌≡◌, map, ◌++◌, ◌+◌, ◌*◌, ◌≤◌, length};
-ghost use Rattle.clock.specs.Dots.{dotsOf};
-ghost use Rattle.limits.specs.Limits.{entryLimit};
+ghost use Rattle.clock.specs.Dots.{dots_of};
+ghost use Rattle.limits.specs.Limits.{entry_limit};
 ghost use Rattle.records.specs.Records.{bytes_of};
 ghost use Rattle.records.specs.Writing.{Wrote};
-ghost use Rattle.records.specs.Kinds.{clockDotKind};
-ghost use Rattle.clockimage.specs.Image.{dotRecords};
-ghost use Rattle.mapimage.specs.MapImage.{flatFrom, valueRecords, entryRecords};
-ghost use Rattle.sketch.specs.Drawn.{valueNamed, imageNamed, valueFrom, Placed, sourcesOf, drawn, Ready, items_of, AllReady, drawnAll};
-ghost use Rattle.sketch.specs.Drawn.{sectionsOf};
+ghost use Rattle.records.specs.Kinds.{clock_dot_kind};
+ghost use Rattle.clockimage.specs.Image.{dot_records};
+ghost use Rattle.mapimage.specs.MapImage.{flat_from, value_records, entry_records};
+ghost use Rattle.sketch.specs.Drawn.{value_named, image_named, value_from, Placed, sources_of, drawn, Ready, items_of, AllReady, drawn_all};
+ghost use Rattle.sketch.specs.Drawn.{sections_of};
 
 use crate::{Sketch, Sketched, Source};
 use clock::Clock;
@@ -17,7 +17,7 @@ use records::{CLOCK_DOT, ENTRY_DOT, Record, VALUE, VALUE_DOT, WAITING_DOT};
 
 impl Sketch {
     pub fn size(self) -> usize
-        ensures { (result ≡ length (items_of self)) × (result ≤ entryLimit) }
+        ensures { (result ≡ length (items_of self)) × (result ≤ entry_limit) }
     {
         let sums = self.sums;
         let n = sums.count;
@@ -27,8 +27,8 @@ impl Sketch {
 
 // Writes the record of kind 3 of a value in s, or what is left of its dots.
 fn write_in(s: &[u8], x: Source, kind: u8, key: u32, index: u8, out: &mut [u8], at: usize) -> usize
-    requires { Placed s.now x × (at + length (valueRecords kind key index (valueNamed s.now x)) * 16 ≤ length out.old) }
-    ensures { Wrote at (bytes_of (valueRecords kind key index (valueNamed s.now x))) out.old out.new result }
+    requires { Placed s.now x × (at + length (value_records kind key index (value_named s.now x)) * 16 ≤ length out.old) }
+    ensures { Wrote at (bytes_of (value_records kind key index (value_named s.now x))) out.old out.new result }
 {
     if kind == VALUE {
         let place = x.value as usize * 16;
@@ -59,9 +59,9 @@ fn write_source(
     out: &mut [u8],
     at: usize,
 ) -> usize
-    requires { Placed (imageNamed s.now t.now x) x × (at + length (valueRecords kind key index (valueFrom s.now t.now x)) * 16 ≤ length
+    requires { Placed (image_named s.now t.now x) x × (at + length (value_records kind key index (value_from s.now t.now x)) * 16 ≤ length
         out.old) }
-    ensures { Wrote at (bytes_of (valueRecords kind key index (valueFrom s.now t.now x))) out.old
+    ensures { Wrote at (bytes_of (value_records kind key index (value_from s.now t.now x))) out.old
         out.new result }
 {
     if x.second {
@@ -73,8 +73,8 @@ fn write_source(
 // The values of an entry, one after the other.
 fn write_sources(s: &[u8], t: &[u8], e: Sketched, kind: u8, out: &mut [u8], at: usize) -> usize
     requires { Ready s.now t.now e
-        × (at + length (flatFrom (valueRecords kind e.key) 0 (map (valueFrom s.now t.now) (sourcesOf e))) * 16 ≤ length out.old) }
-    ensures { Wrote at (bytes_of (flatFrom (valueRecords kind e.key) 0 (map (valueFrom s.now t.now) (sourcesOf e))))
+        × (at + length (flat_from (value_records kind e.key) 0 (map (value_from s.now t.now) (sources_of e))) * 16 ≤ length out.old) }
+    ensures { Wrote at (bytes_of (flat_from (value_records kind e.key) 0 (map (value_from s.now t.now) (sources_of e))))
         out.old out.new result }
 {
     let n = e.size();
@@ -91,8 +91,8 @@ fn write_sources(s: &[u8], t: &[u8], e: Sketched, kind: u8, out: &mut [u8], at: 
 
 // An entry's records of one kind.
 fn write_entry(s: &[u8], t: &[u8], e: Sketched, kind: u8, out: &mut [u8], at: usize) -> usize
-    requires { Ready s.now t.now e × (at + length (entryRecords kind 0 (drawn s.now t.now e)) * 16 ≤ length out.old) }
-    ensures { Wrote at (bytes_of (entryRecords kind 0 (drawn s.now t.now e))) out.old
+    requires { Ready s.now t.now e × (at + length (entry_records kind 0 (drawn s.now t.now e)) * 16 ≤ length out.old) }
+    ensures { Wrote at (bytes_of (entry_records kind 0 (drawn s.now t.now e))) out.old
         out.new result }
 {
     if kind == ENTRY_DOT {
@@ -106,8 +106,8 @@ fn write_entry(s: &[u8], t: &[u8], e: Sketched, kind: u8, out: &mut [u8], at: us
 // The records of a map's clock and of its entries: one section behind the other. One loop, and the clock here, so that the sketch is copied once.
 pub fn write_sketch(s: &[u8], t: &[u8], clock: Clock, sk: Sketch, out: &mut [u8]) -> usize
     requires { AllReady s.now t.now sk
-        × (length (dotRecords clockDotKind 0 0 (dotsOf clock) ++ sectionsOf (drawnAll s.now t.now sk)) * 16 ≤ length out.old) }
-    ensures { Wrote 0 (bytes_of (dotRecords clockDotKind 0 0 (dotsOf clock) ++ sectionsOf (drawnAll s.now t.now sk)))
+        × (length (dot_records clock_dot_kind 0 0 (dots_of clock) ++ sections_of (drawn_all s.now t.now sk)) * 16 ≤ length out.old) }
+    ensures { Wrote 0 (bytes_of (dot_records clock_dot_kind 0 0 (dots_of clock) ++ sections_of (drawn_all s.now t.now sk)))
         out.old out.new result }
 {
     let n = sk.size();

@@ -1,11 +1,11 @@
 // Which values of a register stand, by the runs of their dots where they lie.
 ghost use Rattle.std.specs.Prelude.{◌≡◌, true, false, cond, List, [], ◌∷◌, ◌++◌};
 ghost use Rattle.listlaws.specs.Sift.{those};
-ghost use Rattle.clock.specs.Dots.{dotsOf};
+ghost use Rattle.clock.specs.Dots.{dots_of};
 ghost use Rattle.clock.specs.Lawful.{Lawful};
 ghost use Rattle.register.specs.declared.Value.{Value};
-ghost use Rattle.register.specs.Values.{outdone, standing, remaining, mergeValues};
-ghost use Rattle.runs.specs.Run.{runDots};
+ghost use Rattle.register.specs.Values.{outdone, standing, remaining, merge_values};
+ghost use Rattle.runs.specs.Run.{run_dots};
 ghost use Rattle.marks.specs.Marks.{picked};
 ghost use Rattle.comparing.specs.Registers.{RunsOf};
 
@@ -35,8 +35,8 @@ pub struct Outdone {
 
 // How the value of a run stands against a register's values: whether it yields to one, and else which of those do not yield to it.
 fn against(run: &[u8], s: &[u8], starts: [usize; 5], n: usize, before: [bool; VALUES]) -> Stood
-    requires { Lawful (runDots run.now) × ((l : List Value) × RunsOf s.now starts n l) }
-    ensures { (v : Value) (l : List Value) → runDots run.now ≡ dotsOf v.clock → RunsOf s.now starts n l
+    requires { Lawful (run_dots run.now) × ((l : List Value) × RunsOf s.now starts n l) }
+    ensures { (v : Value) (l : List Value) → run_dots run.now ≡ dots_of v.clock → RunsOf s.now starts n l
         → (result.yields ≡ outdone false l v)
         × (picked result.left l ≡ cond result.yields (picked before l) (those (standing true (v ∷ [])) (picked before l))) }
 {
@@ -74,7 +74,7 @@ fn against(run: &[u8], s: &[u8], starts: [usize; 5], n: usize, before: [bool; VA
 pub fn stands(s: &[u8], xs: [usize; 5], n: usize, t: &[u8], ys: [usize; 5], m: usize) -> Standing
     requires { ((l : List Value) × RunsOf s.now xs n l) × ((l : List Value) × RunsOf t.now ys m l) }
     ensures { (ours theirs : List Value) → RunsOf s.now xs n ours → RunsOf t.now ys m theirs
-        → picked result.ours ours ++ picked result.theirs theirs ≡ mergeValues ours theirs }
+        → picked result.ours ours ++ picked result.theirs theirs ≡ merge_values ours theirs }
 {
     let mut ours: [bool; VALUES] = [true; VALUES];
     let mut theirs: [bool; VALUES] = [true; VALUES];
@@ -95,8 +95,8 @@ pub fn stands(s: &[u8], xs: [usize; 5], n: usize, t: &[u8], ys: [usize; 5], m: u
 
 // Which values remain beside a put, and whether it yields to one of these.
 pub fn put_stands(s: &[u8], starts: [usize; 5], n: usize, put: &[u8]) -> Outdone
-    requires { ((l : List Value) × RunsOf s.now starts n l) × Lawful (runDots put.now) }
-    ensures { (l : List Value) (v : Value) → RunsOf s.now starts n l → runDots put.now ≡ dotsOf v.clock
+    requires { ((l : List Value) × RunsOf s.now starts n l) × Lawful (run_dots put.now) }
+    ensures { (l : List Value) (v : Value) → RunsOf s.now starts n l → run_dots put.now ≡ dots_of v.clock
         → (picked result.remain l ≡ remaining l v) × (result.yields ≡ outdone false (remaining l v) v) }
 {
     let mut remain: [bool; VALUES] = [true; VALUES];

@@ -9,8 +9,8 @@ use Rattle.listlaws.specs.Order.{◌∈◌}
 use Rattle.listlaws.proofs.Orders.{apart}
 use Rattle.entries.specs.declared.Entry.{Entry}
 use Rattle.entries.specs.declared.Update.{Update}
-use Rattle.entries.specs.Model.{entryAs}
-use Rattle.entries.specs.Entries.{putEntries}
+use Rattle.entries.specs.Model.{entry_as}
+use Rattle.entries.specs.Entries.{put_entries}
 use Rattle.walks.specs.declared.Layout.{Layout}
 use Rattle.entrywalk.specs.declared.Cursor.{Cursor}
 use Rattle.entrywalk.specs.declared.Lain.{Lain}
@@ -51,7 +51,7 @@ module _ {s : List ℕ} {l : Layout} (u : Update) {x : Cursor} {es : List Entry}
         record {
           entry = g.entry;
           more = g.more;
-          first = ap (putEntries u) g.parts ∙ put-behind u g.entry g.more (omega arith);
+          first = ap (put_entries u) g.parts ∙ put-behind u g.entry g.more (omega arith);
           lies = g.lies;
           known = inl (first-in h g);
           ahead = g.rest;
@@ -72,7 +72,7 @@ module _ {s : List ℕ} {l : Layout} (u : Update) {x : Cursor} {es : List Entry}
         record {
           entry = g.entry;
           more = g.more;
-          first = ap (putEntries u) g.parts ∙ put_on u g.more (λ e i. omega (arith, level, its-more h g e i)) g.entry (omega arith);
+          first = ap (put_entries u) g.parts ∙ put_on u g.more (λ e i. omega (arith, level, its-more h g e i)) g.entry (omega arith);
           lies = g.lies;
           known = inl (first-in h g);
           ahead = g.rest;
@@ -85,12 +85,12 @@ module _ {s : List ℕ} {l : Layout} (u : Update) {x : Cursor} {es : List Entry}
         }
 
   -- it goes before all of them, where the map has no entry
-  pub comes-new : (r : Lain) → ((e : Entry) → e ∈ es → u.key < e.key) → LiesAt s (entryAs u.key [] []) r → r.next ≡ x
+  pub comes-new : (r : Lain) → ((e : Entry) → e ∈ es → u.key < e.key) → LiesAt s (entry_as u.key [] []) r → r.next ≡ x
       → UpdateComes s l u x false es (record { entry = r; put = true })
   comes-new r above none on =
       let place = ap (λ (c : Cursor). c.own) on in
       record {
-        entry = entryAs u.key [] [];
+        entry = entry_as u.key [] [];
         more = es;
         first = put_first u es above;
         lies = none;

@@ -2,18 +2,18 @@
 use Rattle.std.specs.Prelude.{◌≡◌, Bool, false, cond, ◌||◌, List, [], ◌∷◌, ◌⊎◌, ℕ, ◌+◌, ◌-◌, ◌/◌, ◌≤◌, ◌<◌, length}
 use Rattle.listlaws.specs.Order.{◌∈◌}
 use Rattle.clock.specs.declared.Dot.{Dot}
-use Rattle.limits.specs.Limits.{dotLimit}
-use Rattle.clock.specs.Dots.{dotsOf, addDot}
+use Rattle.limits.specs.Limits.{dot_limit}
+use Rattle.clock.specs.Dots.{dots_of, add_dot}
 use Rattle.clock.specs.Lawful.{Lawful}
 use Rattle.register.specs.declared.Value.{Value}
-use Rattle.register.specs.Values.{putValues}
+use Rattle.register.specs.Values.{put_values}
 use Rattle.entries.specs.declared.Entry.{Entry}
 use Rattle.entries.specs.declared.Update.{Update}
-use Rattle.entries.specs.Model.{dotsIn, valuesIn, entryAs}
-use Rattle.entries.specs.Entries.{putEntry, putEntries}
-use Rattle.records.specs.Records.{recordFrom}
-use Rattle.clockimage.specs.Image.{contentOf}
-use Rattle.runs.specs.Run.{runDots}
+use Rattle.entries.specs.Model.{dots_in, values_in, entry_as}
+use Rattle.entries.specs.Entries.{put_entry, put_entries}
+use Rattle.records.specs.Records.{record_from}
+use Rattle.clockimage.specs.Image.{content_of}
+use Rattle.runs.specs.Run.{run_dots}
 use Rattle.walks.specs.declared.Layout.{Layout}
 use Rattle.entrywalk.specs.declared.Cursor.{Cursor}
 use Rattle.entrywalk.specs.Walking.{Ahead, LiesAt}
@@ -21,19 +21,19 @@ use Rattle.walks.specs.Walk.{between}
 use Rattle.updating.specs.declared.Next.{Next}
 
 -- an entry, with the put or without
-abbrev pub entryTo : Update → Bool → Entry → Entry
-entryTo u put e = cond put (putEntry u e) e
+abbrev pub entry_to : Update → Bool → Entry → Entry
+entry_to u put e = cond put (put_entry u e) e
 
 -- its dots and its values
-abbrev pub dotsTo : Update → Bool → Entry → List Dot
-dotsTo u put e = cond put (addDot (dotsIn e) u.dot) (dotsIn e)
+abbrev pub dots_to : Update → Bool → Entry → List Dot
+dots_to u put e = cond put (add_dot (dots_in e) u.dot) (dots_in e)
 
-abbrev pub valuesTo : Update → Bool → Entry → List Value
-valuesTo u put e = cond put (putValues (valuesIn e) u.put) (valuesIn e)
+abbrev pub values_to : Update → Bool → Entry → List Value
+values_to u put e = cond put (put_values (values_in e) u.put) (values_in e)
 
 -- the entries that are to come: with the put, until it is done
 abbrev pub coming : Update → Bool → List Entry → List Entry
-coming u done es = cond done es (putEntries u es)
+coming u done es = cond done es (put_entries u es)
 
 -- how many puts are to come
 abbrev pub puts : Bool → ℕ
@@ -42,18 +42,18 @@ puts done = cond done 0 1
 -- where an operation's image has the put of an update: its value in the second record, and its dots from the third on
 pub record PutLies (op : List ℕ) (u : Update) : Type 0 where
   pub some : 2 ≤ length op / 16
-  pub few : length op / 16 ≤ 2 + dotLimit
-  pub value : contentOf (recordFrom op 16) ≡ u.put.value
-  pub dots : runDots (between op 2 (length op / 16)) ≡ dotsOf u.put.clock
-  pub lawful : Lawful (dotsOf u.put.clock)
+  pub few : length op / 16 ≤ 2 + dot_limit
+  pub value : content_of (record_from op 16) ≡ u.put.value
+  pub dots : run_dots (between op 2 (length op / 16)) ≡ dots_of u.put.clock
+  pub lawful : Lawful (dots_of u.put.clock)
 
 -- what comes next of the entries es and of a put that is done or not: an entry, empty where the map has none of the put's key
 pub record UpdateComes (s : List ℕ) (l : Layout) (u : Update) (x : Cursor) (done : Bool) (es : List Entry) (r : Next) : Type 0 where
   pub entry : Entry
   pub more : List Entry
-  pub first : coming u done es ≡ entryTo u r.put entry ∷ coming u (done || r.put) more
+  pub first : coming u done es ≡ entry_to u r.put entry ∷ coming u (done || r.put) more
   pub lies : LiesAt s entry r.entry
-  pub known : (entry ∈ es) ⊎ (entry ≡ entryAs u.key [] [])
+  pub known : (entry ∈ es) ⊎ (entry ≡ entry_as u.key [] [])
   pub ahead : Ahead s l r.entry.next more
   pub inside : (e : Entry) → e ∈ more → e ∈ es
   pub above : (e : Entry) → e ∈ more → r.entry.key < e.key

@@ -2,27 +2,27 @@
 ghost use Rattle.std.specs.Prelude.{◌≡◌, true, false, List, [], ℕ, ◌+◌, ◌≤◌, ◌<◌, length};
 ghost use Rattle.listlaws.specs.Sift.{sift};
 ghost use Rattle.clock.specs.declared.Dot.{Dot};
-ghost use Rattle.limits.specs.Limits.{dotLimit, valueLimit};
-ghost use Rattle.clock.specs.Dots.{clockOf, is_empty, counterIn, addDot};
-ghost use Rattle.register.specs.Values.{alive, putValues};
+ghost use Rattle.limits.specs.Limits.{dot_limit, value_limit};
+ghost use Rattle.clock.specs.Dots.{clock_of, is_empty, counter_in, add_dot};
+ghost use Rattle.register.specs.Values.{alive, put_values};
 ghost use Rattle.entries.specs.declared.Entry.{Entry};
 ghost use Rattle.removals.specs.declared.Removal.{Removal};
 ghost use Rattle.entries.specs.declared.Update.{Update};
-ghost use Rattle.entries.specs.Model.{valuesIn};
-ghost use Rattle.entries.specs.Entries.{stays, run, putEntries};
-ghost use Rattle.map.specs.Model.{seenBy, entriesIn, waitingIn};
+ghost use Rattle.entries.specs.Model.{values_in};
+ghost use Rattle.entries.specs.Entries.{stays, run, put_entries};
+ghost use Rattle.map.specs.Model.{seen_by, entries_in, waiting_in};
 ghost use Rattle.map.specs.Valid.{UpdateWithin};
-ghost use Rattle.records.specs.Records.{recordsOf};
-ghost use Rattle.opimage.specs.OpImage.{updateRecords};
-ghost use Rattle.mapimage.specs.MapImage.{mapLongest};
-ghost use Rattle.maprecords.specs.Related.{readMap};
+ghost use Rattle.records.specs.Records.{records_of};
+ghost use Rattle.opimage.specs.OpImage.{update_records};
+ghost use Rattle.mapimage.specs.MapImage.{map_longest};
+ghost use Rattle.maprecords.specs.Related.{read_map};
 ghost use Rattle.layout.specs.Whole.{Lies};
 ghost use Rattle.marks.specs.Marks.{picked};
-ghost use Rattle.queued.specs.Queue.{Keyed, cutsFor, Queued, Marked};
+ghost use Rattle.queued.specs.Queue.{Keyed, cuts_for, Queued, Marked};
 ghost use Rattle.entrywalk.specs.Walking.{LiesAt};
-ghost use Rattle.sketch.specs.Drawn.{valueNamed, Placed, clockApart, Draws, Sketches};
-ghost use Rattle.leaving.specs.Left.{valueLeft};
-ghost use Rattle.updating.specs.Updated.{dotsTo, valuesTo, PutLies};
+ghost use Rattle.sketch.specs.Drawn.{value_named, Placed, clock_apart, Draws, Sketches};
+ghost use Rattle.leaving.specs.Left.{value_left};
+ghost use Rattle.updating.specs.Updated.{dots_to, values_to, PutLies};
 
 use crate::Next;
 use clock::{Clock, Dot};
@@ -36,8 +36,8 @@ use walks::Layout;
 // The clock of an entry, with the update's dot where the put goes there.
 fn clock_to(s: &[u8], x: Lain, put: bool, dot: Dot) -> Clock
     requires { (e : Entry) × LiesAt s.now e x }
-    ensures { (u : Update) (e : Entry) → u.dot ≡ dot → LiesAt s.now e x → length (dotsTo u put e) ≤ dotLimit
-        → result ≡ clockOf (dotsTo u put e) }
+    ensures { (u : Update) (e : Entry) → u.dot ≡ dot → LiesAt s.now e x → length (dots_to u put e) ≤ dot_limit
+        → result ≡ clock_of (dots_to u put e) }
 {
     let own = entrywalk::own_clock(s, x);
     if put {
@@ -57,10 +57,10 @@ fn draw_standing(
     under: [bool; WAITING],
 ) -> Sketched
     requires { (bare.len ≡ 0) × (((e : Entry) × LiesAt s.now e x)
-        × ((length s.now ≤ mapLongest) × ((w : List Removal) × Queued s.now q w))) }
-    ensures { (result.len ≤ valueLimit) × ((t : List ℕ) (key : ℕ) (d : List Dot) (e : Entry) (w : List Removal)
+        × ((length s.now ≤ map_longest) × ((w : List Removal) × Queued s.now q w))) }
+    ensures { (result.len ≤ value_limit) × ((t : List ℕ) (key : ℕ) (d : List Dot) (e : Entry) (w : List Removal)
         → Draws s.now t key d [] bare → LiesAt s.now e x → Queued s.now q w → Marked w e.key under
-        → Draws s.now t key d (sift alive (valueLeft w [] e.key []) (picked stand (valuesIn e))) result) }
+        → Draws s.now t key d (sift alive (value_left w [] e.key []) (picked stand (values_in e))) result) }
 {
     let nothing = Clock::new();
     let others = Queue::none();
@@ -83,9 +83,9 @@ fn draw_standing(
 // What the waiting removals that list a key leave of the put.
 fn put_source(s: &[u8], op: &[u8], q: Queue, under: [bool; WAITING]) -> Source
     requires { ((u : Update) × PutLies op.now u) × ((w : List Removal) × Queued s.now q w) }
-    ensures { ((result.second ≡ true) × ((result.from ≤ result.to) × (result.to ≤ result.from + dotLimit)))
+    ensures { ((result.second ≡ true) × ((result.from ≤ result.to) × (result.to ≤ result.from + dot_limit)))
         × ((u : Update) (w : List Removal) (key : ℕ) → PutLies op.now u → Queued s.now q w → Marked w key under
-        → Placed op.now result × (valueNamed op.now result ≡ valueLeft w [] key [] u.put)) }
+        → Placed op.now result × (value_named op.now result ≡ value_left w [] key [] u.put)) }
 {
     let m = op.len() / 16;
     let end = m * 16;
@@ -109,10 +109,10 @@ fn draw_put(
     under: [bool; WAITING],
 ) -> Sketched
     requires { ((bare.len ≡ 0) × (((e : Entry) × LiesAt s.now e x)
-        × ((length s.now ≤ mapLongest) × ((w : List Removal) × Queued s.now q w)))) × ((u : Update) × PutLies op.now u) }
+        × ((length s.now ≤ map_longest) × ((w : List Removal) × Queued s.now q w)))) × ((u : Update) × PutLies op.now u) }
     ensures { (u : Update) (key : ℕ) (d : List Dot) (e : Entry) (w : List Removal) → PutLies op.now u
         → Draws s.now op.now key d [] bare → LiesAt s.now e x → Queued s.now q w → Marked w e.key under
-        → Draws s.now op.now key d (sift alive (valueLeft w [] e.key []) (putValues (valuesIn e) u.put)) result }
+        → Draws s.now op.now key d (sift alive (value_left w [] e.key []) (put_values (values_in e) u.put)) result }
 {
     let m = op.len() / 16;
     if m <= 2 {
@@ -133,14 +133,14 @@ fn draw_put(
 
 // What an update leaves of the key that comes next; without values where nothing is left of its clock.
 fn draw_key(s: &[u8], op: &[u8], c: Next, dot: Dot, q: Queue, under: [bool; WAITING]) -> Sketched
-    requires { (((e : Entry) × LiesAt s.now e c.entry) × ((length s.now ≤ mapLongest) × ((w : List Removal) × Queued s.now q w)))
+    requires { (((e : Entry) × LiesAt s.now e c.entry) × ((length s.now ≤ map_longest) × ((w : List Removal) × Queued s.now q w)))
         × ((u : Update) × PutLies op.now u) }
     ensures { (u : Update) (e : Entry) (w : List Removal) → u.dot ≡ dot → PutLies op.now u → LiesAt s.now e c.entry
-        → length (dotsTo u c.put e) ≤ dotLimit
+        → length (dots_to u c.put e) ≤ dot_limit
         → Queued s.now q w → Marked w e.key under
-        → (clockApart result.own ≡ clockOf (cutsFor w e.key (dotsTo u c.put e))) × (is_empty (cutsFor w e.key (dotsTo u c.put e)) ≡ false
-        → Draws s.now op.now c.entry.key (cutsFor w e.key (dotsTo u c.put e))
-        (sift alive (valueLeft w [] e.key []) (valuesTo u c.put e)) result) }
+        → (clock_apart result.own ≡ clock_of (cuts_for w e.key (dots_to u c.put e))) × (is_empty (cuts_for w e.key (dots_to u c.put e)) ≡ false
+        → Draws s.now op.now c.entry.key (cuts_for w e.key (dots_to u c.put e))
+        (sift alive (value_left w [] e.key []) (values_to u c.put e)) result) }
 {
     let x = c.entry;
     let put = c.put;
@@ -167,14 +167,14 @@ fn draw_keys(
     first: usize,
     last: usize,
 ) -> Sketch
-    requires { (Lies s.now (readMap s.now).map l × Queued s.now q (waitingIn (readMap s.now).map))
-        × ((UpdateWithin u × (updateRecords u ≡ recordsOf op.now))
-        × (((counterIn (seenBy (readMap s.now).map) u.dot.actor < u.dot.counter)
-        × (length (addDot (seenBy (readMap s.now).map) u.dot) ≤ dotLimit))
-        × ((length s.now ≤ mapLongest) × ((length op.now ≤ mapLongest)
-        × Keyed s.now first last 0 (waitingIn (readMap s.now).map))))) }
+    requires { (Lies s.now (read_map s.now).map l × Queued s.now q (waiting_in (read_map s.now).map))
+        × ((UpdateWithin u × (update_records u ≡ records_of op.now))
+        × (((counter_in (seen_by (read_map s.now).map) u.dot.actor < u.dot.counter)
+        × (length (add_dot (seen_by (read_map s.now).map) u.dot) ≤ dot_limit))
+        × ((length s.now ≤ map_longest) × ((length op.now ≤ map_longest)
+        × Keyed s.now first last 0 (waiting_in (read_map s.now).map))))) }
     ensures { Sketches s.now op.now
-        (sift stays (run (waitingIn (readMap s.now).map)) (putEntries u (entriesIn (readMap s.now).map))) result }
+        (sift stays (run (waiting_in (read_map s.now).map)) (put_entries u (entries_in (read_map s.now).map))) result }
 {
     let dot = u.dot;
     let third = l.third;
@@ -215,13 +215,13 @@ fn draw_keys(
 
 // The entries of an update. Called at two places, the drawing keeps a frame of its own, and what is written afterwards does not stand on top of it.
 pub fn draw_updated(s: &[u8], l: Layout, u: Update, op: &[u8], q: Queue) -> Sketch
-    requires { (Lies s.now (readMap s.now).map l × Queued s.now q (waitingIn (readMap s.now).map))
-        × ((UpdateWithin u × (updateRecords u ≡ recordsOf op.now))
-        × (((counterIn (seenBy (readMap s.now).map) u.dot.actor < u.dot.counter)
-        × (length (addDot (seenBy (readMap s.now).map) u.dot) ≤ dotLimit))
-        × ((length s.now ≤ mapLongest) × (length op.now ≤ mapLongest)))) }
+    requires { (Lies s.now (read_map s.now).map l × Queued s.now q (waiting_in (read_map s.now).map))
+        × ((UpdateWithin u × (update_records u ≡ records_of op.now))
+        × (((counter_in (seen_by (read_map s.now).map) u.dot.actor < u.dot.counter)
+        × (length (add_dot (seen_by (read_map s.now).map) u.dot) ≤ dot_limit))
+        × ((length s.now ≤ map_longest) × (length op.now ≤ map_longest)))) }
     ensures { Sketches s.now op.now
-        (sift stays (run (waitingIn (readMap s.now).map)) (putEntries u (entriesIn (readMap s.now).map))) result }
+        (sift stays (run (waiting_in (read_map s.now).map)) (put_entries u (entries_in (read_map s.now).map))) result }
 {
     if q.len == 0 {
         let none = Queue::none();

@@ -1,10 +1,10 @@
 // Both validations and the guard over images, and the numbers that they and the count carry.
 ghost use Rattle.std.specs.Prelude.{◌≡◌};
-ghost use Rattle.asking.specs.Asking.{orderNumber, orderStart, orderEnd, spentNumber};
-ghost use Rattle.promises.specs.Calls.{spentActor, spentCounter, spentOurs, spentTheirs};
+ghost use Rattle.asking.specs.Asking.{order_number, order_start, order_end, spent_number};
+ghost use Rattle.promises.specs.Calls.{spent_actor, spent_counter, spent_ours, spent_theirs};
 ghost use Rattle.promises.specs.Promises.{LenCountPromise};
-ghost use Rattle.readiness.specs.Ready.{readyNumber, readyActor, readyCounter};
-ghost use Rattle.verdicts.specs.Verdicts.{opVerdict, mergeVerdict, readyVerdict};
+ghost use Rattle.readiness.specs.Ready.{ready_number, ready_actor, ready_counter};
+ghost use Rattle.verdicts.specs.Verdicts.{op_verdict, merge_verdict, ready_verdict};
 
 use asking::{CmRDTValidation, CvRDTValidation};
 use readiness::Readiness;
@@ -31,7 +31,7 @@ pub struct ReadyVerdict {
 }
 
 fn order_number(o: CmRDTValidation) -> u8
-    ensures { result ≡ orderNumber o }
+    ensures { result ≡ order_number o }
 {
     match o {
         CmRDTValidation::Fits => 0,
@@ -40,7 +40,7 @@ fn order_number(o: CmRDTValidation) -> u8
 }
 
 pub fn order_start(o: CmRDTValidation) -> u64
-    ensures { result ≡ orderStart o }
+    ensures { result ≡ order_start o }
 {
     match o {
         CmRDTValidation::Fits => 0,
@@ -49,7 +49,7 @@ pub fn order_start(o: CmRDTValidation) -> u64
 }
 
 pub fn order_end(o: CmRDTValidation) -> u64
-    ensures { result ≡ orderEnd o }
+    ensures { result ≡ order_end o }
 {
     match o {
         CmRDTValidation::Fits => 0,
@@ -58,7 +58,7 @@ pub fn order_end(o: CmRDTValidation) -> u64
 }
 
 fn spent_number(s: CvRDTValidation) -> u8
-    ensures { result ≡ spentNumber s }
+    ensures { result ≡ spent_number s }
 {
     match s {
         CvRDTValidation::Once => 0,
@@ -67,7 +67,7 @@ fn spent_number(s: CvRDTValidation) -> u8
 }
 
 pub fn spent_actor(s: CvRDTValidation) -> u64
-    ensures { result ≡ spentActor s }
+    ensures { result ≡ spent_actor s }
 {
     match s {
         CvRDTValidation::Once => 0,
@@ -76,7 +76,7 @@ pub fn spent_actor(s: CvRDTValidation) -> u64
 }
 
 pub fn spent_counter(s: CvRDTValidation) -> u64
-    ensures { result ≡ spentCounter s }
+    ensures { result ≡ spent_counter s }
 {
     match s {
         CvRDTValidation::Once => 0,
@@ -85,7 +85,7 @@ pub fn spent_counter(s: CvRDTValidation) -> u64
 }
 
 pub fn spent_ours(s: CvRDTValidation) -> u64
-    ensures { result ≡ spentOurs s }
+    ensures { result ≡ spent_ours s }
 {
     match s {
         CvRDTValidation::Once => 0,
@@ -94,7 +94,7 @@ pub fn spent_ours(s: CvRDTValidation) -> u64
 }
 
 pub fn spent_theirs(s: CvRDTValidation) -> u64
-    ensures { result ≡ spentTheirs s }
+    ensures { result ≡ spent_theirs s }
 {
     match s {
         CvRDTValidation::Once => 0,
@@ -103,7 +103,7 @@ pub fn spent_theirs(s: CvRDTValidation) -> u64
 }
 
 fn ready_number(g: Readiness) -> u8
-    ensures { result ≡ readyNumber g }
+    ensures { result ≡ ready_number g }
 {
     match g {
         Readiness::Next => 0,
@@ -114,7 +114,7 @@ fn ready_number(g: Readiness) -> u8
 }
 
 pub fn ready_actor(g: Readiness) -> u64
-    ensures { result ≡ readyActor g }
+    ensures { result ≡ ready_actor g }
 {
     match g {
         Readiness::Next => 0,
@@ -125,7 +125,7 @@ pub fn ready_actor(g: Readiness) -> u64
 }
 
 pub fn ready_counter(g: Readiness) -> u64
-    ensures { result ≡ readyCounter g }
+    ensures { result ≡ ready_counter g }
 {
     match g {
         Readiness::Next => 0,
@@ -136,7 +136,7 @@ pub fn ready_counter(g: Readiness) -> u64
 }
 
 pub fn op(map: &[u8], op: &[u8]) -> OpVerdict
-    ensures { result ≡ opVerdict map.now op.now }
+    ensures { result ≡ op_verdict map.now op.now }
 {
     let l = layout::lay_out(map);
     if l.number != 0 {
@@ -160,7 +160,7 @@ pub fn op(map: &[u8], op: &[u8]) -> OpVerdict
 }
 
 pub fn ready(map: &[u8], op: &[u8]) -> ReadyVerdict
-    ensures { result ≡ readyVerdict map.now op.now }
+    ensures { result ≡ ready_verdict map.now op.now }
 {
     let l = layout::lay_out(map);
     if l.number != 0 {
@@ -184,7 +184,7 @@ pub fn ready(map: &[u8], op: &[u8]) -> ReadyVerdict
 }
 
 pub fn merge(map: &[u8], other: &[u8]) -> MergeVerdict
-    ensures { result ≡ mergeVerdict map.now other.now }
+    ensures { result ≡ merge_verdict map.now other.now }
 {
     let l = layout::lay_out(map);
     if l.number != 0 {

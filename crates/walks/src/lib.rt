@@ -1,9 +1,9 @@
 // Walks along an image's records, section by section: how far a run of dots goes, the values of a key, the entries, what waits.
 ghost use Rattle.std.specs.Prelude.{◌≡◌, [], ℕ, ◌+◌, ◌*◌, ◌≤◌, ◌<◌, length, replicate};
-ghost use Rattle.limits.specs.Limits.{dotLimit, valueLimit, entryLimit, waitingLimit};
-ghost use Rattle.clock.specs.Dots.{dotsOf};
-ghost use Rattle.walks.specs.Walk.{part, fieldOf, dotTest, ownTest, valueTest, runEnd, valuesEnd, entriesEnd, Sections, Splits, waitsEnd};
-ghost use Rattle.walks.specs.Walk.{keyTest, keysGood};
+ghost use Rattle.limits.specs.Limits.{dot_limit, value_limit, entry_limit, waiting_limit};
+ghost use Rattle.clock.specs.Dots.{dots_of};
+ghost use Rattle.walks.specs.Walk.{part, field_of, dot_test, own_test, value_test, run_end, values_end, entries_end, Sections, Splits, waits_end};
+ghost use Rattle.walks.specs.Walk.{key_test, keys_good};
 
 use clock::Clock;
 use limits::{DOTS, ENTRIES, KEYS, VALUES, WAITING};
@@ -26,21 +26,21 @@ pub fn lower(a: usize, b: usize) -> usize
 
 // Whether a record is a dot's of this kind, index and key.
 pub fn dot_test(kind: u8, index: u8, key: u32, r: Record) -> bool
-    ensures { result ≡ dotTest kind index key r }
+    ensures { result ≡ dot_test kind index key r }
 {
     (r.kind == kind) & ((r.index == index) & ((r.key == key) & (0 < r.number)))
 }
 
 // The same of an entry's dot, which the map clock covers.
 pub fn own_test(clock: Clock, key: u32, r: Record) -> bool
-    ensures { result ≡ ownTest (dotsOf clock) key r }
+    ensures { result ≡ own_test (dots_of clock) key r }
 {
     let seen = clock.get(r.actor);
     dot_test(ENTRY_DOT, 0, key, r) & (r.number <= seen)
 }
 
 pub fn value_test(key: u32, index: u8, r: Record) -> bool
-    ensures { result ≡ valueTest key index r }
+    ensures { result ≡ value_test key index r }
 {
     (r.kind == VALUE) & ((r.index == index) & (r.key == key))
 }
@@ -48,7 +48,7 @@ pub fn value_test(key: u32, index: u8, r: Record) -> bool
 // How many dots of one kind, index and key stand from `at` on: at most as many as a clock holds, actors ascend.
 pub fn run_end(s: &[u8], at: usize, end: usize, kind: u8, index: u8, key: u32) -> usize
     requires { (at ≤ end) × (end * 16 ≤ length s.now) }
-    ensures { (result ≡ runEnd (dotTest kind index key) 0 dotLimit 0 (part s.now at end)) × ((at + result ≤ end) × (result ≤ dotLimit)) }
+    ensures { (result ≡ run_end (dot_test kind index key) 0 dot_limit 0 (part s.now at end)) × ((at + result ≤ end) × (result ≤ dot_limit)) }
 {
     let top = lower(DOTS, end - at);
     let mut low: u32 = 0;
@@ -68,7 +68,7 @@ pub fn run_end(s: &[u8], at: usize, end: usize, kind: u8, index: u8, key: u32) -
 // The same of an entry's dots, which the map clock covers.
 pub fn own_end(s: &[u8], at: usize, end: usize, key: u32, clock: Clock) -> usize
     requires { (at ≤ end) × (end * 16 ≤ length s.now) }
-    ensures { (result ≡ runEnd (ownTest (dotsOf clock) key) 0 dotLimit 0 (part s.now at end)) × (at + result ≤ end) }
+    ensures { (result ≡ run_end (own_test (dots_of clock) key) 0 dot_limit 0 (part s.now at end)) × (at + result ≤ end) }
 {
     let top = lower(DOTS, end - at);
     let mut low: u32 = 0;
@@ -88,7 +88,7 @@ pub fn own_end(s: &[u8], at: usize, end: usize, key: u32, clock: Clock) -> usize
 // How many values of a key stand from `at` on, and how many dots they have from `dots` on: no more than a register holds, each with a dot.
 pub fn values_end(s: &[u8], at: usize, end: usize, dots: usize, last: usize, key: u32) -> Passed
     requires { (at ≤ end) × ((end * 16 ≤ length s.now) × ((dots ≤ last) × (last * 16 ≤ length s.now))) }
-    ensures { (result ≡ valuesEnd key valueLimit 0 0 (part s.now at end) (part s.now dots last))
+    ensures { (result ≡ values_end key value_limit 0 0 (part s.now at end) (part s.now dots last))
         × ((at + result.values ≤ end) × (dots + result.dots ≤ last)) }
 {
     let top = lower(VALUES, end - at);
@@ -136,7 +136,7 @@ pub struct Layout {
 // How many entries there are; one more than there can be where they are no good.
 pub fn count_entries(s: &[u8], l: Layout, clock: Clock) -> usize
     requires { Sections (length s.now) l }
-    ensures { result ≡ entriesEnd (dotsOf clock) entryLimit 0 0 (part s.now l.second l.third)
+    ensures { result ≡ entries_end (dots_of clock) entry_limit 0 0 (part s.now l.second l.third)
         (part s.now l.third l.fourth) (part s.now l.fourth l.fifth) }
 {
     let third = l.third;
@@ -172,7 +172,7 @@ pub fn count_entries(s: &[u8], l: Layout, clock: Clock) -> usize
 // How many removals wait; one more than there can be where their clocks are no good.
 pub fn count_waiting(s: &[u8], l: Layout) -> usize
     requires { Sections (length s.now) l }
-    ensures { result ≡ waitsEnd waitingLimit 0 [] (part s.now l.fifth l.sixth) }
+    ensures { result ≡ waits_end waiting_limit 0 [] (part s.now l.fifth l.sixth) }
 {
     let sixth = l.sixth;
     let mut at = l.fifth;
@@ -194,15 +194,15 @@ pub fn count_waiting(s: &[u8], l: Layout) -> usize
 }
 
 pub fn key_test(n: usize, r: Record) -> bool
-    ensures { result ≡ keyTest n r }
+    ensures { result ≡ key_test n r }
 {
     (r.kind == WAITING_KEY) & ((r.actor == 0) & ((r.number == 0) & ((r.index as usize) < n)))
 }
 
 // Whether the waiting keys ascend, each under one of n removals, none of which has too many.
 pub fn keys_good(s: &[u8], at: usize, end: usize, n: usize) -> bool
-    requires { (at ≤ end) × ((end * 16 ≤ length s.now) × (n ≤ waitingLimit)) }
-    ensures { result ≡ keysGood n (replicate waitingLimit 0) 0 (part s.now at end) }
+    requires { (at ≤ end) × ((end * 16 ≤ length s.now) × (n ≤ waiting_limit)) }
+    ensures { result ≡ keys_good n (replicate waiting_limit 0) 0 (part s.now at end) }
 {
     let mut counts: [usize; WAITING] = [0; WAITING];
     let mut low: u64 = 0;
@@ -236,7 +236,7 @@ pub const BY_KEY: u8 = 1;
 pub const BY_INDEX: u8 = 2;
 
 pub fn field_of(field: u8, r: Record) -> u64
-    ensures { result ≡ fieldOf field r }
+    ensures { result ≡ field_of field r }
 {
     if field == BY_KIND {
         return r.kind as u64;

@@ -2,8 +2,8 @@
 use mathlib.Core.Path.{◌≡◌, refl, sym, ◌∙◌}
 use Prim.Native.Nat.{◌≤◌, ◌-◌}
 use lib.ListN.{drop}
-use Rattle.clock.specs.Dots.{noDot, dotsOf}
-use Rattle.advance.specs.Advancing.{risingDots}
+use Rattle.clock.specs.Dots.{no_dot, dots_of}
+use Rattle.advance.specs.Advancing.{rising_dots}
 use Rattle.advance.proofs.Risings.{rising-stops, rising-goes, rising-end}
 use borrow.Author.Rules.{rules}
 use native.Mathlib.Omega.{arith}
@@ -11,7 +11,7 @@ use Rattle.advance.proofs.rises.Statement.{statement}
 use Rattle.advance.proofs.rises.Tie as tie
 
 abbrev invariant-loop : tie.invariant-loop
-invariant-loop clock n low₀ i₀ low i = (i ≤ n) × (risingDots 0 (dotsOf clock) ≡ risingDots low (drop i (dotsOf clock)))
+invariant-loop clock n low₀ i₀ low i = (i ≤ n) × (rising_dots 0 (dots_of clock) ≡ rising_dots low (drop i (dots_of clock)))
 
 abbrev decreases-loop : tie.decreases-loop
 decreases-loop clock n low₀ i₀ low i = n - i
@@ -23,19 +23,19 @@ returns : tie.Need-returns invariant-loop decreases-loop
 returns c =
     let s = c.before.before.before.before.before in
     let a = s.before.before.args in
-    rising-stops a.t1.dots a.t1.len s.loop.i s.loop.low noDot (omega arith) s.loop.invariant.1 c.if1.true
+    rising-stops a.t1.dots a.t1.len s.loop.i s.loop.low no_dot (omega arith) s.loop.invariant.1 c.if1.true
 
 loop-again : tie.Need-loop-preserved invariant-loop decreases-loop
 loop-again c =
     let s = c.before.before.before.before.before in
     let a = s.before.before.args in
-    (omega arith, rising-goes a.t1.dots a.t1.len s.loop.i s.loop.low noDot (omega arith) s.loop.invariant.1 c.if1.false)
+    (omega arith, rising-goes a.t1.dots a.t1.len s.loop.i s.loop.low no_dot (omega arith) s.loop.invariant.1 c.if1.false)
 
 returns-2 : tie.Need-returns-2 invariant-loop decreases-loop
 returns-2 c =
     let s = c.before in
     let a = s.before.before.args in
-    sym (s.loop.invariant.1 ∙ rising-end (dotsOf a.t1) s.loop.i s.loop.low (omega arith))
+    sym (s.loop.invariant.1 ∙ rising-end (dots_of a.t1) s.loop.i s.loop.low (omega arith))
 
 pub rises-spec : {M : Type 1} → statement M
 rises-spec =

@@ -3,8 +3,8 @@ use mathlib.Core.Path.{◌≡◌}
 use Prim.Native.Nat.{◌+◌, ◌*◌, ◌≤◌, ◌-◌}
 use lib.ListN.{drop}
 use Rattle.register.specs.Values.{values_of}
-use Rattle.register.proofs.Packs.{noneRead}
-use Rattle.answers.specs.Sizes.{valueMost, valueSize}
+use Rattle.register.proofs.Packs.{none_read}
+use Rattle.answers.specs.Sizes.{value_most, value_size}
 use Rattle.listlaws.specs.Fold.{total_of}
 use Rattle.answers.proofs.Totals.{total-on, total-end}
 use borrow.Author.Rules.{rules}
@@ -13,8 +13,8 @@ use Rattle.answers.proofs.count_values.Statement.{statement}
 use Rattle.answers.proofs.count_values.Tie as tie
 
 abbrev invariant-loop : tie.invariant-loop
-invariant-loop register n total₀ i₀ total i = (i ≤ n) × ((total ≤ i * valueMost)
-    × (total + total_of valueSize (drop i (values_of register)) ≡ total_of valueSize (values_of register)))
+invariant-loop register n total₀ i₀ total i = (i ≤ n) × ((total ≤ i * value_most)
+    × (total + total_of value_size (drop i (values_of register)) ≡ total_of value_size (values_of register)))
 
 abbrev decreases-loop : tie.decreases-loop
 decreases-loop register n total₀ i₀ total i = n - i
@@ -26,14 +26,14 @@ loop-again : tie.Need-loop-preserved invariant-loop decreases-loop
 loop-again c =
     let s = c.before.before.before.before in
     let a = s.before.before.args in
-    let e = total-on valueSize a.t1.values a.t1.len s.loop.i noneRead (omega arith) in
+    let e = total-on value_size a.t1.values a.t1.len s.loop.i none_read (omega arith) in
     (omega arith, (omega arith, omega arith))
 
 returns : tie.Need-returns invariant-loop decreases-loop
 returns c =
     let s = c.before in
     let a = s.before.before.args in
-    let e = total-end valueSize (values_of a.t1) s.loop.i (omega arith) in
+    let e = total-end value_size (values_of a.t1) s.loop.i (omega arith) in
     (omega arith, omega arith)
 
 pub count-values-spec : {M : Type 1} → statement M

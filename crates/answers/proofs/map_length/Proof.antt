@@ -1,6 +1,6 @@
 -- `map_length` meets its contract.
 use native.Mathlib.Omega.{arith}
-use Rattle.answers.specs.Sizes.{mapSize}
+use Rattle.answers.specs.Sizes.{map_size}
 use borrow.Author.Rules.{rules}
 use Rattle.answers.proofs.map_length.Statement.{statement}
 use Rattle.answers.proofs.map_length.Tie as tie
@@ -29,7 +29,7 @@ mul-result : tie.Need-overflow-mul-result
 mul-result c = search rules
 
 returns : tie.Need-returns
-unfolding mapSize
+unfolding map_size
 returns c = (omega arith, (omega arith, c.count-waiting.ensures.1.1))
 
 pub map-length-spec : {M : Type 1} → statement M

@@ -1,11 +1,11 @@
 -- `get` meets its contract.
-use Rattle.asking.specs.Asking.{readKey}
+use Rattle.asking.specs.Asking.{read_key}
 use borrow.Author.Rules.{rules}
 use Rattle.asking.proofs.get.Statement.{statement}
 use Rattle.asking.proofs.get.Tie as tie
 
 returns : tie.Need-returns
-unfolding readKey
+unfolding read_key
 returns c = rw (c.before.only.ensures, c.new.ensures)
 
 pub get_spec : {M : Type 1} → statement M

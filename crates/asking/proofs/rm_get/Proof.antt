@@ -2,12 +2,12 @@
 use mathlib.Core.Path.{◌≡◌, ap, ◌∙◌}
 use mathlib.Core.Bool.{false}
 use mathlib.Core.List.{[], ◌∷◌}
-use Rattle.clock.specs.Dots.{clockOf}
-use Rattle.entries.specs.Model.{dotsIn, noUpdate}
-use Rattle.removals.specs.Model.{keysAs}
+use Rattle.clock.specs.Dots.{clock_of}
+use Rattle.entries.specs.Model.{dots_in, no_update}
+use Rattle.removals.specs.Model.{keys_as}
 use Rattle.entries.proofs.Puts.{at_every}
 use Rattle.entries.proofs.Packs.{dots-in}
-use Rattle.map.specs.Model.{entriesIn}
+use Rattle.map.specs.Model.{entries_in}
 use Rattle.asking.proofs.Askings.{clock-at}
 use borrow.Author.Rules.{rules}
 use Rattle.asking.proofs.rm_get.Statement.{statement}
@@ -18,10 +18,10 @@ returns c =
     let z = c.before.before in
     let m = z.args.map in
     let k = z.args.key in
-    let laid = at_every (λ e. e.clock ≡ clockOf (dotsIn e)) k (entriesIn m) (λ e i q. ap (λ x. x.clock) (z.requires.valid.entries.each e i).laid)
+    let laid = at_every (λ e. e.clock ≡ clock_of (dots_in e)) k (entries_in m) (λ e i q. ap (λ x. x.clock) (z.requires.valid.entries.each e i).laid)
     (rw (dots-in k [] [])) in
-    c.rm.ensures ∙ ap (λ x. record { up = false; removal = record { clock = x; keys = keysAs (k ∷ []) }; update = noUpdate })
-    (ap (λ e. e.clock) c.before.at.ensures ∙ laid ∙ ap clockOf (clock-at m k))
+    c.rm.ensures ∙ ap (λ x. record { up = false; removal = record { clock = x; keys = keys_as (k ∷ []) }; update = no_update })
+    (ap (λ e. e.clock) c.before.at.ensures ∙ laid ∙ ap clock_of (clock-at m k))
 
 pub rm-get-spec : {M : Type 1} → statement M
 rm-get-spec =

@@ -1,9 +1,9 @@
 -- `validate_merge` meets its contract: the loop looks for an entry of ours that shares a dot.
 use mathlib.Core.Path.{sym, ◌∙◌}
 use Prim.Native.Nat.{◌≤◌, ◌-◌}
-use Rattle.entries.specs.Model.{entriesOf}
-use Rattle.entries.proofs.Packs.{noneRead}
-use Rattle.asking.specs.Asking.{spentBy, firstSpent, validateMerge}
+use Rattle.entries.specs.Model.{entries_of}
+use Rattle.entries.proofs.Packs.{none_read}
+use Rattle.asking.specs.Asking.{spent_by, first_spent, validate_merge}
 use Rattle.asking.proofs.Askings.{Searching, searching-start, searching-here, searching-on, searching-end}
 use borrow.Author.Rules.{rules}
 use native.Mathlib.Omega.{arith}
@@ -11,7 +11,7 @@ use Rattle.asking.proofs.validate_merge.Statement.{statement}
 use Rattle.asking.proofs.validate_merge.Tie as tie
 
 abbrev invariant-loop : tie.invariant-loop
-invariant-loop ours theirs n i₀ i = (i ≤ n) × Searching (λ e. firstSpent (spentBy e) (entriesOf theirs)) ours.items ours.len i
+invariant-loop ours theirs n i₀ i = (i ≤ n) × Searching (λ e. first_spent (spent_by e) (entries_of theirs)) ours.items ours.len i
 
 abbrev decreases-loop : tie.decreases-loop
 decreases-loop ours theirs n i₀ i = n - i
@@ -20,22 +20,22 @@ loop-holds : tie.Need-loop-init invariant-loop decreases-loop
 loop-holds c = (search rules, searching-start)
 
 returns : tie.Need-returns invariant-loop decreases-loop
-unfolding validateMerge
+unfolding validate_merge
 returns c =
     let t = c.before in
     let b = t.before in
     let s = b.before.before.before in
-    searching-here noneRead s.loop.invariant.1 (omega arith) b.spent-among.ensures (sym t.twice.ensures ∙ c.if1.true)
+    searching-here none_read s.loop.invariant.1 (omega arith) b.spent-among.ensures (sym t.twice.ensures ∙ c.if1.true)
 
 loop-again : tie.Need-loop-preserved invariant-loop decreases-loop
 loop-again c =
     let t = c.before in
     let b = t.before in
     let s = b.before.before.before in
-    (search rules, searching-on noneRead s.loop.invariant.1 (omega arith) b.spent-among.ensures (sym t.twice.ensures ∙ c.if1.false))
+    (search rules, searching-on none_read s.loop.invariant.1 (omega arith) b.spent-among.ensures (sym t.twice.ensures ∙ c.if1.false))
 
 returns-2 : tie.Need-returns-2 invariant-loop decreases-loop
-unfolding validateMerge
+unfolding validate_merge
 returns-2 c = searching-end c.before.loop.invariant.1 (omega arith)
 
 pub validate-merge-spec : {M : Type 1} → statement M

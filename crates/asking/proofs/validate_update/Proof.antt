@@ -1,13 +1,13 @@
 -- `validate_update` meets its contract.
 use mathlib.Core.Path.{◌∙◌}
-use Rattle.asking.specs.Asking.{validateUpdate}
+use Rattle.asking.specs.Asking.{validate_update}
 use Rattle.asking.proofs.Askings.{clock-at}
 use borrow.Author.Rules.{rules}
 use Rattle.asking.proofs.validate_update.Statement.{statement}
 use Rattle.asking.proofs.validate_update.Tie as tie
 
 returns : tie.Need-returns
-unfolding validateUpdate
+unfolding validate_update
 returns c =
     let z = c.before.before.args in
     c.follow.ensures ∙ rw (c.before.at.ensures, clock-at z.map z.u.key)

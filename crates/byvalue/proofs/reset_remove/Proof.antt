@@ -1,7 +1,7 @@
 -- `reset_remove` meets its contract: each way out is a law of `Ways`.
 use mathlib.Core.Path.{ap, ap₂, sym, ◌∙◌}
 use Rattle.maprecords.specs.declared.ReadMap.{ReadMap}
-use Rattle.clock.specs.Dots.{dotsOf}
+use Rattle.clock.specs.Dots.{dots_of}
 use Rattle.clockimage.specs.declared.ReadClock.{ReadClock}
 use Rattle.map.specs.Judging.{judged}
 use Rattle.map.specs.Resetting.{reset}
@@ -38,7 +38,7 @@ returns-3 c =
     let o = s.read-clock.ensures in
     map-out _ _ (sym (ap (λ (r : ReadMap). r.number) m) ∙ s.before.if1.false)
     (sym (ap (λ (r : ReadClock). r.number) o) ∙ c.before.before.before.before.before.if2.false)
-    (c.before.before.before.before.reset-remove.ensures ∙ ap₂ (λ (m : ReadMap) (k : ReadClock). judged (reset m.map (dotsOf k.clock))) m
+    (c.before.before.before.before.reset-remove.ensures ∙ ap₂ (λ (m : ReadMap) (k : ReadClock). judged (reset m.map (dots_of k.clock))) m
     o) c.before.before.give-map.ensures
 
 pub reset-remove-spec : {M : Type 1} → statement M

@@ -44,7 +44,7 @@ use denote.Triple.Spec.{Meets, triple_of}
 use denote.Triple.Table.{entered, cited}
 use denote.Triple.Walked.{says, Stays, stay_ref, stay_none, walk_of, AllGo, Goes-none, Goes-ref, Walks, ends_at, walked, walk_Meets}
 use denote.Exit.{yes}
-use Rattle.advance.specs.Advancing.{advancedOf}
+use Rattle.advance.specs.Advancing.{advanced_of}
 use Rattle.advance.proofs.Advances.{as-given}
 use Rattle.clock.specs.declared.Clock.{Clock}
 use Rattle.advance.specs.declared.Advanced.{Advanced}
@@ -117,10 +117,10 @@ module _ {M : Type 1} {𝓤 : Ura M} (𝓛 : Logic 𝓤) (at_mem : Memory → SP
 
   -- of `advance`'s `ensured`, the clause alone
   advanced-of : (r : Advanced) → ent 𝓤 (ensured 𝓛 advance.ended (advance.clauses 𝓛 at_mem run) tt (h, (n, (m, tt))) tt r)
-      (fact 𝓤 (r ≡ advancedOf h n m))
-  advanced-of r = ex_e 𝓤 _ (λ ws. snd∗ 𝓤 (sem 𝓛 (lasts advance.ended tt (h, (n, (m, tt))) ws)) (fact 𝓤 (r ≡ advancedOf h n m)))
+      (fact 𝓤 (r ≡ advanced_of h n m))
+  advanced-of r = ex_e 𝓤 _ (λ ws. snd∗ 𝓤 (sem 𝓛 (lasts advance.ended tt (h, (n, (m, tt))) ws)) (fact 𝓤 (r ≡ advanced_of h n m)))
 
-  exits : (r : Advanced) (left : Clock) → r.word ≡ (advancedOf h n m).word → left ≡ (advancedOf h n m).clock → r.word < 2 ^ 64
+  exits : (r : Advanced) (left : Clock) → r.word ≡ (advanced_of h n m).word → left ≡ (advanced_of h n m).clock → r.word < 2 ^ 64
       → ent 𝓤 (sep 𝓤 (A.obs γ ((T.the_row).coded.code left)) (sep 𝓤 (A.bor κ (Body (mem T.the_row) b o γ)) (A.lft κ q)))
       (Post (vint w64 r.word))
   exits r left e g fits =
@@ -154,7 +154,7 @@ module _ {M : Type 1} {𝓤 : Ura M} (𝓛 : Logic 𝓤) (at_mem : Memory → SP
         (and_then ! (load ! (from ! (stop !)) (look ! 14 refl)) (and_then ! (load ! (from ! (stop !)) (look ! 12 refl)) (no_more !)))) (λ v.
         use1 𝓛 (later (some (λ (r : Advanced). (‵ ftrue ⊛ ‵ ((S.the_row).own_val r (v ∷ []))) ⊛ raw
         (ensured 𝓛 advance.ended (advance.clauses 𝓛 at_mem run) tt (h, (n, (m, tt))) tt r)))) (id⊢ 𝓤 _) $ await ! tt $ pick ! (λ r.
-        split ! $ move ! (1 ∷ []) $ use1 𝓛 (raw (fact 𝓤 (r ≡ advancedOf h n m))) (advanced-of r) $ heard ! (r ≡ advancedOf h n m)
+        split ! $ move ! (1 ∷ []) $ use1 𝓛 (raw (fact 𝓤 (r ≡ advanced_of h n m))) (advanced-of r) $ heard ! (r ≡ advanced_of h n m)
         (λ e. split ! $ drop ! $
         peeks ! S.the_row (Is S.the_row) (shows 𝓛 S.the_row) r (v ∷ []) (λ is. drop ! $
         -- [the clock's cell; what a Clock owns; the open borrow; obs; auth; room for _6; …; room for _5; …; _4; …; _3; …; _2; …; _1; …;

@@ -56,10 +56,10 @@ use denote.Triple.Table.{entered, cited}
 use denote.Triple.Walked.{says, Stays, stay_ref, stay_none_slice, walk_of, AllGo, Goes-none_slice, Goes-ref, Walks, ends_at, walked, walk_Meets}
 use denote.Exit.{yes}
 use Rattle.clock.specs.declared.Clock.{Clock}
-use Rattle.clock.specs.Dots.{clockOf}
+use Rattle.clock.specs.Dots.{clock_of}
 use Rattle.flooring.specs.declared.Floored.{Floored}
-use Rattle.flooring.specs.Floor.{floorNumber, flooredClock}
-use Rattle.flooring.specs.Steps.{peersRead, begunOf, next_of, flooredTo, flooredAll}
+use Rattle.flooring.specs.Floor.{floor_number, floored_clock}
+use Rattle.flooring.specs.Steps.{peers_read, begun_of, next_of, floored_to, floored_all}
 use Rattle.flooring.proofs.Walks.{floor-start, floor-many, floor-next, read-within}
 use Rattle.flooring.proofs.Lowering.{floor-word, floor-stored, floor-kept}
 use Rattle.clock.specs.contracts.Clock as T
@@ -105,8 +105,8 @@ many-fits r vs is = (LL.owed S.the_type S'.the_laws r vs is).1.0.1
 hand-is : (r s : Floored) (v : Val) → r ≡ s → Is S.the_row r (v ∷ []) → Is S.the_row s (hand s ∷ [])
 hand-is r s v e is = subst (λ (t : Floored). Is S.the_row t (hand t ∷ [])) e (subst (Is S.the_row r) (LL.tells S.the_type S'.the_laws r _ is) is)
 
-abbrev noClock : Clock
-noClock = clockOf []
+abbrev no_clock : Clock
+no_clock = clock_of []
 
 -- the types of the locals, and the code of a turn and of what follows the loop
 abbrev word : Ty
@@ -159,10 +159,10 @@ module _ {M : Type 1} {𝓤 : Ura M} (𝓛 : Logic 𝓤) (at_mem : Memory → SP
   n = length ys
 
   abbrev m : ℕ
-  m = peersRead n
+  m = peers_read n
 
   abbrev peer : ℕ → Clock
-  peer i = get_or ys i noClock
+  peer i = get_or ys i no_clock
 
   abbrev s : Bor (List Clock)
   s = record { ref_ptr = (b, o); ghost_name = γ; now = ys }
@@ -195,7 +195,7 @@ module _ {M : Type 1} {𝓤 : Ura M} (𝓛 : Logic 𝓤) (at_mem : Memory → SP
   abbrev Bor : Fml
   Bor = fbor κ' (Body (mem T.the_row) b' o' γ')
 
-  exits : (word : ℕ) (left : Clock) → word ≡ floorNumber ys * 2 ^ 32 → left ≡ flooredClock ys h → word < 2 ^ 64
+  exits : (word : ℕ) (left : Clock) → word ≡ floor_number ys * 2 ^ 32 → left ≡ floored_clock ys h → word < 2 ^ 64
       → ent 𝓤 (⋆ 𝓛 (‵ (Obs left) ∷ ‵ Bor ∷ ‵ (flft κ' q') ∷ ‵ (flft κ q) ∷ ‵ Own ∷ [])) (Post (vint w64 word))
   exits word left e g fits =
       qed 𝓛 (‵ (Obs left) ∷ ‵ Bor ∷ ‵ (flft κ' q') ∷ ‵ (flft κ q) ∷ ‵ Own ∷ []) ∵
@@ -214,8 +214,8 @@ module _ {M : Type 1} {𝓤 : Ura M} (𝓛 : Logic 𝓤) (at_mem : Memory → SP
   goes-begin fits =
       qed 𝓛 [] ∵ nothing ! $ owned ! usize (Is usize) (uint_Makes 𝓛 w64) n _ (refl, fits) $ fjoin ! $ nothing ! $ join ! $ frame ! $ done !
 
-  begun : (r : Floored) → ent 𝓤 (ensured 𝓛 begin.ended (begin.clauses 𝓛 at_mem run) tt (n, tt) tt r) (fact 𝓤 (r ≡ begunOf n))
-  begun r = ex_e 𝓤 _ (λ ws. snd∗ 𝓤 (sem 𝓛 (lasts begin.ended tt (n, tt) ws)) (fact 𝓤 (r ≡ begunOf n)))
+  begun : (r : Floored) → ent 𝓤 (ensured 𝓛 begin.ended (begin.clauses 𝓛 at_mem run) tt (n, tt) tt r) (fact 𝓤 (r ≡ begun_of n))
+  begun r = ex_e 𝓤 _ (λ ws. snd∗ 𝓤 (sem 𝓛 (lasts begin.ended tt (n, tt) ws)) (fact 𝓤 (r ≡ begun_of n)))
 
   module _ (r : Floored) (peer : Clock) where
     abbrev to-next : (Nexts 𝓛 at_mem run).Ghost
@@ -256,14 +256,14 @@ module _ {M : Type 1} {𝓤 : Ura M} (𝓛 : Logic 𝓤) (at_mem : Memory → SP
 
     abbrev All : Clock → ℕ → Fml → Fml → List (Item 𝓤)
     All left i test test' = ‵ (Obs left) ∷ ‵ Bor ∷ ‵ (flft κ' q') ∷ ‵ Frac ∷ ‵ (flft κ q) ∷ ‵ (fat full_share word l₅ 0 (vint w64 i))
-        ∷ ‵ (fat full_share S'.mir l₃ 0 (hand (flooredTo ys i))) ∷ ‵ test ∷ Rest test'
+        ∷ ‵ (fat full_share S'.mir l₃ 0 (hand (floored_to ys i))) ∷ ‵ test ∷ Rest test'
 
     -- i peers are read
     abbrev At : ℕ → List (Item 𝓤)
     At i = All h i (froom ty_bool l₈ 0) (froom ty_bool l₁₂ 0)
 
     abbrev Facts : ℕ → ℕ → Type 0
-    Facts t i = (i + t ≡ m) × Is S.the_row (flooredTo ys i) (hand (flooredTo ys i) ∷ [])
+    Facts t i = (i + t ≡ m) × Is S.the_row (floored_to ys i) (hand (floored_to ys i) ∷ [])
 
     -- the invariant, where t peers are left
     abbrev Inv : ℕ → SProp 𝓤
@@ -276,8 +276,8 @@ module _ {M : Type 1} {𝓤 : Ura M} (𝓛 : Logic 𝓤) (at_mem : Memory → SP
     Left = after_block 𝓤 H (after_seq 𝓤 H (Wp 𝓤 H C Λ En rest (at_return 𝓤 H En Post)) (at_return 𝓤 H En Post))
 
     -- a turn that reads a peer
-    more : (i : ℕ) (X : SProp 𝓤) → i < m → Is S.the_row (flooredTo ys i) (hand (flooredTo ys i) ∷ [])
-        → (Is S.the_row (flooredTo ys (i + 1)) (hand (flooredTo ys (i + 1)) ∷ []) → ent 𝓤 (⋆ 𝓛 (At (i + 1))) X)
+    more : (i : ℕ) (X : SProp 𝓤) → i < m → Is S.the_row (floored_to ys i) (hand (floored_to ys i) ∷ [])
+        → (Is S.the_row (floored_to ys (i + 1)) (hand (floored_to ys (i + 1)) ∷ []) → ent 𝓤 (⋆ 𝓛 (At (i + 1))) X)
         → ent 𝓤 (⋆ 𝓛 (At i)) (Wp 𝓤 H C Λ En turn (after_turn 𝓤 H X Left))
     unfolding after_turn
     more i X small r-is k =
@@ -294,31 +294,31 @@ module _ {M : Type 1} {𝓤 : Ura M} (𝓛 : Logic 𝓤) (at_mem : Memory → SP
         rewrite ! 9 (λ (p : ℕ). ‵ (fat full_share ty_ptr l₁₀ 0 (vptr b p))) (sym (place_is (mem T.the_row).size o i)) refl $
         move ! (3 ∷ 4 ∷ []) $ looks_slice ! tt T.the_row (Is T.the_row) (shows 𝓛 T.the_row) (LL.vals T.the_type T'.the_laws)
         (LL.tells T.the_type T'.the_laws) (LL.copy T.the_type T'.the_copy 𝓛) ys b o (λ p. elem_out ! T.the_row (Is T.the_row)
-        (shows 𝓛 T.the_row) (LL.vals T.the_type T'.the_laws) (LL.tells T.the_type T'.the_laws) p ys i noClock b o within (λ peer-is.
+        (shows 𝓛 T.the_row) (LL.vals T.the_type T'.the_laws) (LL.tells T.the_type T'.the_laws) p ys i no_clock b o within (λ peer-is.
         -- [the peer's cell; what it owns; the others; the open borrow; the fractured borrow; obs; the borrow; its token; _5; _3; _8; _9; _10;
         -- _11; _6; …]
         assigns ! (of_opd ! (load ! (from ! (hop ! (look ! 12 refl) (stop !))) (look_raw ! 0 refl))) (from ! (stop !))
         (init ! 13 refl ((LL.lawful T.the_type T'.the_laws 𝓛).typed (peer i) _ peer-is).0) $
         assigns ! (of_opd ! (load ! (from ! (stop !)) (look ! 13 refl))) (from ! (stop !))
         (init ! 14 refl ((LL.lawful T.the_type T'.the_laws 𝓛).typed (peer i) _ peer-is).0) $
-        elem_back ! T.the_row p ys i noClock (clock (peer i) ∷ []) b o within $ shuts_slice ! tt T.the_row p ys b o $
+        elem_back ! T.the_row p ys i no_clock (clock (peer i) ∷ []) b o within $ shuts_slice ! tt T.the_row p ys b o $
         -- [the token; the fractured borrow; obs; the borrow; its token; _5; …]
         move ! (2 ∷ 3 ∷ 4 ∷ 1 ∷ 0 ∷ []) $
-        use0 𝓛 (raw ((Nexts 𝓛 at_mem run).pre (to-next (flooredTo ys i) (peer i)))) (goes-next (flooredTo ys i) (peer i) r-is peer-is) $
-        calls_at ! fm (Nexts 𝓛 at_mem run) known (to-next (flooredTo ys i) (peer i)) (and_then ! (load ! (from ! (stop !)) (look ! 7 refl))
+        use0 𝓛 (raw ((Nexts 𝓛 at_mem run).pre (to-next (floored_to ys i) (peer i)))) (goes-next (floored_to ys i) (peer i) r-is peer-is) $
+        calls_at ! fm (Nexts 𝓛 at_mem run) known (to-next (floored_to ys i) (peer i)) (and_then ! (load ! (from ! (stop !)) (look ! 7 refl))
         (and_then ! (load ! (from ! (stop !)) (look ! 12 refl)) (no_more !))) (λ v.
         use1 𝓛 (later (some (λ (r : Floored). (‵ ftrue ⊛ ‵ ((S.the_row).own_val r (v ∷ []))) ⊛ raw
-        (ensured 𝓛 next.ended (next.clauses 𝓛 at_mem run) tt (flooredTo ys i, ((peer i), tt)) tt r)))) (id⊢ 𝓤 _) $ await ! tt $ pick ! (λ r.
-        split ! $ move ! (1 ∷ []) $ use1 𝓛 (raw (fact 𝓤 (r ≡ next_of (flooredTo ys i) (peer i)))) (nexted (flooredTo ys i) (peer i) r) $
-        heard ! (r ≡ next_of (flooredTo ys i) (peer i)) (λ e. split ! $ drop ! $
+        (ensured 𝓛 next.ended (next.clauses 𝓛 at_mem run) tt (floored_to ys i, ((peer i), tt)) tt r)))) (id⊢ 𝓤 _) $ await ! tt $ pick ! (λ r.
+        split ! $ move ! (1 ∷ []) $ use1 𝓛 (raw (fact 𝓤 (r ≡ next_of (floored_to ys i) (peer i)))) (nexted (floored_to ys i) (peer i) r) $
+        heard ! (r ≡ next_of (floored_to ys i) (peer i)) (λ e. split ! $ drop ! $
         peeks ! S.the_row (Is S.the_row) (shows 𝓛 S.the_row) r (v ∷ []) (λ is. drop ! $
         land ! (from ! (stop !)) (store ! 6 refl ((LL.lawful S.the_type S'.the_laws 𝓛).typed r _ is).0) $
         rewrite ! 6 (λ (u : Val). ‵ (fat full_share S'.mir l₃ 0 u)) (ap only (LL.tells S.the_type S'.the_laws r _ is) ∙ ap hand (e
-        ∙ floor-next ys i noClock within)) refl $
+        ∙ floor-next ys i no_clock within)) refl $
         assigns_last ! (bin ! (load ! (from ! (stop !)) (look ! 5 refl)) (lit ! tt) (record { fits = onward })) (from ! (stop !))
         (store ! 5 refl (tt, record { fits = onward })) $
         forget ! 7 refl $ forget ! 8 refl $ forget ! 9 refl $ forget ! 10 refl $ forget ! 11 refl $
-        by ! (k (hand-is r (flooredTo ys (i + 1)) v (e ∙ floor-next ys i noClock within) is))))))))
+        by ! (k (hand-is r (floored_to ys (i + 1)) v (e ∙ floor-next ys i no_clock within) is))))))))
       where
         within : i < n
         within = omega (arith, read-within n)
@@ -330,23 +330,23 @@ module _ {M : Type 1} {𝓤 : Ura M} (𝓛 : Logic 𝓤) (at_mem : Memory → SP
         bytes = omega (arith, within, room.1)
 
     -- the result is laid down, and the locals are freed
-    out : (left : Clock) (t t' : Bool) → Is S.the_row (flooredAll ys) (hand (flooredAll ys) ∷ [])
-        → left ≡ flooredClock ys h
+    out : (left : Clock) (t t' : Bool) → Is S.the_row (floored_all ys) (hand (floored_all ys) ∷ [])
+        → left ≡ floored_clock ys h
         → ent 𝓤 (⋆ 𝓛 (All left m (fat full_share ty_bool l₈ 0 (vbool t)) (fat full_share ty_bool l₁₂ 0 (vbool t')))) (Wp 𝓤 H C Λ En last
         (at_return 𝓤 H En Post))
     out left t t' is g =
         qed 𝓛 (All left m (fat full_share ty_bool l₈ 0 (vbool t)) (fat full_share ty_bool l₁₂ 0 (vbool t'))) ∵ exec ! C Λ En last (at_ret En Post) $
         assigns ! (of_opd ! (load ! (from ! (fld ! refl (stop !))) (look_in ! 6 (sub ! 0 refl (whole !))))) (from ! (stop !))
-        (init ! 16 refl (tt, record { fits = word_fits (flooredAll ys) _ is })) $
+        (init ! 16 refl (tt, record { fits = word_fits (floored_all ys) _ is })) $
         returns ! (look ! 16 refl) $ forget ! 5 refl $ forget ! 6 refl $ forget ! 7 refl $ forget ! 12 refl $ forget ! 13 refl $ forget ! 14 refl $
         forget ! 15 refl $ forget ! 16 refl $ forget ! 17 refl $
         move ! (16 ∷ 19 ∷ 13 ∷ 20 ∷ 14 ∷ 21 ∷ 6 ∷ 22 ∷ 12 ∷ 23 ∷ 5 ∷ 24 ∷ 11 ∷ 25 ∷ 15 ∷ 26 ∷ 7 ∷ 27 ∷ 8 ∷ 28 ∷ 9 ∷ 29 ∷ 10 ∷ 30 ∷ 17 ∷ 31 ∷ []) $
         free1 ! $ free1 ! $ free1 ! $ free1 ! $ free1 ! $ free1 ! $ free1 ! $ free1 ! $ free1 ! $ free1 ! $ free1 ! $ free1 ! $ free1 ! $ free0 ! $
         -- [obs; the borrow; its token; the fractured borrow; the token; what the peers own]
-        keep ! (0 ∷ 1 ∷ 2 ∷ 4 ∷ 5 ∷ []) $ by ! (exits (flooredAll ys).word left (floor-word ys) g (word_fits (flooredAll ys) _ is))
+        keep ! (0 ∷ 1 ∷ 2 ∷ 4 ∷ 5 ∷ []) $ by ! (exits (floored_all ys).word left (floor-word ys) g (word_fits (floored_all ys) _ is))
 
     -- the turn that leaves the loop, and the rest of the body
-    ends : (X : SProp 𝓤) → Is S.the_row (flooredAll ys) (hand (flooredAll ys) ∷ [])
+    ends : (X : SProp 𝓤) → Is S.the_row (floored_all ys) (hand (floored_all ys) ∷ [])
         → ent 𝓤 (⋆ 𝓛 (At m)) (Wp 𝓤 H C Λ En turn (after_turn 𝓤 H X Left))
     unfolding after_turn
     ends X is =
@@ -363,12 +363,12 @@ module _ {M : Type 1} {𝓤 : Ura M} (𝓛 : Logic 𝓤) (at_mem : Memory → SP
         -- [the floor's cell; what it owns; the open borrow; obs; auth; the fractured borrow; the token; _5; _3; _8; …; _2; …]
         assigns_last ! (of_opd ! (load ! (from ! (fld ! refl (stop !))) (look_in ! 8 (sub ! 3 refl (whole !))))) (from ! (hop !
         (look ! 16 refl) (stop !)))
-        (store_raw ! 0 refl ((LL.lawful T.the_type T'.the_laws 𝓛).typed (flooredAll ys).clock _ (clock-is (flooredAll ys) _ is)).0) $
-        move ! (1 ∷ []) $ drop ! $ owned ! T.the_row (Is T.the_row) (LL.makes T.the_type T'.the_plain 𝓛) (flooredAll ys).clock _
-        (clock-is (flooredAll ys) _ is) $ move ! (1 ∷ 0 ∷ []) $ exec ! C Λ En last (at_ret En Post) $
-        closes ! tt T.the_row (flooredAll ys).clock (clock (flooredAll ys).clock ∷ []) b' o' $
-        by ! (out (flooredAll ys).clock false (eqb (flooredAll ys).word 0) is (floor-stored ys h (taken (eqb (flooredAll ys).word 0) z)))))
-        (λ z. skips ! $ by ! (out h false (eqb (flooredAll ys).word 0) is (floor-kept ys h (unset (eqb (flooredAll ys).word 0) z))))
+        (store_raw ! 0 refl ((LL.lawful T.the_type T'.the_laws 𝓛).typed (floored_all ys).clock _ (clock-is (floored_all ys) _ is)).0) $
+        move ! (1 ∷ []) $ drop ! $ owned ! T.the_row (Is T.the_row) (LL.makes T.the_type T'.the_plain 𝓛) (floored_all ys).clock _
+        (clock-is (floored_all ys) _ is) $ move ! (1 ∷ 0 ∷ []) $ exec ! C Λ En last (at_ret En Post) $
+        closes ! tt T.the_row (floored_all ys).clock (clock (floored_all ys).clock ∷ []) b' o' $
+        by ! (out (floored_all ys).clock false (eqb (floored_all ys).word 0) is (floor-stored ys h (taken (eqb (floored_all ys).word 0) z)))))
+        (λ z. skips ! $ by ! (out h false (eqb (floored_all ys).word 0) is (floor-kept ys h (unset (eqb (floored_all ys).word 0) z))))
 
     back : (t i : ℕ) → Facts t i → ent 𝓤 (⋆ 𝓛 (At i)) (Inv t)
     back t i g = via 𝓤 (guard 𝓤 (Facts t i) (⋆ 𝓛 (At i))) (guard_i 𝓤 (Facts t i) (⋆ 𝓛 (At i)) g)
@@ -379,7 +379,7 @@ module _ {M : Type 1} {𝓤 : Ura M} (𝓛 : Logic 𝓤) (at_mem : Memory → SP
     turn_at zero i g =
         let e : m ≡ i = omega (arith, g.0) in
         subst (λ (j : ℕ). ent 𝓤 (⋆ 𝓛 (At j)) (Wp 𝓤 H C Λ En turn (after_turn 𝓤 H (Below zero) Left))) e
-        (ends (Below zero) (subst (λ (j : ℕ). Is S.the_row (flooredTo ys j) (hand (flooredTo ys j) ∷ [])) (sym e) g.1))
+        (ends (Below zero) (subst (λ (j : ℕ). Is S.the_row (floored_to ys j) (hand (floored_to ys j) ∷ [])) (sym e) g.1))
     turn_at (suc t) i g =
         more i (Below (suc t)) (omega (arith, g.0)) g.1
         (λ is. via 𝓤 (Inv t) (back t (i + 1) (omega (arith, g.0), is)) (via 𝓤 (guard 𝓤 (t < suc t) (Inv t))
@@ -388,11 +388,11 @@ module _ {M : Type 1} {𝓤 : Ura M} (𝓛 : Logic 𝓤) (at_mem : Memory → SP
     turns : (t : ℕ) → ent 𝓤 (Inv t) (Wp 𝓤 H C Λ En turn (after_turn 𝓤 H (Below t) Left))
     turns t = ex_e 𝓤 (λ (i : ℕ). guard 𝓤 (Facts t i) (⋆ 𝓛 (At i))) (λ i. guard_e 𝓤 (Facts t i) (⋆ 𝓛 (At i)) (λ g. turn_at t i g))
 
-    loops : Is S.the_row (flooredTo ys 0) (hand (flooredTo ys 0) ∷ []) → ent 𝓤 (⋆ 𝓛 (At 0)) (Wp 𝓤 H C Λ En (loop turn) Left)
+    loops : Is S.the_row (floored_to ys 0) (hand (floored_to ys 0) ∷ []) → ent 𝓤 (⋆ 𝓛 (At 0)) (Wp 𝓤 H C Λ En (loop turn) Left)
     loops is = via 𝓤 (Inv m) (back m 0 (omega arith, is)) (loop_rule 𝓤 H 𝓛.laws 𝓣 ◌<◌ lt-wf_rel.wf En turn Left Inv turns m)
 
     -- the same as a step of the walk
-    goes_on : Is S.the_row (flooredTo ys 0) (hand (flooredTo ys 0) ∷ [])
+    goes_on : Is S.the_row (floored_to ys 0) (hand (floored_to ys 0) ∷ [])
         → Seq (Go {0}) 𝓛 (At 0) (runs C Λ En (seq (block (loop turn)) rest) (at_ret En Post))
     goes_on is = first ! $ blocks ! $ by ! (loops is)
 
@@ -417,18 +417,18 @@ module _ {M : Type 1} {𝓤 : Ura M} (𝓛 : Logic 𝓤) (at_mem : Memory → SP
         calls_at ! fm (Begins 𝓛 at_mem run) known-begin to-begin (and_then ! (load ! (from ! (stop !)) (look ! 11 refl)) (no_more !)) (λ v.
         use1 𝓛 (later (some (λ (r : Floored). (‵ ftrue ⊛ ‵ ((S.the_row).own_val r (v ∷ []))) ⊛ raw
         (ensured 𝓛 begin.ended (begin.clauses 𝓛 at_mem run) tt (n, tt) tt r)))) (id⊢ 𝓤 _) $ await ! tt $ pick ! (λ r.
-        split ! $ move ! (1 ∷ []) $ use1 𝓛 (raw (fact 𝓤 (r ≡ begunOf n))) (begun r) $ heard ! (r ≡ begunOf n) (λ e. split ! $ drop ! $
+        split ! $ move ! (1 ∷ []) $ use1 𝓛 (raw (fact 𝓤 (r ≡ begun_of n))) (begun r) $ heard ! (r ≡ begun_of n) (λ e. split ! $ drop ! $
         peeks ! S.the_row (Is S.the_row) (shows 𝓛 S.the_row) r (v ∷ []) (λ is. drop ! $
         land ! (from ! (stop !)) (init ! 18 refl ((LL.lawful S.the_type S'.the_laws 𝓛).typed r _ is).0) $
         rewrite ! 18 (λ (u : Val). ‵ (fat full_share S'.mir l₃ 0 u)) (ap only (LL.tells S.the_type S'.the_laws r _ is) ∙ ap hand (e
         ∙ floor-start ys)) refl $
         assigns ! (of_opd ! (load ! (from ! (fld ! refl (stop !))) (look_in ! 18 (sub ! 1 refl (whole !))))) (from ! (stop !))
-        (init ! 16 refl (tt, record { fits = many-fits (flooredTo ys 0) _ (hand-is r (flooredTo ys 0) v (e ∙ floor-start ys) is) })) $
+        (init ! 16 refl (tt, record { fits = many-fits (floored_to ys 0) _ (hand-is r (floored_to ys 0) v (e ∙ floor-start ys) is) })) $
         rewrite ! 16 (λ (k : ℕ). ‵ (fat full_share word l₄ 0 (vint w64 k))) (floor-many ys) refl $
         assigns ! (of_opd ! (lit ! tt)) (from ! (stop !)) (init ! 14 refl (tt, record { fits = lit< tt })) $
         keep ! (26 ∷ 27 ∷ 28 ∷ 29 ∷ 30 ∷ 14 ∷ 18 ∷ 8 ∷ 6 ∷ 4 ∷ 2 ∷ 12 ∷ 16 ∷ 22 ∷ 20 ∷ 10 ∷ 24 ∷ 0 ∷ 31 ∷ 25 ∷ 23 ∷ 21 ∷ 19 ∷ 17 ∷ 15 ∷ 13 ∷ 11 ∷ 9
         ∷ 7 ∷ 5 ∷ 3 ∷ 1 ∷ []) $
-        goes_on 𝓣 fm known room l₀ l₁ l₂ l₃ l₄ l₅ l₆ l₇ l₈ l₉ l₁₀ l₁₁ l₁₂ (hand-is r (flooredTo ys 0) v (e ∙ floor-start ys) is))))))))))))))))))
+        goes_on 𝓣 fm known room l₀ l₁ l₂ l₃ l₄ l₅ l₆ l₇ l₈ l₉ l₁₀ l₁₁ l₁₂ (hand-is r (floored_to ys 0) v (e ∙ floor-start ys) is))))))))))))))))))
 
 module _ {M : Type 1} {𝓤 : Ura M} (𝓛 : Logic 𝓤) (at_mem : Memory → SProp 𝓤) (run : Routine → Fun 𝓤) where
   open 𝓛 use {H}

@@ -5,8 +5,8 @@ use native.Mathlib.Omega.{arith}
 use borrow.Author.Rules.{rules}
 use lib.ListN.{length, take, drop}
 use Rattle.listlaws.proofs.Rests.{drop-end}
-use Rattle.mapimage.specs.MapImage.{mapLongest}
-use Rattle.promises.specs.CatchUp.{operationsOf, outcomeFrom, outcomeOf}
+use Rattle.mapimage.specs.MapImage.{map_longest}
+use Rattle.promises.specs.CatchUp.{operations_of, outcome_from, outcome_of}
 use Rattle.promises.proofs.Cuts.{cut-nothing}
 use Rattle.catchup.proofs.Runs.{ran-stop, ran_on, ran-end}
 use Rattle.catchup.proofs.run.Statement.{statement}
@@ -14,8 +14,8 @@ use Rattle.catchup.proofs.run.Tie as tie
 
 abbrev invariant-loop : tie.invariant-loop
 invariant-loop here₀ len list there₀ n left₀ at₀ place₀ here there left at place =
-    ((at ≤ length list) × (place ≤ at)) × ((left ≤ mapLongest) × ((length here ≡ mapLongest) × (length there ≡ mapLongest)))
-    × (outcomeOf (take len here₀) list ≡ outcomeFrom place (take left here) (operationsOf (drop at list)))
+    ((at ≤ length list) × (place ≤ at)) × ((left ≤ map_longest) × ((length here ≡ map_longest) × (length there ≡ map_longest)))
+    × (outcome_of (take len here₀) list ≡ outcome_from place (take left here) (operations_of (drop at list)))
 
 abbrev decreases-loop : tie.decreases-loop
 decreases-loop here₀ len list there₀ n left₀ at₀ place₀ here there left at place = length list - at
@@ -49,7 +49,7 @@ returns : tie.Need-returns invariant-loop decreases-loop
 returns c =
     let l = c.before.before.before.before.before.before.before.before.before.before.before.loop in
     let n = c.before.before.before.before.before.before.before.before.before.operation-end in
-    ran-stop l.place _ _ _ (l.invariant.2 ∙ ap (outcomeFrom l.place (take l.left l.here)) n.ensures.cut)
+    ran-stop l.place _ _ _ (l.invariant.2 ∙ ap (outcome_from l.place (take l.left l.here)) n.ensures.cut)
     c.before.before.before.before.before.step.ensures c.if1.true
 
 add-place : tie.Need-overflow-add-place invariant-loop decreases-loop
@@ -66,7 +66,7 @@ loop-again c =
     let t = c.before.before.before.before.before.step in (
       (n.ensures.within, omega (arith, n.ensures.past, l.invariant.0.1)),
       (t.ensures.short c.if1.false, (omega (arith, t.auto.0, l.invariant.1), omega (arith, t.auto, l.invariant.1))),
-      ran_on l.place _ _ _ (l.invariant.2 ∙ ap (outcomeFrom l.place (take l.left l.here)) n.ensures.cut) t.ensures c.if1.false,
+      ran_on l.place _ _ _ (l.invariant.2 ∙ ap (outcome_from l.place (take l.left l.here)) n.ensures.cut) t.ensures c.if1.false,
     )
 
 same-length-3 : tie.Need-same-length-3 invariant-loop decreases-loop
@@ -80,7 +80,7 @@ returns-2 c =
     let l = c.before.loop in
     let list = c.before.before.before.before.before.args.list.now in
     ran-end l.place l.left l.here l.invariant.1.0 l.invariant.2
-    (ap operationsOf (drop-end list l.at (omega arith)) ∙ cut-nothing)
+    (ap operations_of (drop-end list l.at (omega arith)) ∙ cut-nothing)
 
 pub run_spec : {M : Type 1} → statement M
 run_spec =

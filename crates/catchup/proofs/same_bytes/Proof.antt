@@ -6,13 +6,13 @@ use native.Mathlib.Omega.{arith}
 use borrow.Author.Tests.{eq-eqb, ne_eqb}
 use lib.ListN.{length, drop, get_or}
 use Rattle.listlaws.proofs.Rests.{drop-end}
-use Rattle.promises.specs.CatchUp.{sameBytes}
+use Rattle.promises.specs.CatchUp.{same_bytes}
 use Rattle.promises.proofs.Outcomes.{same_bytes, bytes-differ, same-on}
 use Rattle.catchup.proofs.same_bytes.Statement.{statement}
 use Rattle.catchup.proofs.same_bytes.Tie as tie
 
 abbrev invariant-loop : tie.invariant-loop
-invariant-loop a b n i₀ i = (i ≤ length a) × ((length a ≡ length b) × (sameBytes a b ≡ sameBytes (drop i a) (drop i b)))
+invariant-loop a b n i₀ i = (i ≤ length a) × ((length a ≡ length b) × (same_bytes a b ≡ same_bytes (drop i a) (drop i b)))
 
 abbrev decreases-loop : tie.decreases-loop
 decreases-loop a b n i₀ i = length a - i

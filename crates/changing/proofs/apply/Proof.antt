@@ -3,7 +3,7 @@ use mathlib.Core.Path.{ap, sym, ◌∙◌}
 use Rattle.map.specs.Judging.{judged}
 use Rattle.map.specs.Applying.{apply}
 use Rattle.opimage.specs.declared.ReadOp.{ReadOp}
-use Rattle.maprecords.specs.Related.{readMap}
+use Rattle.maprecords.specs.Related.{read_map}
 use Rattle.promises.proofs.Ways.{first_out, second-out, map-out}
 use Rattle.drafting.proofs.Results.{read-update, read-removal, op-short, applied-update, applied-removal}
 use borrow.Author.Rules.{rules}
@@ -37,7 +37,7 @@ remove-by-requires f κs =
 
 returns-3 : tie.Need-returns-3
 returns-3 f =
-    let m = (readMap f.before.before.before.before.before.before.before.before.before.before.before.before.before.before.before.args.map.now).map in
+    let m = (read_map f.before.before.before.before.before.before.before.before.before.before.before.before.before.before.before.args.map.now).map in
     let k = f.before.before.before.before.before.before.before.before.read-op.ensures in
     map-out _ _ (sym f.before.before.before.before.before.before.before.before.before.before.before.lay-out.ensures.0
     ∙ f.before.before.before.before.before.before.before.before.before.if1.false)
@@ -47,7 +47,7 @@ returns-3 f =
 
 returns-4 : tie.Need-returns-4
 returns-4 f =
-    let m = (readMap f.before.before.before.before.before.before.before.before.before.before.before.before.before.before.before.args.map.now).map in
+    let m = (read_map f.before.before.before.before.before.before.before.before.before.before.before.before.before.before.before.args.map.now).map in
     let k = f.before.before.before.before.before.before.before.before.read-op.ensures in
     map-out _ _ (sym f.before.before.before.before.before.before.before.before.before.before.before.lay-out.ensures.0
     ∙ f.before.before.before.before.before.before.before.before.before.if1.false)

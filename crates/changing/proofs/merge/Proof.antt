@@ -2,7 +2,7 @@
 use mathlib.Core.Path.{refl, sym, ◌∙◌}
 use Rattle.map.specs.Judging.{judged}
 use Rattle.map.specs.Merging.{merge}
-use Rattle.maprecords.specs.Related.{readMap}
+use Rattle.maprecords.specs.Related.{read_map}
 use Rattle.promises.proofs.Ways.{first_out, second-out, map-out}
 use borrow.Author.Rules.{rules}
 use Rattle.changing.proofs.merge.Statement.{statement}
@@ -26,7 +26,7 @@ merge-with-requires f κs =
 returns-3 : tie.Need-returns-3
 returns-3 f =
     let a = f.before.before.before.before.before.before.before.before.before.before.before.before.before.args in
-    map-out _ _ {j = judged (merge (readMap a.map.now).map (readMap a.other.now).map)}
+    map-out _ _ {j = judged (merge (read_map a.map.now).map (read_map a.other.now).map)}
     (sym f.before.before.before.before.before.before.before.before.before.lay-out.ensures.0
     ∙ f.before.before.before.before.before.before.before.if1.false)
     (sym f.before.before.before.before.before.before.lay-out2.ensures.0 ∙ f.before.before.before.before.if2.false) refl

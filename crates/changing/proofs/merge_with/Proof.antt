@@ -1,6 +1,6 @@
 -- `merge_with` meets its contract: number 4, or the draft of a merge, finished.
 use mathlib.Core.Path.{ap₂, ◌∙◌}
-use Rattle.clock.specs.Dots.{dotsOf, fitted, joinDots}
+use Rattle.clock.specs.Dots.{dots_of, fitted, join_dots}
 use Rattle.clock.proofs.Packs.{dots-of, over-means, within-means, within-clock}
 use Rattle.clock.proofs.Joins.{lawful-join}
 use Rattle.drafting.proofs.Results.{answered, merged-laid, merged-draft, merged-long, map-short}
@@ -12,7 +12,7 @@ returns : tie.Need-returns
 returns f =
     let h = f.before.before.before.before.before.before.before.before.requires.0.0 in
     let k = f.before.before.before.before.before.before.before.before.requires.0.1 in
-    let j = f.before.before.join.ensures ∙ ap₂ (λ x y. fitted (joinDots (dotsOf x) (dotsOf y))) h.clock k.clock in
+    let j = f.before.before.join.ensures ∙ ap₂ (λ x y. fitted (join_dots (dots_of x) (dots_of y))) h.clock k.clock in
     merged-long h k (over-means _ j f.before.if1.true) f.word.ensures
 
 join-plan-requires : tie.Need-join-plan-requires
@@ -22,7 +22,7 @@ join-plan-requires f κs =
     let h = p.0.0 in
     let k = p.0.1 in
     let j = c.before.before.before.before.before.before.join.ensures
-    ∙ ap₂ (λ x y. fitted (joinDots (dotsOf x) (dotsOf y))) h.clock k.clock in
+    ∙ ap₂ (λ x y. fitted (join_dots (dots_of x) (dots_of y))) h.clock k.clock in
     let t = c.before.before.before.before.before.if1.false in (
       (_, c.before.queue-of.ensures),
       (
@@ -39,7 +39,7 @@ draw-merged-requires f κs =
     let h = p.0.0 in
     let k = p.0.1 in
     let j = c.before.before.before.before.before.before.join.ensures
-    ∙ ap₂ (λ x y. fitted (joinDots (dotsOf x) (dotsOf y))) h.clock k.clock in
+    ∙ ap₂ (λ x y. fitted (join_dots (dots_of x) (dots_of y))) h.clock k.clock in
     let t = c.before.before.before.before.before.if1.false in
     ((h, k), ((c.before.queue-of.ensures, c.queue-of2.ensures), ((map-short _ p.1.0, map-short _ p.1.1), within-means _ j t)))
 
@@ -50,7 +50,7 @@ finish-requires f κs =
     let h = p.0.0 in
     let k = p.0.1 in
     let j = c.before.before.before.before.before.before.join.ensures
-    ∙ ap₂ (λ x y. fitted (joinDots (dotsOf x) (dotsOf y))) h.clock k.clock in
+    ∙ ap₂ (λ x y. fitted (join_dots (dots_of x) (dots_of y))) h.clock k.clock in
     let t = c.before.before.before.before.before.if1.false in (
       _,
       (
@@ -71,7 +71,7 @@ returns-2 f =
     let h = p.0.0 in
     let k = p.0.1 in
     let j = c.before.before.before.before.before.before.join.ensures
-    ∙ ap₂ (λ x y. fitted (joinDots (dotsOf x) (dotsOf y))) h.clock k.clock in
+    ∙ ap₂ (λ x y. fitted (join_dots (dots_of x) (dots_of y))) h.clock k.clock in
     let t = c.before.before.before.before.before.if1.false in
     answered (merged-laid h k) (f.before.before.finish.ensures _ _ _
     (merged-draft h k (within-means _ j t) (within-clock _ j t) f.before.before.before.before.draw-merged.ensures

@@ -2,7 +2,7 @@
 use mathlib.Core.Path.{◌≡◌, ap, sym, ◌∙◌}
 use mathlib.Core.List.{[]}
 use Rattle.clock.specs.declared.Clock.{Clock}
-use Rattle.clock.specs.Dots.{dotsOf}
+use Rattle.clock.specs.Dots.{dots_of}
 use Rattle.clock.proofs.Packs.{dots-of}
 use Rattle.clock.proofs.Joins.{lawful-nil}
 use Rattle.removals.specs.Waits.{waits}
@@ -24,10 +24,10 @@ module _ (f : tie.After-removal-waits) where
       record { within = p.0; records = p.1; count = f.before.size.ensures.0 }
 
   told : let a = f.before.before.before.before.before.before.before.before.args in
-      f.removal-waits.result ≡ waits (dotsOf a.a.clock) a.r
+      f.removal-waits.result ≡ waits (dots_of a.a.clock) a.r
   told =
       let p = f.before.before.before.before.before.before.before.before in
-      f.removal-waits.ensures p.args.r lies ∙ ap (λ (c : Clock). waits (dotsOf c) p.args.r) (sym p.pre.0.0.clock)
+      f.removal-waits.ensures p.args.r lies ∙ ap (λ (c : Clock). waits (dots_of c) p.args.r) (sym p.pre.0.0.clock)
 
 held-queue-requires : tie.Need-held-queue-requires
 held-queue-requires f κs = (_, lies f.before)

@@ -1,10 +1,10 @@
 -- `reset_remove` meets its contract: each way out is a law of `Ways`.
 use mathlib.Core.Path.{ap, sym, ◌∙◌}
-use Rattle.clock.specs.Dots.{dotsOf}
+use Rattle.clock.specs.Dots.{dots_of}
 use Rattle.clockimage.specs.declared.ReadClock.{ReadClock}
 use Rattle.map.specs.Judging.{judged}
 use Rattle.map.specs.Resetting.{reset}
-use Rattle.maprecords.specs.Related.{readMap}
+use Rattle.maprecords.specs.Related.{read_map}
 use Rattle.oneimagelaws.proofs.Clocks.{one-clock-image}
 use Rattle.promises.proofs.Ways.{first_out, second-out, map-out}
 use borrow.Author.Rules.{rules}
@@ -38,7 +38,7 @@ returns-3 f =
     map-out _ _ (sym f.before.before.before.before.before.before.before.before.before.lay-out.ensures.0
     ∙ f.before.before.before.before.before.before.before.if1.false)
     (sym (ap (λ (r : ReadClock). r.number) k) ∙ f.before.before.before.before.if2.false)
-    (ap (λ (r : ReadClock). judged (reset (readMap s).map (dotsOf r.clock))) k) f.before.before.Reset-by.ensures
+    (ap (λ (r : ReadClock). judged (reset (read_map s).map (dots_of r.clock))) k) f.before.before.Reset-by.ensures
 
 pub reset-remove-spec : {M : Type 1} → statement M
 reset-remove-spec =

@@ -2,9 +2,9 @@
 use mathlib.Core.Path.{refl, ap}
 use lib.ListN.{length}
 use native.Mathlib.Omega.{arith}
-use Rattle.maprecords.specs.Related.{readMap}
+use Rattle.maprecords.specs.Related.{read_map}
 use Rattle.answers.proofs.Answers.{number_short, number-done, refuses, writes}
-use Rattle.promises.specs.Calls.{mapAnswer}
+use Rattle.promises.specs.Calls.{map_answer}
 use Rattle.oneimagelaws.proofs.Maps.{one-map-image}
 use borrow.Author.Rules.{rules}
 use Rattle.changing.proofs.same.Statement.{statement}
@@ -15,7 +15,7 @@ returns f =
     let a = f.before.before.before.before.args in
     let e = (one-map-image.again a.map.now (λ i. (f.before.before.before.shared-slice-known.given i).fits)
     f.before.before.before.before.requires).1 in
-    let x = mapAnswer 0 0 (record { number = 0; map = (readMap a.map.now).map }) in
+    let x = map_answer 0 0 (record { number = 0; map = (read_map a.map.now).map }) in
     rw f.word.ensures (refuses x a.out.now (number_short x a.out.now refl refl refl (omega (arith, ap length e, f.before.if1.true)))
     (λ z. omega arith))
 
@@ -24,7 +24,7 @@ returns-2 f =
     let a = f.before.before.before.before.before.before.before.args in
     let e = (one-map-image.again a.map.now (λ i. (f.before.before.before.before.before.before.shared-slice-known.given i).fits)
     f.before.before.before.before.before.before.before.requires).1 in
-    let x = mapAnswer 0 0 (record { number = 0; map = (readMap a.map.now).map }) in
+    let x = map_answer 0 0 (record { number = 0; map = (read_map a.map.now).map }) in
     writes x a.out.now (number-done x a.out.now refl refl refl (omega (arith, ap length e, f.before.before.before.before.if1.false)))
     (rw e f.before.before.copy_run.ensures)
 

@@ -1,7 +1,7 @@
 -- `update_by` meets its contract: the map as it was, number 4, or the draft of an update, finished.
 use mathlib.Core.Path.{ap, ◌∙◌}
 use native.Mathlib.Omega.{arith}
-use Rattle.clock.specs.Dots.{dotsOf, fitted, counterIn, addDot}
+use Rattle.clock.specs.Dots.{dots_of, fitted, counter_in, add_dot}
 use Rattle.clock.proofs.Packs.{dots-of, over-means, within-means, within-clock}
 use Rattle.clock.proofs.Joins.{lawful-add}
 use Rattle.map.proofs.Verdicts.{judged-within}
@@ -15,7 +15,7 @@ returns : tie.Need-returns
 returns f =
     let h = f.before.before.before.before.before.before.before.before.before.before.before.before.requires.0.0 in
     let u = f.before.before.before.before.before.before.before.before.before.before.before.before.args.u in
-    let g = f.before.before.before.before.before.before.get.ensures ∙ ap (λ x. counterIn (dotsOf x) u.dot.actor) h.clock in
+    let g = f.before.before.before.before.before.before.get.ensures ∙ ap (λ x. counter_in (dots_of x) u.dot.actor) h.clock in
     answered (update-seen _ u (omega (arith, g, f.before.before.before.before.if1.true)))
     (rw (judged-within h.lies.within.limits) f.before.before.same.ensures)
 
@@ -24,8 +24,8 @@ returns-2 f =
     let p = f.before.before.before.before.before.before.before.before.before.before.before.requires in
     let h = p.0.0 in
     let u = f.before.before.before.before.before.before.before.before.before.before.before.args.u in
-    let g = f.before.before.before.before.before.get.ensures ∙ ap (λ x. counterIn (dotsOf x) u.dot.actor) h.clock in
-    let j = f.before.before.add.ensures ∙ ap (λ x. fitted (addDot (dotsOf x) u.dot)) h.clock in
+    let g = f.before.before.before.before.before.get.ensures ∙ ap (λ x. counter_in (dots_of x) u.dot.actor) h.clock in
+    let j = f.before.before.add.ensures ∙ ap (λ x. fitted (add_dot (dots_of x) u.dot)) h.clock in
     updated-long h u p.1.0.0 (omega (arith, g, f.before.before.before.if1.false)) (over-means _ j f.before.if2.true) f.word.ensures
 
 join-plan-requires : tie.Need-join-plan-requires
@@ -34,7 +34,7 @@ join-plan-requires f κs =
     let p = c.before.before.before.before.before.before.before.before.before.before.before.before.before.before.requires in
     let h = p.0.0 in
     let u = c.before.before.before.before.before.before.before.before.before.before.before.before.before.before.args.u in
-    let j = c.before.before.before.before.before.add.ensures ∙ ap (λ x. fitted (addDot (dotsOf x) u.dot)) h.clock in
+    let j = c.before.before.before.before.before.add.ensures ∙ ap (λ x. fitted (add_dot (dots_of x) u.dot)) h.clock in
     let t = c.before.before.before.before.if2.false in (
       (_, c.before.queue-of.ensures),
       ((_, c.none.ensures _), rw (dots-of _ (within-clock _ j t)) (lawful-add h.lies.within.valid.clock u.dot)),
@@ -47,8 +47,8 @@ draw-updated-requires f κs =
     let h = p.0.0 in
     let u = c.before.before.before.before.before.before.before.before.before.before.before.before.before.before.args.u in
     let g = c.before.before.before.before.before.before.before.before.get.ensures
-    ∙ ap (λ x. counterIn (dotsOf x) u.dot.actor) h.clock in
-    let j = c.before.before.before.before.before.add.ensures ∙ ap (λ x. fitted (addDot (dotsOf x) u.dot)) h.clock in
+    ∙ ap (λ x. counter_in (dots_of x) u.dot.actor) h.clock in
+    let j = c.before.before.before.before.before.add.ensures ∙ ap (λ x. fitted (add_dot (dots_of x) u.dot)) h.clock in
     let t = c.before.before.before.before.if2.false in (
       (h.lies, c.before.queue-of.ensures),
       (
@@ -67,8 +67,8 @@ finish-requires f κs =
     let h = p.0.0 in
     let u = c.before.before.before.before.before.before.before.before.before.before.before.before.before.before.args.u in
     let g = c.before.before.before.before.before.before.before.before.get.ensures
-    ∙ ap (λ x. counterIn (dotsOf x) u.dot.actor) h.clock in
-    let j = c.before.before.before.before.before.add.ensures ∙ ap (λ x. fitted (addDot (dotsOf x) u.dot)) h.clock in
+    ∙ ap (λ x. counter_in (dots_of x) u.dot.actor) h.clock in
+    let j = c.before.before.before.before.before.add.ensures ∙ ap (λ x. fitted (add_dot (dots_of x) u.dot)) h.clock in
     let t = c.before.before.before.before.if2.false in (
       _,
       (
@@ -89,8 +89,8 @@ returns-3 f =
     let h = p.0.0 in
     let u = c.before.before.before.before.before.before.before.before.before.before.before.before.before.before.args.u in
     let g = c.before.before.before.before.before.before.before.before.get.ensures
-    ∙ ap (λ x. counterIn (dotsOf x) u.dot.actor) h.clock in
-    let j = c.before.before.before.before.before.add.ensures ∙ ap (λ x. fitted (addDot (dotsOf x) u.dot)) h.clock in
+    ∙ ap (λ x. counter_in (dots_of x) u.dot.actor) h.clock in
+    let j = c.before.before.before.before.before.add.ensures ∙ ap (λ x. fitted (add_dot (dots_of x) u.dot)) h.clock in
     let t = c.before.before.before.before.if2.false in
     answered (update-closed u h.lies.within.valid (omega (arith, g, c.before.before.before.before.before.before.if1.false)))
     (f.before.before.finish.ensures _ _ _ (updated-draft h u p.1.0.0

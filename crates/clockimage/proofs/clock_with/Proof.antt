@@ -2,7 +2,7 @@
 use mathlib.Core.Path.{ap, sym, ◌∙◌}
 use Prim.Native.Nat.{◌<◌}
 use borrow.Author.Tests.{ltb-true, lt-ltb}
-use Rattle.limits.specs.Limits.{dotLimit}
+use Rattle.limits.specs.Limits.{dot_limit}
 use Rattle.scan.proofs.Eachs.{decide, both, both_left, both_right}
 use Rattle.listlaws.proofs.Orders.{apart}
 use native.Mathlib.Omega.{arith}
@@ -20,7 +20,7 @@ returns-2 : tie.Need-returns-2
 returns-2 c l e room =
     let a = c.before.before.args in
     decide a.more
-    (λ t. let q : a.clock.len < dotLimit = omega (arith, room t, ap (λ k. k.len) e) in
+    (λ t. let q : a.clock.len < dot_limit = omega (arith, room t, ap (λ k. k.len) e) in
     apart (sym (both a.more _ t (lt-ltb _ _ q)) ∙ c.if1.false))
     (λ f. rw f e)
 

@@ -1,7 +1,7 @@
 -- `write_clock` meets its contract.
 use lib.ListN.{length-map}
-use Rattle.clock.specs.Dots.{dotsOf}
-use Rattle.clockimage.specs.Image.{dotRecord, dotRecords}
+use Rattle.clock.specs.Dots.{dots_of}
+use Rattle.clockimage.specs.Image.{dot_record, dot_records}
 use Rattle.records.proofs.RoundTrips.{length-bytes}
 use borrow.Author.Rules.{rules}
 use native.Mathlib.Omega.{arith}
@@ -11,7 +11,7 @@ use Rattle.clockimage.proofs.write_clock.Tie as tie
 write-dots-requires : tie.Need-write-dots-requires
 write-dots-requires c κs =
     let a = c.before.before.args in
-    omega (arith, length-bytes (dotRecords 1 0 0 (dotsOf a.clock)), length-map (dotsOf a.clock) (dotRecord 1 0 0))
+    omega (arith, length-bytes (dot_records 1 0 0 (dots_of a.clock)), length-map (dots_of a.clock) (dot_record 1 0 0))
 
 pub write-clock-spec : {M : Type 1} → statement M
 write-clock-spec =

@@ -10,10 +10,10 @@ use lib.Seq.{take-length}
 use borrow.Author.Tests.{ltb-true, ltb-false, le-leb, lt-leb, not-true}
 use Rattle.clock.specs.declared.Dot.{Dot}
 use Rattle.clock.specs.declared.Order.TheVariants.{Concurrent}
-use Rattle.clock.specs.Dots.{noDot, outcome, order_of, covers}
+use Rattle.clock.specs.Dots.{no_dot, outcome, order_of, covers}
 use Rattle.clock.specs.Lawful.{Lawful}
 use Rattle.clock.proofs.Walks.{Covering, covering-start, covering-past, covering-both, covering-missed, covering-end, covering-gone}
-use Rattle.runs.specs.Run.{runDots}
+use Rattle.runs.specs.Run.{run_dots}
 use Rattle.marks.proofs.Dots.{run_at, length_run, all}
 use borrow.Author.Rules.{rules}
 use native.Mathlib.Omega.{arith}
@@ -22,8 +22,8 @@ use Rattle.comparing.proofs.compare_runs.Tie as tie
 
 abbrev invariant-loop : tie.invariant-loop
 invariant-loop x y n m over₀ under₀ i₀ j₀ over under i j =
-    let a = runDots x in
-    let b = runDots y in
+    let a = run_dots x in
+    let b = run_dots y in
     (i ≤ n) × (j ≤ m) × Covering a (length a) i b (length b) j over × Covering b (length b) j a (length a) i under
 
 abbrev decreases-loop : tie.decreases-loop
@@ -44,12 +44,12 @@ loop-holds c =
 
 -- both places are in use, and their dots were read
 record Level (c : tie.After-dot-at2 invariant-loop decreases-loop) : Type 0 where
-  pub first : let s = c.before.before.before.before in s.loop.i < length (all (runDots s.before.before.before.args.x.now))
-  pub second : let s = c.before.before.before.before in s.loop.j < length (all (runDots s.before.before.before.args.y.now))
+  pub first : let s = c.before.before.before.before in s.loop.i < length (all (run_dots s.before.before.before.args.x.now))
+  pub second : let s = c.before.before.before.before in s.loop.j < length (all (run_dots s.before.before.before.args.y.now))
   pub ours : let s = c.before.before.before.before in
-      get_or (runDots s.before.before.before.args.x.now) s.loop.i noDot ≡ c.before.dot_at.result
+      get_or (run_dots s.before.before.before.args.x.now) s.loop.i no_dot ≡ c.before.dot_at.result
   pub theirs : let s = c.before.before.before.before in
-      get_or (runDots s.before.before.before.args.y.now) s.loop.j noDot ≡ c.dot-at2.result
+      get_or (run_dots s.before.before.before.args.y.now) s.loop.j no_dot ≡ c.dot-at2.result
 
 level : (c : tie.After-dot-at2 invariant-loop decreases-loop) → Level c
 level c =
@@ -58,8 +58,8 @@ level c =
     let y = s.before.before.before.args.y.now in
     let k : s.loop.j < length y / 16 = ltb-true _ _ c.before.before.if1.true in
     record {
-      first = rw (take-length (runDots x)) (omega (arith, length_run x));
-      second = rw (take-length (runDots y)) (omega (arith, length_run y));
+      first = rw (take-length (run_dots x)) (omega (arith, length_run x));
+      second = rw (take-length (run_dots y)) (omega (arith, length_run y));
       ours = run_at x s.loop.i (omega arith) ∙ sym c.before.dot_at.ensures;
       theirs = run_at y s.loop.j k ∙ sym c.dot-at2.ensures;
     }
@@ -87,10 +87,10 @@ module _ (c : tie.After-dot-at2 invariant-loop decreases-loop) where
   at = c.before.before.before.before
 
   abbrev ours : List Dot
-  ours = runDots at.before.before.before.args.x.now
+  ours = run_dots at.before.before.before.args.x.now
 
   abbrev theirs : List Dot
-  theirs = runDots at.before.before.before.args.y.now
+  theirs = run_dots at.before.before.before.args.y.now
 
   in-second : at.loop.j < length at.before.before.before.args.y.now / 16
   in-second = ltb-true _ _ c.before.before.if1.true
@@ -217,18 +217,18 @@ loop-again-5 c =
 
 -- one of the two is used up
 left_over : (c : tie.Left-loop invariant-loop decreases-loop) → let s = c.before in
-    (length (all (runDots s.before.before.before.args.x.now)) ≤ s.loop.i) ⊎
-    (length (all (runDots s.before.before.before.args.y.now)) ≤ s.loop.j)
+    (length (all (run_dots s.before.before.before.args.x.now)) ≤ s.loop.i) ⊎
+    (length (all (run_dots s.before.before.before.args.y.now)) ≤ s.loop.j)
 left_over c =
     let s = c.before in
     let x = s.before.before.before.args.x.now in
     let y = s.before.before.before.args.y.now in
-    ⊎_elim (λ w. inr (rw (take-length (runDots y)) (omega (arith, ltb-false s.loop.j (length y / 16) w.1.left, length_run y))))
-    (λ w. inl (rw (take-length (runDots x)) (omega (arith, w.left, length_run x))))
+    ⊎_elim (λ w. inr (rw (take-length (run_dots y)) (omega (arith, ltb-false s.loop.j (length y / 16) w.1.left, length_run y))))
+    (λ w. inl (rw (take-length (run_dots x)) (omega (arith, w.left, length_run x))))
     c.loop-test.branch
 
-long : (s : List ℕ) → length s / 16 ≡ length (all (runDots s))
-long s = rw (take-length (runDots s)) (sym (length_run s))
+long : (s : List ℕ) → length s / 16 ≡ length (all (run_dots s))
+long s = rw (take-length (run_dots s)) (sym (length_run s))
 
 returns-5 : tie.Need-returns-5 invariant-loop decreases-loop
 unfolding order_of
@@ -240,9 +240,9 @@ returns-5 c =
     let e = left_over c.before in
     c.outcome.ensures
     ∙ ap₂ outcome
-    (ap (λ k. s.loop.over && leb k s.loop.j) (long y) ∙ covering-end s.loop.invariant.2 (whole p.1) e ∙ covers-all (runDots x) (runDots y))
-    (ap (λ k. s.loop.under && leb k s.loop.i) (long x) ∙ covering-end s.loop.invariant.3 (whole p.0) (⊎_swap e) ∙ covers-all (runDots y)
-    (runDots x))
+    (ap (λ k. s.loop.over && leb k s.loop.j) (long y) ∙ covering-end s.loop.invariant.2 (whole p.1) e ∙ covers-all (run_dots x) (run_dots y))
+    (ap (λ k. s.loop.under && leb k s.loop.i) (long x) ∙ covering-end s.loop.invariant.3 (whole p.0) (⊎_swap e) ∙ covers-all (run_dots y)
+    (run_dots x))
 
 pub compare-runs-spec : {M : Type 1} → statement M
 compare-runs-spec =

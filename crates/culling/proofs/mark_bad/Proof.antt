@@ -3,9 +3,9 @@ use mathlib.Core.Path.{◌≡◌, refl, ap, sym, ◌∙◌}
 use Prim.Native.Nat.{ℕ, ◌*◌, ◌/◌, ◌≤◌, ◌<◌, ◌-◌}
 use native.Mathlib.Omega.{arith}
 use lib.ListN.{length, length-set}
-use Rattle.records.specs.Kinds.{recordOk}
-use Rattle.records.specs.Records.{recordFrom, recordsOf}
-use Rattle.culling.specs.Marks.{markedOf}
+use Rattle.records.specs.Kinds.{record_ok}
+use Rattle.records.specs.Records.{record_from, records_of}
+use Rattle.culling.specs.Marks.{marked_of}
 use Rattle.culling.proofs.Marked.{record-at, count-records, count-marked, marked-set}
 use Rattle.culling.proofs.Ordered.{Judging, judging-start, judging-good, judging-bad, judging-end}
 use borrow.Author.Rules.{rules}
@@ -13,7 +13,7 @@ use Rattle.culling.proofs.mark_bad.Statement.{statement}
 use Rattle.culling.proofs.mark_bad.Tie as tie
 
 abbrev invariant-loop : tie.invariant-loop
-invariant-loop image marks₀ n i₀ marks i = (i ≤ n) × (length marks ≡ length marks₀) × Judging (recordsOf image) i (markedOf marks image)
+invariant-loop image marks₀ n i₀ marks i = (i ≤ n) × (length marks ≡ length marks₀) × Judging (records_of image) i (marked_of marks image)
 
 abbrev decreases-loop : tie.decreases-loop
 decreases-loop image marks₀ n i₀ marks i = n - i
@@ -33,7 +33,7 @@ loop-again c =
       rw (marked-set s.loop.marks a.image.now room s.loop.i h 0)
           (judging-good s.loop.invariant.2 (omega (arith, count-marked s.loop.marks a.image.now room))
           (omega (arith, count-records a.image.now)) _ (sym e)
-          (ap (recordOk 1 6) (e ∙ sym c.before.before.read-record.ensures) ∙ sym c.before.record-ok.ensures ∙ c.if1.true) refl),
+          (ap (record_ok 1 6) (e ∙ sym c.before.before.read-record.ensures) ∙ sym c.before.record-ok.ensures ∙ c.if1.true) refl),
     )
 
 loop-again-2 : tie.Need-loop-preserved-2 invariant-loop decreases-loop
@@ -48,7 +48,7 @@ loop-again-2 c =
       rw (marked-set s.loop.marks a.image.now room s.loop.i h 2)
           (judging-bad s.loop.invariant.2 (omega (arith, count-marked s.loop.marks a.image.now room))
           (omega (arith, count-records a.image.now)) _ (sym e)
-          (ap (recordOk 1 6) (e ∙ sym c.before.before.read-record.ensures) ∙ sym c.before.record-ok.ensures ∙ c.if1.false) refl),
+          (ap (record_ok 1 6) (e ∙ sym c.before.before.read-record.ensures) ∙ sym c.before.record-ok.ensures ∙ c.if1.false) refl),
     )
 
 same_length : tie.Need-same-length invariant-loop decreases-loop

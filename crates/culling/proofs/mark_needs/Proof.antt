@@ -3,9 +3,9 @@ use mathlib.Core.Path.{◌≡◌, refl, ap, ap₂, sym, ◌∙◌}
 use Prim.Native.Nat.{ℕ, ◌*◌, ◌/◌, ◌≤◌, ◌<◌, ◌-◌}
 use native.Mathlib.Omega.{arith}
 use lib.ListN.{length, length-set}
-use Rattle.records.specs.Records.{recordsOf}
+use Rattle.records.specs.Records.{records_of}
 use Rattle.scan.proofs.Scanning.{under-steps}
-use Rattle.culling.specs.Marks.{markedOf}
+use Rattle.culling.specs.Marks.{marked_of}
 use Rattle.culling.proofs.Marked.{count-marked, marked-at, marked-set}
 use Rattle.culling.proofs.Needed.{Needing, need-start, need-skip, need-keep, need-go, need-end}
 use borrow.Author.Rules.{rules}
@@ -14,7 +14,7 @@ use Rattle.culling.proofs.mark_needs.Tie as tie
 
 abbrev invariant-loop : tie.invariant-loop
 invariant-loop image marks₀ n scan₀ under₀ i₀ marks scan under i = (i ≤ n) × (length marks ≡ length marks₀) × (length under ≡ 256)
-    × Needing (recordsOf image) (markedOf marks₀ image) i (markedOf marks image) scan under
+    × Needing (records_of image) (marked_of marks₀ image) i (marked_of marks image) scan under
 
 abbrev decreases-loop : tie.decreases-loop
 decreases-loop image marks₀ n scan₀ under₀ i₀ marks scan under i = n - i
@@ -25,7 +25,7 @@ loop-holds c =
       omega arith,
       refl,
       search rules,
-      need-start (recordsOf a.image.now) (markedOf a.marks.now a.image.now) c.before.before.before.requires.1.fates
+      need-start (records_of a.image.now) (marked_of a.marks.now a.image.now) c.before.before.before.requires.1.fates
           (c.new.ensures 1 6),
     )
 
@@ -45,7 +45,7 @@ loop-again c =
       s.loop.invariant.1,
       simp length-set s.loop.invariant.2,
       rw (← r)
-          (need-keep (recordsOf a.image.now) (markedOf a.marks.now a.image.now) p.1.fates s.loop.invariant.3
+          (need-keep (records_of a.image.now) (marked_of a.marks.now a.image.now) p.1.fates s.loop.invariant.3
           (omega (arith, count-marked a.marks.now a.image.now p.0)) (ap (λ z. z.mark) e
           ∙ c.before.before.before.before.before.before.before.before.if1.true)
           (rw r c.before.before.before.before.before.take.ensures) {met = c.before.before.before.needs-met.result} (rw r
@@ -73,7 +73,7 @@ loop-again-2 c =
       length-set s.loop.marks s.loop.i 4 ∙ s.loop.invariant.1,
       s.loop.invariant.2,
       rw (marked-set s.loop.marks a.image.now room s.loop.i h 4)
-          (need-go (recordsOf a.image.now) (markedOf a.marks.now a.image.now) p.1.fates s.loop.invariant.3
+          (need-go (records_of a.image.now) (marked_of a.marks.now a.image.now) p.1.fates s.loop.invariant.3
           (omega (arith, count-marked a.marks.now a.image.now p.0)) (ap (λ z. z.mark) e
           ∙ c.before.before.before.before.before.before.before.if1.true)
           {more = c.before.before.before.before.take.result} (rw r
@@ -92,7 +92,7 @@ loop-again-3 c =
       omega arith,
       s.loop.invariant.1,
       s.loop.invariant.2,
-      need-skip (recordsOf a.image.now) (markedOf a.marks.now a.image.now) p.1.fates s.loop.invariant.3
+      need-skip (records_of a.image.now) (marked_of a.marks.now a.image.now) p.1.fates s.loop.invariant.3
           (omega (arith, count-marked a.marks.now a.image.now p.0))
           (λ q. c.if1.false (sym (ap (λ z. z.mark) e) ∙ q)),
     )
@@ -106,7 +106,7 @@ returns c =
     let a = c.before.before.before.before.before.args in
     let p = c.before.before.before.before.before.requires in
     record {
-      fates = need-end (recordsOf a.image.now) (markedOf a.marks.now a.image.now) p.1.fates s.loop.invariant.3
+      fates = need-end (records_of a.image.now) (marked_of a.marks.now a.image.now) p.1.fates s.loop.invariant.3
           (omega (arith, c.loop-test.false, count-marked a.marks.now a.image.now p.0));
     }
 

@@ -5,8 +5,8 @@ use Prim.Native.Nat.{ℕ, ◌*◌, ◌/◌, ◌≤◌, ◌<◌, ◌-◌}
 use native.Mathlib.Omega.{arith}
 use lib.ListN.{length, length-set}
 use Rattle.records.specs.Kinds.{before}
-use Rattle.records.specs.Records.{recordsOf}
-use Rattle.culling.specs.Marks.{markedOf}
+use Rattle.records.specs.Records.{records_of}
+use Rattle.culling.specs.Marks.{marked_of}
 use Rattle.culling.proofs.Marked.{count-marked, marked-at, marked-set}
 use Rattle.culling.proofs.Ordered.{Ordering, order-start, order-skip, order-keep, order-go, order-end}
 use borrow.Author.Rules.{rules}
@@ -15,7 +15,7 @@ use Rattle.culling.proofs.mark_order.Tie as tie
 
 abbrev invariant-loop : tie.invariant-loop
 invariant-loop image marks₀ n any₀ last₀ i₀ marks any last i = (i ≤ n) × (length marks ≡ length marks₀)
-    × Ordering (markedOf marks₀ image) i (markedOf marks image) any last
+    × Ordering (marked_of marks₀ image) i (marked_of marks image) any last
 
 abbrev decreases-loop : tie.decreases-loop
 decreases-loop image marks₀ n any₀ last₀ i₀ marks any last i = n - i
@@ -35,7 +35,7 @@ loop-again c =
       omega arith,
       s.loop.invariant.1,
       rw (← r)
-          (order-keep (recordsOf a.image.now) p.1.fates s.loop.invariant.2 (omega (
+          (order-keep (records_of a.image.now) p.1.fates s.loop.invariant.2 (omega (
             arith,
             count-marked a.marks.now a.image.now
                 p.0,
@@ -57,7 +57,7 @@ loop-again-2 c =
       omega arith,
       length-set s.loop.marks s.loop.i 3 ∙ s.loop.invariant.1,
       rw (marked-set s.loop.marks a.image.now room s.loop.i h 3)
-          (order-go (recordsOf a.image.now) p.1.fates s.loop.invariant.2 (omega (arith, count-marked a.marks.now a.image.now p.0))
+          (order-go (records_of a.image.now) p.1.fates s.loop.invariant.2 (omega (arith, count-marked a.marks.now a.image.now p.0))
           (ap (λ z. z.mark) e ∙ c.before.before.before.if1.true) _
           (ap (λ x. not s.loop.any || before s.loop.last x) r
           ∙ ap (λ b. not s.loop.any || b) (sym c.before.before2.ensures) ∙ c.if2.false) refl (sym (ap (λ z. z.item) e))),
@@ -86,7 +86,7 @@ returns c =
     let a = c.before.before.before.before.args in
     let p = c.before.before.before.before.requires in
     record {
-      fates = order-end (recordsOf a.image.now) p.1.fates s.loop.invariant.2
+      fates = order-end (records_of a.image.now) p.1.fates s.loop.invariant.2
           (omega (arith, c.loop-test.false, count-marked a.marks.now a.image.now p.0));
     }
 

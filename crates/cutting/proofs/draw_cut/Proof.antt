@@ -6,24 +6,24 @@ use Prim.Native.Nat.{◌-◌, ◌<◌}
 use lib.ListN.{length, length-set}
 use native.Mathlib.Omega.{arith}
 use borrow.Author.Rules.{rules}
-use Rattle.clock.specs.Dots.{dotsOf, clockOf, cutDots}
-use Rattle.limits.specs.Limits.{entryLimit}
-use Rattle.entries.specs.Model.{dotsIn}
+use Rattle.clock.specs.Dots.{dots_of, clock_of, cut_dots}
+use Rattle.limits.specs.Limits.{entry_limit}
+use Rattle.entries.specs.Model.{dots_in}
 use Rattle.removals.specs.Model.{keys_of}
 use Rattle.entries.specs.Entries.{stays}
 use Rattle.removals.specs.Waits.{listed}
-use Rattle.map.specs.Model.{entriesIn}
-use Rattle.maprecords.specs.Related.{readMap}
-use Rattle.cutting.specs.Cut.{cutWhere}
+use Rattle.map.specs.Model.{entries_in}
+use Rattle.maprecords.specs.Related.{read_map}
+use Rattle.cutting.specs.Cut.{cut_where}
 use Rattle.sketch.proofs.Adding.{sketch-none, push-one, push-over}
 use Rattle.cutting.proofs.Walked.{Walked, walked_start, walked_skip, walked-keep, walked-few, walked_end, here-lawful, left-stays, left-entry}
 use Rattle.cutting.proofs.draw_cut.Statement.{statement}
 use Rattle.cutting.proofs.draw_cut.Tie as tie
 
 abbrev invariant-loop : tie.invariant-loop
-invariant-loop s l all keys by end items₀ sums₀ x₀ items sums x = Walked s l (cutWhere all (keys_of keys) (dotsOf by)) (entriesIn (readMap s).map) x
+invariant-loop s l all keys by end items₀ sums₀ x₀ items sums x = Walked s l (cut_where all (keys_of keys) (dots_of by)) (entries_in (read_map s).map) x
     (record { items = items; sums = sums })
-    × (length items ≡ entryLimit)
+    × (length items ≡ entry_limit)
 
 abbrev decreases-loop : tie.decreases-loop
 decreases-loop s l all keys by end items₀ sums₀ x₀ items sums x = end - x.own
@@ -31,7 +31,7 @@ decreases-loop s l all keys by end items₀ sums₀ x₀ items sums x = end - x.
 loop-holds : tie.Need-loop-init invariant-loop decreases-loop
 loop-holds c =
     let z = c.before.before.before.before in (
-      walked_start (cutWhere z.args.all (keys_of z.args.keys) (dotsOf z.args.by)) z.requires.0
+      walked_start (cut_where z.args.all (keys_of z.args.keys) (dots_of z.args.by)) z.requires.0
           (λ other. sketch-none c.new3.ensures.0 c.new3.ensures.1),
       refl,
     )
@@ -75,7 +75,7 @@ with-requires c κs =
     let s = c.before.before.before.before.before.before.before.before.before.before in
     let z = s.before.before.before.before.before in
     let w = s.loop.invariant.0 in
-    (walked-few (cutWhere z.args.all (keys_of z.args.keys) (dotsOf z.args.by)) w, (_, (w.holds z.args.s.now).sums))
+    (walked-few (cut_where z.args.all (keys_of z.args.keys) (dots_of z.args.by)) w, (_, (w.holds z.args.s.now).sums))
 
 -- less is left behind an entry
 less : (c : tie.After-entry-at invariant-loop decreases-loop) → let s = c.before.before.before in
@@ -105,12 +105,12 @@ loop-again c =
     let w = s.loop.invariant.0 in
     let o = c.before.before.before.before.before.before.before.before.before.entry_at in
     let g = o.ensures w.rest w.ahead in
-    let f = cutWhere a.all (keys_of a.keys) (dotsOf a.by) in
+    let f = cut_where a.all (keys_of a.keys) (dots_of a.by) in
     let here = c.before.before.before.before.before.before.before.cutter in
-    let q = here.ensures ∙ ap (λ n. cond (a.all || listed (keys_of a.keys) n) a.by (clockOf [])) g.lies.key in
+    let q = here.ensures ∙ ap (λ n. cond (a.all || listed (keys_of a.keys) n) a.by (clock_of [])) g.lies.key in
     let b = a.all || listed (keys_of a.keys) g.entry.key in
     let left = c.before.before.before.before.before.before.own-left.ensures g.entry g.lies in
-    let d = cutDots (dotsOf here.result) (dotsIn g.entry) in
+    let d = cut_dots (dots_of here.result) (dots_in g.entry) in
     let t : stays (f g.entry) ≡ true = left-stays a.by b here.result q g.lies.fit left
     ∙ ap not (sym c.before.before.before.before.before.is-empty.ensures)
     ∙ c.before.before.before.before.if2.true in (
@@ -130,12 +130,12 @@ loop-again-2 c =
     let w = s.loop.invariant.0 in
     let o = c.before.before.before.before.before.before.before.before.before.entry_at in
     let g = o.ensures w.rest w.ahead in
-    let f = cutWhere a.all (keys_of a.keys) (dotsOf a.by) in
+    let f = cut_where a.all (keys_of a.keys) (dots_of a.by) in
     let here = c.before.before.before.before.before.before.before.cutter in
-    let q = here.ensures ∙ ap (λ n. cond (a.all || listed (keys_of a.keys) n) a.by (clockOf [])) g.lies.key in
+    let q = here.ensures ∙ ap (λ n. cond (a.all || listed (keys_of a.keys) n) a.by (clock_of [])) g.lies.key in
     let b = a.all || listed (keys_of a.keys) g.entry.key in
     let left = c.before.before.before.before.before.before.own-left.ensures g.entry g.lies in
-    let d = cutDots (dotsOf here.result) (dotsIn g.entry) in
+    let d = cut_dots (dots_of here.result) (dots_in g.entry) in
     let t : stays (f g.entry) ≡ true = left-stays a.by b here.result q g.lies.fit left
     ∙ ap not (sym c.before.before.before.before.before.is-empty.ensures)
     ∙ c.before.before.before.before.if2.true in (
@@ -153,9 +153,9 @@ loop-again-3 c =
     let a = s.before.before.before.before.before.args in
     let w = s.loop.invariant.0 in
     let g = c.before.before.before.before.before.entry_at.ensures w.rest w.ahead in
-    let f = cutWhere a.all (keys_of a.keys) (dotsOf a.by) in
+    let f = cut_where a.all (keys_of a.keys) (dots_of a.by) in
     let here = c.before.before.before.cutter in
-    let q = here.ensures ∙ ap (λ n. cond (a.all || listed (keys_of a.keys) n) a.by (clockOf [])) g.lies.key in
+    let q = here.ensures ∙ ap (λ n. cond (a.all || listed (keys_of a.keys) n) a.by (clock_of [])) g.lies.key in
     let b = a.all || listed (keys_of a.keys) g.entry.key in
     let left = c.before.before.own-left.ensures g.entry g.lies in
     let t : stays (f g.entry) ≡ false = left-stays a.by b here.result q g.lies.fit left ∙ ap not (sym c.before.is-empty.ensures)
@@ -165,7 +165,7 @@ loop-again-3 c =
 returns : tie.Need-returns invariant-loop decreases-loop
 returns c =
     let a = c.before.before.before.before.before.before.before.args in
-    walked_end (cutWhere a.all (keys_of a.keys) (dotsOf a.by)) c.before.before.loop.invariant.0 (omega arith)
+    walked_end (cut_where a.all (keys_of a.keys) (dots_of a.by)) c.before.before.loop.invariant.0 (omega arith)
 
 pub draw-cut-spec : {M : Type 1} → statement M
 draw-cut-spec =

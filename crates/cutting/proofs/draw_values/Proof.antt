@@ -8,15 +8,15 @@ use native.Mathlib.Omega.{arith}
 use borrow.Author.Rules.{rules}
 use Rattle.listlaws.proofs.Pads.{unmapped}
 use Rattle.clock.specs.declared.Dot.{Dot}
-use Rattle.clock.specs.Dots.{dotsOf}
+use Rattle.clock.specs.Dots.{dots_of}
 use Rattle.register.specs.declared.Value.{Value}
-use Rattle.limits.specs.Limits.{valueLimit}
+use Rattle.limits.specs.Limits.{value_limit}
 use Rattle.entries.specs.declared.Entry.{Entry}
-use Rattle.entries.specs.Model.{valuesIn}
+use Rattle.entries.specs.Model.{values_in}
 use Rattle.walks.specs.declared.Span.{Span}
 use Rattle.entrywalk.specs.declared.Cursor.{Cursor}
 use Rattle.entrywalk.specs.Walking.{LiesAt}
-use Rattle.sketch.specs.Drawn.{valueFrom, Draws}
+use Rattle.sketch.specs.Drawn.{value_from, Draws}
 use Rattle.sketch.proofs.Adding.{add_none, add-one, add-over}
 use Rattle.entrywalk.proofs.Lying.{many-values}
 use Rattle.cutting.proofs.Valued.{Drawing, drawing-start, drawing-no, drawing-yes, drawing-end, source-asks, source-value}
@@ -25,10 +25,10 @@ use Rattle.cutting.proofs.draw_values.Tie as tie
 
 abbrev invariant-loop : tie.invariant-loop
 invariant-loop v second gone stand first n starts out₀ i₀ out i =
-    ((i ≤ n) × ((n ≤ valueLimit) × ((out₀.len ≤ valueLimit) × ((out.len ≤ out₀.len + i) × ((length stand ≡ 4) × (length out.sources ≡ 4))))))
+    ((i ≤ n) × ((n ≤ value_limit) × ((out₀.len ≤ value_limit) × ((out.len ≤ out₀.len + i) × ((length stand ≡ 4) × (length out.sources ≡ 4))))))
     × ((s t : List ℕ) (own : ℕ) (dots : Span) (end : ℕ) (next : Cursor) (x : Entry) (key : ℕ) (d : List Dot) (l : List Value) → v ≡ cond second t s
     → LiesAt v x (record { key = own; dots = dots; values = record { from = first; to = end }; starts = starts; next = next }) → end - first ≡ n
-    → Draws s t key d l out₀ → Drawing s t key d l (dotsOf gone) stand (valuesIn x) i out)
+    → Draws s t key d l out₀ → Drawing s t key d l (dots_of gone) stand (values_in x) i out)
 
 abbrev decreases-loop : tie.decreases-loop
 decreases-loop v second gone stand first n starts out₀ i₀ out i = n - i
@@ -51,8 +51,8 @@ loop-holds c =
           ),
         ),
       ),
-      λ s t own dots end next x key d l q e m g. drawing-start (dotsOf z.args.gone) z.args.t5
-          (valuesIn x) g,
+      λ s t own dots end next x key d l q e m g. drawing-start (dots_of z.args.gone) z.args.t5
+          (values_in x) g,
     )
 
 source-of-requires : tie.Need-source-of-requires invariant-loop decreases-loop
@@ -60,14 +60,14 @@ source-of-requires c κs =
     let s = c.before.before in
     let z = s.before.before.before.before.before in
     let h = z.requires.1.1.0.1 in
-    source-asks h s.loop.i (omega (arith, many-values h)) (dotsOf z.args.gone) z.requires.1.0 z.requires.1.1.1
+    source-asks h s.loop.i (omega (arith, many-values h)) (dots_of z.args.gone) z.requires.1.0 z.requires.1.1.1
 
 sub-many : tie.Need-overflow-sub-many invariant-loop decreases-loop
 sub-many c =
     let s = c.before.before.before.before.before in
     let z = s.before.before.before.before.before in
     let h = z.requires.1.1.0.1 in
-    let a = (source-asks h s.loop.i (omega (arith, many-values h)) (dotsOf z.args.gone) z.requires.1.0 z.requires.1.1.1).0.1 in
+    let a = (source-asks h s.loop.i (omega (arith, many-values h)) (dots_of z.args.gone) z.requires.1.0 z.requires.1.1.1).0.1 in
     let b = c.before.before.source_of.ensures.0.1.1 in
     omega arith
 
@@ -76,7 +76,7 @@ some-marks-requires c κs =
     let s = c.before.before.before.before.before in
     let z = s.before.before.before.before.before in
     let h = z.requires.1.1.0.1 in
-    let a = (source-asks h s.loop.i (omega (arith, many-values h)) (dotsOf z.args.gone) z.requires.1.0 z.requires.1.1.1).0.1 in
+    let a = (source-asks h s.loop.i (omega (arith, many-values h)) (dots_of z.args.gone) z.requires.1.0 z.requires.1.1.1).0.1 in
     let b = c.before.before.source_of.ensures.0.1.1 in
     omega arith
 
@@ -100,12 +100,12 @@ loop-again c =
         ),
       ),
       λ u t own dots end next x key d l q h m g.
-          let k : s.loop.i < length (valuesIn x) = omega (arith, on, many-values h) in
-          let w = source-value h s.loop.i k u t (dotsOf z.args.gone) o.result (q
+          let k : s.loop.i < length (values_in x) = omega (arith, on, many-values h) in
+          let w = source-value h s.loop.i k u t (dots_of z.args.gone) o.result (q
           ∙ ap (λ b. cond b t u) (sym o.ensures.0.0)) o.ensures.0.1 o.ensures.1 in
-          drawing-yes (dotsOf z.args.gone) z.args.t5 (valuesIn x) (s.loop.invariant.1 u t own dots end next x key d l q h m g) (omega arith) k
+          drawing-yes (dots_of z.args.gone) z.args.t5 (values_in x) (s.loop.invariant.1 u t own dots end next x key d l q h m g) (omega arith) k
           c.before.before.before.before.before.before.if1.true
-          (valueFrom u t o.result) w.0 _ (λ y r. add-one r o.result w.1 c.before.before.some-marks.ensures c.before.if2.true
+          (value_from u t o.result) w.0 _ (λ y r. add-one r o.result w.1 c.before.before.some-marks.ensures c.before.if2.true
           long.1 c.if3.true),
     )
 
@@ -119,12 +119,12 @@ loop-again-2 c =
     let on = c.before.before.before.before.before.before.before.loop-test.true in (
       (omega (arith, on), (omega arith, (omega arith, (omega arith, long)))),
       λ u t own dots end next x key d l q h m g.
-          let k : s.loop.i < length (valuesIn x) = omega (arith, on, many-values h) in
-          let w = source-value h s.loop.i k u t (dotsOf z.args.gone) o.result (q
+          let k : s.loop.i < length (values_in x) = omega (arith, on, many-values h) in
+          let w = source-value h s.loop.i k u t (dots_of z.args.gone) o.result (q
           ∙ ap (λ b. cond b t u) (sym o.ensures.0.0)) o.ensures.0.1 o.ensures.1 in
-          drawing-yes (dotsOf z.args.gone) z.args.t5 (valuesIn x) (s.loop.invariant.1 u t own dots end next x key d l q h m g) (omega arith) k
+          drawing-yes (dots_of z.args.gone) z.args.t5 (values_in x) (s.loop.invariant.1 u t own dots end next x key d l q h m g) (omega arith) k
           c.before.before.before.before.before.before.if1.true
-          (valueFrom u t o.result) w.0 _ (λ y r. add-over r o.result w.1 c.before.before.some-marks.ensures c.before.if2.true
+          (value_from u t o.result) w.0 _ (λ y r. add-over r o.result w.1 c.before.before.some-marks.ensures c.before.if2.true
           (omega arith)),
     )
 
@@ -138,12 +138,12 @@ loop-again-3 c =
     let on = c.before.before.before.before.before.before.loop-test.true in (
       (omega (arith, on), (omega arith, (omega arith, (omega arith, long)))),
       λ u t own dots end next x key d l q h m g.
-          let k : s.loop.i < length (valuesIn x) = omega (arith, on, many-values h) in
-          let w = source-value h s.loop.i k u t (dotsOf z.args.gone) o.result (q
+          let k : s.loop.i < length (values_in x) = omega (arith, on, many-values h) in
+          let w = source-value h s.loop.i k u t (dots_of z.args.gone) o.result (q
           ∙ ap (λ b. cond b t u) (sym o.ensures.0.0)) o.ensures.0.1 o.ensures.1 in
-          drawing-yes (dotsOf z.args.gone) z.args.t5 (valuesIn x) (s.loop.invariant.1 u t own dots end next x key d l q h m g) (omega arith) k
+          drawing-yes (dots_of z.args.gone) z.args.t5 (values_in x) (s.loop.invariant.1 u t own dots end next x key d l q h m g) (omega arith) k
           c.before.before.before.before.before.if1.true
-          (valueFrom u t o.result) w.0 _ (λ y r. add_none r o.result w.1 c.before.some-marks.ensures c.if2.false),
+          (value_from u t o.result) w.0 _ (λ y r. add_none r o.result w.1 c.before.some-marks.ensures c.if2.false),
     )
 
 loop-again-4 : tie.Need-loop-preserved-4 invariant-loop decreases-loop
@@ -153,7 +153,7 @@ loop-again-4 c =
     let long = s.loop.invariant.0.1.1.1.1 in (
       (omega arith, (omega arith, (omega arith, (omega arith, long)))),
       λ u t own dots end next x key d l q h m g.
-          drawing-no (dotsOf z.args.gone) z.args.t5 (valuesIn x) (s.loop.invariant.1 u t own dots end next x key d l q h m g) (omega arith)
+          drawing-no (dots_of z.args.gone) z.args.t5 (values_in x) (s.loop.invariant.1 u t own dots end next x key d l q h m g) (omega arith)
           (omega (arith, many-values h)) c.if1.false,
     )
 
@@ -163,7 +163,7 @@ returns c =
     let e = z.args.e in (
       omega arith,
       λ u t x key d l q h g.
-          drawing-end (dotsOf z.args.gone) z.args.t5 (valuesIn x)
+          drawing-end (dots_of z.args.gone) z.args.t5 (values_in x)
           (c.before.loop.invariant.1 u t e.key e.dots e.values.to e.next x key d l q h refl g) (omega (arith, many-values h)),
     )
 

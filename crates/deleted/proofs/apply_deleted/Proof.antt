@@ -3,7 +3,7 @@ use mathlib.Core.Path.{ap, sym, ◌∙◌}
 use Rattle.map.specs.Judging.{judged}
 use Rattle.map.specs.Applying.{apply}
 use Rattle.opimage.specs.declared.ReadOp.{ReadOp}
-use Rattle.maprecords.specs.Related.{readMap}
+use Rattle.maprecords.specs.Related.{read_map}
 use Rattle.promises.proofs.Ways.{first-uncounted, second-uncounted, nothing-counted, map-counted}
 use Rattle.promises.proofs.Deletes.{update-deletes}
 use Rattle.drafting.proofs.Results.{read-removal, applied-removal}
@@ -37,7 +37,7 @@ returns-4 c =
     let i = c.before in
     let o = i.before.before.before.before in
     let a = o.before.before.before.before.before.before.args in
-    let m = (readMap a.map.now).map in
+    let m = (read_map a.map.now).map in
     let k = o.read-op.ensures in
     map-counted _ _ (sym o.before.before.before.lay-out.ensures.0 ∙ o.before.if1.false)
     (sym (ap (λ (r : ReadOp). r.number) k) ∙ i.before.before.if2.false)

@@ -1,10 +1,10 @@
 -- `reset_remove_deleted` meets its contract: each way out is a law of `Ways`.
 use mathlib.Core.Path.{ap, sym, ◌∙◌}
-use Rattle.clock.specs.Dots.{dotsOf}
+use Rattle.clock.specs.Dots.{dots_of}
 use Rattle.clockimage.specs.declared.ReadClock.{ReadClock}
 use Rattle.map.specs.Judging.{judged}
 use Rattle.map.specs.Resetting.{reset}
-use Rattle.maprecords.specs.Related.{readMap}
+use Rattle.maprecords.specs.Related.{read_map}
 use Rattle.oneimagelaws.proofs.Clocks.{one-clock-image}
 use Rattle.promises.proofs.Ways.{first-uncounted, second-uncounted, map-counted}
 use Rattle.deleted.proofs.Counts.{reset-left}
@@ -41,7 +41,7 @@ returns-3 c =
     let k = o.read-clock.ensures in
     map-counted _ _ (sym o.before.before.before.lay-out.ensures.0 ∙ o.before.if1.false)
     (sym (ap (λ (r : ReadClock). r.number) k) ∙ i.if2.false)
-    (ap (λ (r : ReadClock). judged (reset (readMap a.map.now).map (dotsOf r.clock))) k)
+    (ap (λ (r : ReadClock). judged (reset (read_map a.map.now).map (dots_of r.clock))) k)
     (c.reset-deleted.ensures _ (reset-left a.map.now a.clock.now k))
 
 pub reset-remove-deleted-spec : {M : Type 1} → statement M

@@ -5,9 +5,9 @@ use Prim.Native.Nat.{◌-◌, ◌^◌}
 use lib.Dec.{ltb}
 use lib.ListN.{length-map}
 use Rattle.scan.specs.Each.{every}
-use Rattle.mapimage.specs.MapImage.{flatFrom, keyNumbers, numberRecord}
-use Rattle.mapimage.specs.Sorted.{inOrder}
-use Rattle.memory.specs.Memory.{waitingAt}
+use Rattle.mapimage.specs.MapImage.{flat_from, key_numbers, number_record}
+use Rattle.mapimage.specs.Sorted.{in_order}
+use Rattle.memory.specs.Memory.{waiting_at}
 use Rattle.delivery.proofs.Counting.{Counting, counting-start, counting-on, counting-end}
 use borrow.Author.Rules.{rules}
 use native.Mathlib.Omega.{arith}
@@ -16,8 +16,8 @@ use Rattle.delivery.proofs.count_keys.Tie as tie
 
 abbrev invariant-loop : tie.invariant-loop
 invariant-loop mem total₀ best₀ total best =
-    (every (λ x. ltb x (2 ^ 40)) (flatFrom keyNumbers 0 (waitingAt mem)) ≡ true)
-    × Counting (2 ^ 40) (flatFrom keyNumbers 0 (waitingAt mem)) total best
+    (every (λ x. ltb x (2 ^ 40)) (flat_from key_numbers 0 (waiting_at mem)) ≡ true)
+    × Counting (2 ^ 40) (flat_from key_numbers 0 (waiting_at mem)) total best
 
 abbrev decreases-loop : tie.decreases-loop
 decreases-loop mem total₀ best₀ total best = 2 ^ 40 - best
@@ -44,7 +44,7 @@ returns c =
     let s = c.before in
     let w = s.before.before.args.mem.now in
     let r = counting-end (2 ^ 40) _ s.loop.invariant.0 s.loop.invariant.1 c.loop-test.false in
-    (r.0 ∙ sym (length-map (inOrder (flatFrom keyNumbers 0 (waitingAt w))) numberRecord), r.1)
+    (r.0 ∙ sym (length-map (in_order (flat_from key_numbers 0 (waiting_at w))) number_record), r.1)
 
 pub count-keys-spec : {M : Type 1} → statement M
 count-keys-spec =

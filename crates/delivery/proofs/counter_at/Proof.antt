@@ -3,8 +3,8 @@ use mathlib.Core.Path.{◌≡◌, refl, ap, sym, ◌∙◌}
 use mathlib.Core.List.{◌∷◌}
 use Prim.Native.Nat.{◌+◌, ◌≤◌, ◌-◌}
 use lib.ListN.{drop}
-use Rattle.clock.specs.Dots.{counterIn}
-use Rattle.memory.specs.Memory.{dotsAt}
+use Rattle.clock.specs.Dots.{counter_in}
+use Rattle.memory.specs.Memory.{dots_at}
 use Rattle.delivery.proofs.Views.{dots-left, dots-end}
 use Rattle.delivery.proofs.Lookups.{counter-here, counter-on, counter-none}
 use borrow.Author.Rules.{rules}
@@ -13,7 +13,7 @@ use Rattle.delivery.proofs.counter_at.Statement.{statement}
 use Rattle.delivery.proofs.counter_at.Tie as tie
 
 abbrev invariant-loop : tie.invariant-loop
-invariant-loop mem at actor n i₀ i = (i ≤ n) × (counterIn (dotsAt mem at) actor ≡ counterIn (drop i (dotsAt mem at)) actor)
+invariant-loop mem at actor n i₀ i = (i ≤ n) × (counter_in (dots_at mem at) actor ≡ counter_in (drop i (dots_at mem at)) actor)
 
 abbrev decreases-loop : tie.decreases-loop
 decreases-loop mem at actor n i₀ i = n - i
@@ -21,11 +21,11 @@ decreases-loop mem at actor n i₀ i = n - i
 -- the dot that was read is the next
 next : (c : tie.After-dot-at invariant-loop decreases-loop) → let s = c.before.before in
     let a = s.before.before.args in
-    drop s.loop.i (dotsAt a.mem.now a.at) ≡ c.dot_at.result ∷ drop (s.loop.i + 1) (dotsAt a.mem.now a.at)
+    drop s.loop.i (dots_at a.mem.now a.at) ≡ c.dot_at.result ∷ drop (s.loop.i + 1) (dots_at a.mem.now a.at)
 next c =
     let s = c.before.before in
     let a = s.before.before.args in
-    dots-left a.mem.now a.at s.loop.i (omega arith) ∙ ap (λ d. d ∷ drop (s.loop.i + 1) (dotsAt a.mem.now a.at))
+    dots-left a.mem.now a.at s.loop.i (omega arith) ∙ ap (λ d. d ∷ drop (s.loop.i + 1) (dots_at a.mem.now a.at))
     (sym c.dot_at.ensures)
 
 returns : tie.Need-returns invariant-loop decreases-loop

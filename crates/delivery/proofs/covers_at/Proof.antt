@@ -4,7 +4,7 @@ use mathlib.Core.List.{◌∷◌}
 use Prim.Native.Nat.{◌+◌, ◌≤◌, ◌-◌}
 use lib.ListN.{drop}
 use Rattle.clock.specs.Dots.{covers}
-use Rattle.memory.specs.Memory.{dotsAt}
+use Rattle.memory.specs.Memory.{dots_at}
 use Rattle.delivery.proofs.Views.{dots-left, dots-end}
 use Rattle.delivery.proofs.Lookups.{covers-fails, covers-on, covers-none}
 use borrow.Author.Rules.{rules}
@@ -13,7 +13,7 @@ use Rattle.delivery.proofs.covers_at.Statement.{statement}
 use Rattle.delivery.proofs.covers_at.Tie as tie
 
 abbrev invariant-loop : tie.invariant-loop
-invariant-loop mem at other n i₀ i = (i ≤ n) × (covers (dotsAt mem at) (dotsAt mem other) ≡ covers (dotsAt mem at) (drop i (dotsAt mem other)))
+invariant-loop mem at other n i₀ i = (i ≤ n) × (covers (dots_at mem at) (dots_at mem other) ≡ covers (dots_at mem at) (drop i (dots_at mem other)))
 
 abbrev decreases-loop : tie.decreases-loop
 decreases-loop mem at other n i₀ i = n - i
@@ -21,11 +21,11 @@ decreases-loop mem at other n i₀ i = n - i
 -- the dot that was read is the next
 next : (c : tie.After-dot-at invariant-loop decreases-loop) → let s = c.before.before in
     let a = s.before.before.args in
-    drop s.loop.i (dotsAt a.mem.now a.other) ≡ c.dot_at.result ∷ drop (s.loop.i + 1) (dotsAt a.mem.now a.other)
+    drop s.loop.i (dots_at a.mem.now a.other) ≡ c.dot_at.result ∷ drop (s.loop.i + 1) (dots_at a.mem.now a.other)
 next c =
     let s = c.before.before in
     let a = s.before.before.args in
-    dots-left a.mem.now a.other s.loop.i (omega arith) ∙ ap (λ d. d ∷ drop (s.loop.i + 1) (dotsAt a.mem.now a.other))
+    dots-left a.mem.now a.other s.loop.i (omega arith) ∙ ap (λ d. d ∷ drop (s.loop.i + 1) (dots_at a.mem.now a.other))
     (sym c.dot_at.ensures)
 
 returns : tie.Need-returns invariant-loop decreases-loop

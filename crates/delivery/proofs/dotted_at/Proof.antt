@@ -4,7 +4,7 @@ use Prim.Native.Nat.{◌≤◌, ◌-◌}
 use lib.ListN.{drop}
 use Rattle.scan.specs.Each.{every}
 use Rattle.maprecords.specs.Related.{dotted}
-use Rattle.memory.specs.Memory.{valuePlace, valuesAt}
+use Rattle.memory.specs.Memory.{value_place, values_at}
 use Rattle.delivery.proofs.Views.{values-left, values-end}
 use Rattle.delivery.proofs.Lookups.{dotted-fails, dotted-on, dotted-none}
 use borrow.Author.Rules.{rules}
@@ -13,7 +13,7 @@ use Rattle.delivery.proofs.dotted_at.Statement.{statement}
 use Rattle.delivery.proofs.dotted_at.Tie as tie
 
 abbrev invariant-loop : tie.invariant-loop
-invariant-loop mem j at n i₀ i = (i ≤ n) × (every dotted (valuesAt mem j) ≡ every dotted (drop i (valuesAt mem j)))
+invariant-loop mem j at n i₀ i = (i ≤ n) × (every dotted (values_at mem j) ≡ every dotted (drop i (values_at mem j)))
 
 abbrev decreases-loop : tie.decreases-loop
 decreases-loop mem j at n i₀ i = n - i
@@ -22,7 +22,7 @@ returns : tie.Need-returns invariant-loop decreases-loop
 returns c =
     let s = c.before.before.before in
     let a = s.before.before.args in
-    sym (s.loop.invariant.1 ∙ dotted-fails a.mem.now (valuePlace a.j s.loop.i) (values-left a.mem.now a.j s.loop.i (omega arith))
+    sym (s.loop.invariant.1 ∙ dotted-fails a.mem.now (value_place a.j s.loop.i) (values-left a.mem.now a.j s.loop.i (omega arith))
     (omega (arith, c.before.count2.ensures, c.if1.true)))
 
 loop-again : tie.Need-loop-preserved invariant-loop decreases-loop
@@ -30,7 +30,7 @@ loop-again c =
     let s = c.before.before.before in
     let a = s.before.before.args in (
       omega arith,
-      s.loop.invariant.1 ∙ dotted-on a.mem.now (valuePlace a.j s.loop.i) (values-left a.mem.now a.j s.loop.i (omega arith))
+      s.loop.invariant.1 ∙ dotted-on a.mem.now (value_place a.j s.loop.i) (values-left a.mem.now a.j s.loop.i (omega arith))
           (λ e. c.if1.false (c.before.count2.ensures.0 ∙ e)),
     )
 

@@ -1,6 +1,6 @@
 -- `end` meets its contract: each way out is a law of `Ends`.
 use mathlib.Core.Path.{◌≡◌, sym, ◌∙◌}
-use Rattle.delivery.specs.Delivery.{endNumber}
+use Rattle.delivery.specs.Delivery.{end_number}
 use Rattle.delivery.proofs.Ends.{end-closed, end_refused, end_short, end-writes}
 use borrow.Author.Rules.{rules}
 use native.Mathlib.Omega.{arith}
@@ -17,7 +17,7 @@ returns-2 c =
     n.if2.true)
 
 -- the image is whole
-whole : (c : tie.After-image-length) → let n = c.before.before.before in 0 ≡ endNumber n.before.before.before.before.before.args.mem.now
+whole : (c : tie.After-image-length) → let n = c.before.before.before in 0 ≡ end_number n.before.before.before.before.before.args.mem.now
 whole c = let n = c.before.before in sym n.if2.false ∙ n.before.number_of_lem.ensures
 
 returns-3 : tie.Need-returns-3

@@ -4,8 +4,8 @@ use Prim.Native.Nat.{◌≤◌, ◌-◌}
 use lib.ListN.{drop}
 use borrow.Author.Tests.{not-true, not-false}
 use Rattle.scan.specs.Each.{every}
-use Rattle.maprecords.specs.Related.{entryWhole}
-use Rattle.memory.specs.Memory.{clockPlace, dotsAt, entries_at}
+use Rattle.maprecords.specs.Related.{entry_whole}
+use Rattle.memory.specs.Memory.{clock_place, dots_at, entries_at}
 use Rattle.delivery.proofs.Views.{entries-left, entries-end}
 use borrow.Author.Rules.{rules}
 use native.Mathlib.Omega.{arith}
@@ -14,7 +14,7 @@ use Rattle.delivery.proofs.entries_whole.Tie as tie
 
 abbrev invariant-loop : tie.invariant-loop
 invariant-loop mem n j₀ j =
-    (j ≤ n) × (every (entryWhole (dotsAt mem clockPlace)) (entries_at mem) ≡ every (entryWhole (dotsAt mem clockPlace)) (drop j (entries_at mem)))
+    (j ≤ n) × (every (entry_whole (dots_at mem clock_place)) (entries_at mem) ≡ every (entry_whole (dots_at mem clock_place)) (drop j (entries_at mem)))
 
 abbrev decreases-loop : tie.decreases-loop
 decreases-loop mem n j₀ j = n - j

@@ -2,9 +2,9 @@
 use mathlib.Core.Path.{ap}
 use Prim.Native.Nat.{◌≤◌, ◌-◌, ◌^◌}
 use lib.ListN.{drop}
-use Rattle.mapimage.specs.MapImage.{flatFrom, keyNumbers}
+use Rattle.mapimage.specs.MapImage.{flat_from, key_numbers}
 use Rattle.mapimage.proofs.Flats.{Least, least_start, least-all, least-end}
-use Rattle.memory.specs.Memory.{removalAt, waitingAt}
+use Rattle.memory.specs.Memory.{removal_at, waiting_at}
 use Rattle.delivery.proofs.Views.{waiting-left, waiting-end}
 use borrow.Author.Rules.{rules}
 use native.Mathlib.Omega.{arith}
@@ -12,8 +12,8 @@ use Rattle.delivery.proofs.least.Statement.{statement}
 use Rattle.delivery.proofs.least.Tie as tie
 
 abbrev invariant-loop : tie.invariant-loop
-invariant-loop mem low n best₀ k₀ best k = (k ≤ n) × Least (2 ^ 40) low (2 ^ 40) (flatFrom keyNumbers 0 (waitingAt mem))
-    (flatFrom keyNumbers k (drop k (waitingAt mem))) best
+invariant-loop mem low n best₀ k₀ best k = (k ≤ n) × Least (2 ^ 40) low (2 ^ 40) (flat_from key_numbers 0 (waiting_at mem))
+    (flat_from key_numbers k (drop k (waiting_at mem))) best
 
 abbrev decreases-loop : tie.decreases-loop
 decreases-loop mem low n best₀ k₀ best k = n - k
@@ -22,22 +22,22 @@ loop-holds : tie.Need-loop-init invariant-loop decreases-loop
 loop-holds c = (omega arith, least_start)
 
 loop-again : tie.Need-loop-preserved invariant-loop decreases-loop
-unfolding flatFrom
+unfolding flat_from
 loop-again c =
     let s = c.before.before in
     let w = s.before.before.args.mem.now in
-    let e = ap (flatFrom keyNumbers s.loop.k) (waiting-left w s.loop.k (omega arith)) in (
+    let e = ap (flat_from key_numbers s.loop.k) (waiting-left w s.loop.k (omega arith)) in (
       omega arith,
-      least-all (keyNumbers s.loop.k (removalAt w s.loop.k)) s.loop.invariant.1 e c.least-in.ensures.1
+      least-all (key_numbers s.loop.k (removal_at w s.loop.k)) s.loop.invariant.1 e c.least-in.ensures.1
           c.least-in.ensures.0,
     )
 
 returns : tie.Need-returns invariant-loop decreases-loop
-unfolding flatFrom
+unfolding flat_from
 returns c =
     let s = c.before in
     let w = s.before.before.args.mem.now in
-    least-end s.loop.invariant.1 (ap (flatFrom keyNumbers s.loop.k) (waiting-end w s.loop.k (omega arith)))
+    least-end s.loop.invariant.1 (ap (flat_from key_numbers s.loop.k) (waiting-end w s.loop.k (omega arith)))
 
 pub least-spec : {M : Type 1} → statement M
 least-spec =

@@ -5,9 +5,9 @@ use Prim.Native.Nat.{◌≤◌, ◌-◌, ◌^◌}
 use lib.ListN.{drop}
 use borrow.Author.Tests.{lt-ltb}
 use Rattle.mapimage.specs.Least.{lesser}
-use Rattle.mapimage.specs.MapImage.{keyNumber, keyNumbers}
+use Rattle.mapimage.specs.MapImage.{key_number, key_numbers}
 use Rattle.mapimage.proofs.Flats.{Least, least_start, least_on, least-end}
-use Rattle.memory.specs.Memory.{listed_at, removalAt}
+use Rattle.memory.specs.Memory.{listed_at, removal_at}
 use Rattle.delivery.proofs.Views.{numbers-listed, listed-left, listed-end}
 use borrow.Author.Rules.{rules}
 use native.Mathlib.Omega.{arith}
@@ -15,8 +15,8 @@ use Rattle.delivery.proofs.least_in.Statement.{statement}
 use Rattle.delivery.proofs.least_in.Tie as tie
 
 abbrev invariant-loop : tie.invariant-loop
-invariant-loop mem k low m at n index best₀ i₀ best i = (i ≤ n) × Least (2 ^ 40) low m (keyNumbers k (removalAt mem k))
-    (map (keyNumber k) (drop i (listed_at mem k))) best
+invariant-loop mem k low m at n index best₀ i₀ best i = (i ≤ n) × Least (2 ^ 40) low m (key_numbers k (removal_at mem k))
+    (map (key_number k) (drop i (listed_at mem k))) best
 
 abbrev decreases-loop : tie.decreases-loop
 decreases-loop mem k low m at n index best₀ i₀ best i = n - i
@@ -28,8 +28,8 @@ loop-again : tie.Need-loop-preserved invariant-loop decreases-loop
 loop-again c =
     let s = c.before.before.before.before.before in
     let a = s.before.before.args in
-    let e = ap (map (keyNumber a.k)) (listed-left a.mem.now a.k s.loop.i (omega arith)) in
-    let n = c.before.key-number.ensures.0 ∙ ap (keyNumber a.k) c.before.before.read32.ensures in (
+    let e = ap (map (key_number a.k)) (listed-left a.mem.now a.k s.loop.i (omega arith)) in
+    let n = c.before.key-number.ensures.0 ∙ ap (key_number a.k) c.before.before.read32.ensures in (
       omega arith,
       least_on s.loop.invariant.1 e (lt-ltb _ (2 ^ 40) (rw n at c.before.key-number.ensures.1))
           (c.lesser.ensures ∙ ap (lesser a.low s.loop.best) n),
@@ -39,7 +39,7 @@ returns : tie.Need-returns invariant-loop decreases-loop
 returns c =
     let s = c.before in
     let a = s.before.before.args in
-    least-end s.loop.invariant.1 (ap (map (keyNumber a.k)) (listed-end a.mem.now a.k s.loop.i (omega arith)))
+    least-end s.loop.invariant.1 (ap (map (key_number a.k)) (listed-end a.mem.now a.k s.loop.i (omega arith)))
 
 pub least-in-spec : {M : Type 1} → statement M
 least-in-spec =

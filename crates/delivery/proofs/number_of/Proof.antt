@@ -2,17 +2,17 @@
 use mathlib.Core.Path.{◌≡◌, ap, sym, ◌∙◌}
 use mathlib.Core.Bool.{cond}
 use Rattle.records.specs.Bytes.{num_at}
-use Rattle.maprecords.specs.Related.{lengthNumber}
-use Rattle.memory.specs.Memory.{lengthPlace}
-use Rattle.delivery.specs.Delivery.{scannedAt}
+use Rattle.maprecords.specs.Related.{length_number}
+use Rattle.memory.specs.Memory.{length_place}
+use Rattle.delivery.specs.Delivery.{scanned_at}
 use Rattle.delivery.proofs.Ends.{number-of-length, number-of-records, number-of-all}
 use borrow.Author.Rules.{rules}
 use Rattle.delivery.proofs.number_of.Statement.{statement}
 use Rattle.delivery.proofs.number_of.Tie as tie
 
 -- what a length alone is answered with
-of_length : (c : tie.After-length-number) → c.length-number.result ≡ lengthNumber (num_at 2 lengthPlace c.before.before.before.args.mem.now)
-of_length c = c.length-number.ensures ∙ ap lengthNumber c.before.read32.ensures
+of_length : (c : tie.After-length-number) → c.length-number.result ≡ length_number (num_at 2 length_place c.before.before.before.args.mem.now)
+of_length c = c.length-number.ensures ∙ ap length_number c.before.read32.ensures
 
 returns : tie.Need-returns
 returns c = number-of-length _ (of_length c.before) c.if1.true
@@ -24,7 +24,7 @@ returns-2 c =
 
 -- neither the length nor a record by itself is wrong
 fine : (c : tie.After-related) → let w = c.before.before.before.before.before.before.before.before.args.mem.now in
-    (lengthNumber (num_at 2 lengthPlace w) ≡ 0) × (scannedAt w ≡ 0)
+    (length_number (num_at 2 length_place w) ≡ 0) × (scanned_at w ≡ 0)
 fine c =
     let l = c.before.before.before.before in
     (sym (of_length l.before) ∙ l.if1.false, sym c.before.before.scanned.ensures ∙ c.before.if2.false)

@@ -4,10 +4,10 @@ use Prim.Native.Nat.{◌≤◌, ◌-◌}
 use lib.ListN.{drop}
 use borrow.Author.Tests.{not-true, not-false}
 use Rattle.clock.specs.declared.Clock.{Clock}
-use Rattle.clock.specs.Dots.{dotsOf}
-use Rattle.removals.specs.Waits.{clockBefore, removalBefore}
+use Rattle.clock.specs.Dots.{dots_of}
+use Rattle.removals.specs.Waits.{clock_before, removal_before}
 use Rattle.maprecords.specs.Related.{ascend}
-use Rattle.memory.specs.Memory.{removalAt, waitingAt}
+use Rattle.memory.specs.Memory.{removal_at, waiting_at}
 use Rattle.delivery.proofs.Ascends.{ascend-on, ascend-fails, ascend-end}
 use borrow.Author.Rules.{rules}
 use native.Mathlib.Omega.{arith}
@@ -15,7 +15,7 @@ use Rattle.delivery.proofs.waiting_ascends.Statement.{statement}
 use Rattle.delivery.proofs.waiting_ascends.Tie as tie
 
 abbrev invariant-loop : tie.invariant-loop
-invariant-loop mem n k₀ k = (1 ≤ k) × (ascend (waitingAt mem) ≡ ascend (drop (k - 1) (waitingAt mem)))
+invariant-loop mem n k₀ k = (1 ≤ k) × (ascend (waiting_at mem) ≡ ascend (drop (k - 1) (waiting_at mem)))
 
 abbrev decreases-loop : tie.decreases-loop
 decreases-loop mem n k₀ k = n - k
@@ -25,9 +25,9 @@ loop-holds c = (omega arith, refl)
 
 -- two neighbours in the memory
 compared : (c : tie.After-clock-before invariant-loop decreases-loop) → let s = c.before.before.before.before in let w = s.before.before.args.mem.now in
-    c.clock-before.result ≡ removalBefore (removalAt w (s.loop.k - 1)) (removalAt w s.loop.k)
+    c.clock-before.result ≡ removal_before (removal_at w (s.loop.k - 1)) (removal_at w s.loop.k)
 compared c =
-    c.clock-before.ensures ∙ ap₂ (λ (x y : Clock). clockBefore (dotsOf x) (dotsOf y))
+    c.clock-before.ensures ∙ ap₂ (λ (x y : Clock). clock_before (dots_of x) (dots_of y))
     c.before.before.clock-at.ensures c.before.clock-at2.ensures
 
 returns : tie.Need-returns invariant-loop decreases-loop

@@ -3,9 +3,9 @@ use mathlib.Core.Path.{◌≡◌}
 use mathlib.Core.Bool.{true}
 use Prim.Native.Nat.{◌-◌, ◌^◌}
 use lib.Dec.{ltb}
-use Rattle.memory.specs.Memory.{waitingAt}
+use Rattle.memory.specs.Memory.{waiting_at}
 use Rattle.scan.specs.Each.{every}
-use Rattle.mapimage.specs.MapImage.{flatFrom, keyNumbers}
+use Rattle.mapimage.specs.MapImage.{flat_from, key_numbers}
 use Rattle.mapimage.proofs.Selecting.{Selecting, select-start, select-room, select-on, select-end, select_kept}
 use borrow.Author.Rules.{rules}
 use native.Mathlib.Omega.{arith}
@@ -13,8 +13,8 @@ use Rattle.delivery.proofs.write_waiting_keys.Statement.{statement}
 use Rattle.delivery.proofs.write_waiting_keys.Tie as tie
 
 abbrev invariant-loop : tie.invariant-loop
-invariant-loop mem out₀ at next₀ best₀ out next best = (every (λ x. ltb x (2 ^ 40)) (flatFrom keyNumbers 0 (waitingAt mem)) ≡ true)
-    × Selecting (2 ^ 40) (flatFrom keyNumbers 0 (waitingAt mem)) at out₀ out next best
+invariant-loop mem out₀ at next₀ best₀ out next best = (every (λ x. ltb x (2 ^ 40)) (flat_from key_numbers 0 (waiting_at mem)) ≡ true)
+    × Selecting (2 ^ 40) (flat_from key_numbers 0 (waiting_at mem)) at out₀ out next best
 
 abbrev decreases-loop : tie.decreases-loop
 decreases-loop mem out₀ at next₀ best₀ out next best = 2 ^ 40 - best

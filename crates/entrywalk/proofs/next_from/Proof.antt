@@ -4,13 +4,13 @@ use Prim.Native.Nat.{ℕ, ◌+◌, ◌≤◌, ◌<◌, ◌-◌}
 use borrow.Author.Rules.{rules}
 use native.Mathlib.Omega.{arith}
 use Rattle.records.specs.declared.Record.{Record}
-use Rattle.walks.specs.Walk.{fieldOf, Splits}
+use Rattle.walks.specs.Walk.{field_of, Splits}
 use Rattle.walks.proofs.Loops.{split-above, split_below}
 use Rattle.entrywalk.proofs.next_from.Statement.{statement}
 use Rattle.entrywalk.proofs.next_from.Tie as tie
 
-field_is : (field : ℕ) {n : ℕ} {r q : Record} → n ≡ fieldOf field r → r ≡ q → n ≡ fieldOf field q
-field_is field e f = e ∙ ap (fieldOf field) f
+field_is : (field : ℕ) {n : ℕ} {r q : Record} → n ≡ field_of field r → r ≡ q → n ≡ field_of field q
+field_is field e f = e ∙ ap (field_of field) f
 
 abbrev invariant-loop : tie.invariant-loop
 invariant-loop s field bound from end i₀ i = ((from ≤ i) × (i ≤ end)) × ((at : ℕ) → Splits s field bound from end at → i ≤ at)

@@ -1,7 +1,7 @@
 -- `own_clock` meets its contract: every dot of the run is picked.
 use mathlib.Core.Path.{ap, ◌∙◌}
 use borrow.Author.Rules.{rules}
-use Rattle.clock.specs.Dots.{clockOf}
+use Rattle.clock.specs.Dots.{clock_of}
 use Rattle.entrywalk.proofs.Lying.{own-says, all-of-run}
 use Rattle.entrywalk.proofs.own_clock.Statement.{statement}
 use Rattle.entrywalk.proofs.own_clock.Tie as tie
@@ -10,7 +10,7 @@ pick-clock-requires : tie.Need-pick-clock-requires
 pick-clock-requires c κs = (own-says c.before.before.before.before.before.requires.1).short
 
 returns : tie.Need-returns
-returns c = λ e h. c.pick-clock.ensures ∙ ap clockOf (all-of-run (own-says h))
+returns c = λ e h. c.pick-clock.ensures ∙ ap clock_of (all-of-run (own-says h))
 
 pub own-clock-spec : {M : Type 1} → statement M
 own-clock-spec =

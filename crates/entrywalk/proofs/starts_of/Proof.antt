@@ -6,7 +6,7 @@ use lib.ListN.{length, length-set}
 use native.Mathlib.Omega.{arith}
 use borrow.Author.Rules.{rules}
 use Rattle.register.specs.declared.Value.{Value}
-use Rattle.limits.specs.Limits.{valueLimit}
+use Rattle.limits.specs.Limits.{value_limit}
 use Rattle.walks.specs.Walk.{part}
 use Rattle.layout.proofs.Values.{fours}
 use Rattle.entrywalk.proofs.Starts.{Started, started, started-on, started-all}
@@ -15,7 +15,7 @@ use Rattle.entrywalk.proofs.starts_of.Tie as tie
 
 abbrev invariant-loop : tie.invariant-loop
 invariant-loop s n from end starts₀ at₀ i₀ starts at i =
-    ((i ≤ n) × ((n ≤ valueLimit) × ((at ≤ end) × ((end * 16 ≤ length s) × (length starts ≡ 5)))))
+    ((i ≤ n) × ((n ≤ value_limit) × ((at ≤ end) × ((end * 16 ≤ length s) × (length starts ≡ 5)))))
     × ((key : ℕ) (l : List Value) → n ≡ length l → part s from end ≡ fours key 0 l → Started s key end l i at starts)
 
 abbrev decreases-loop : tie.decreases-loop

@@ -1,11 +1,11 @@
 -- `equals` meets its contract, by that of `as_often`, over both.
-use Rattle.equality.specs.Equality.{equalValues}
+use Rattle.equality.specs.Equality.{equal_values}
 use borrow.Author.Rules.{rules}
 use Rattle.equality.proofs.equals.Statement.{statement}
 use Rattle.equality.proofs.equals.Tie as tie
 
 returns : tie.Need-returns
-unfolding equalValues
+unfolding equal_values
 returns c = cc
 
 pub equals-spec : {M : Type 1} → statement M

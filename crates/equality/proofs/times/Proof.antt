@@ -5,8 +5,8 @@ use Prim.Native.Nat.{◌≤◌, ◌-◌, ◌+◌}
 use lib.ListN.{length}
 use Rattle.listlaws.proofs.Pads.{length-snoc}
 use Rattle.listlaws.proofs.Sifting.{Sifting, sifting-start, sifting-keep, sifting-drop, sifting-end}
-use Rattle.equality.specs.Equality.{same_pair, timesIn}
-use Rattle.register.proofs.Packs.{noneRead}
+use Rattle.equality.specs.Equality.{same_pair, times_in}
+use Rattle.register.proofs.Packs.{none_read}
 use borrow.Author.Rules.{rules}
 use native.Mathlib.Omega.{arith}
 use Rattle.equality.proofs.times.Statement.{statement}
@@ -25,16 +25,16 @@ loop-again : tie.Need-loop-preserved invariant-loop decreases-loop
 loop-again c =
     let s = c.before.before.before.before in
     let t = sym c.before.same-pair.ensures ∙ c.if1.true in
-    (search rules, (omega arith, sifting-keep noneRead s.loop.invariant.1.1 (omega arith) refl t (λ l e. ap (λ k. k + 1) e ∙ sym (length-snoc l _))))
+    (search rules, (omega arith, sifting-keep none_read s.loop.invariant.1.1 (omega arith) refl t (λ l e. ap (λ k. k + 1) e ∙ sym (length-snoc l _))))
 
 loop-again-2 : tie.Need-loop-preserved-2 invariant-loop decreases-loop
 loop-again-2 c =
     let s = c.before.before.before.before in
     let t = sym c.before.same-pair.ensures ∙ c.if1.false in
-    (search rules, (omega arith, sifting-drop noneRead s.loop.invariant.1.1 (omega arith) refl t))
+    (search rules, (omega arith, sifting-drop none_read s.loop.invariant.1.1 (omega arith) refl t))
 
 returns : tie.Need-returns invariant-loop decreases-loop
-unfolding timesIn
+unfolding times_in
 returns c = (sifting-end c.before.loop.invariant.1.1 (omega arith), omega (arith, c.before.loop.invariant.1.0, c.before.before.size.ensures))
 
 pub times-spec : {M : Type 1} → statement M

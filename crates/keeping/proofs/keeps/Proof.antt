@@ -8,8 +8,8 @@ use borrow.Author.Tests.{ltb-true}
 use Rattle.listlaws.proofs.Sifting.{sifting-start}
 use Rattle.listlaws.proofs.Weaving.{both-past}
 use Rattle.clock.specs.declared.Clock.{Clock}
-use Rattle.limits.specs.Limits.{dotLimit}
-use Rattle.clock.specs.Dots.{dotsOf}
+use Rattle.limits.specs.Limits.{dot_limit}
+use Rattle.clock.specs.Dots.{dots_of}
 use Rattle.keeping.proofs.Meets.{Meets, meets}
 use Rattle.keeping.proofs.Walked.{Walked, Keeps, Deletes, Step, walked_start, walked_step, walked_end, keeps-room, keeps_on, keeps-off}
 use Rattle.keeping.proofs.Walked.{keeps-end, deletes-room, deletes-on, deletes-off, deletes-end}
@@ -56,7 +56,7 @@ loop-holds c =
 -- the next actor
 met : (c : tie.After-meet invariant-loop decreases-loop) → let s = c.before.before in
     let a = s.before.before.before.before.before.before.before.args in
-    Meets (dotsOf a.x) (dotsOf a.y) s.loop.i s.loop.j c.meet.result
+    Meets (dots_of a.x) (dots_of a.y) s.loop.i s.loop.j c.meet.result
 met c =
     let s = c.before.before in
     let first = s.before.before.before.before.before.before.size.ensures in
@@ -79,14 +79,14 @@ step c =
     c.before.before.before.seek.ensures c.before.before.seek2.ensures
 
 -- there is room for one more
-room-keep : (c : tie.Then1 invariant-loop decreases-loop) → c.before.before.before.before.before.before.before.loop.keep.len < dotLimit
+room-keep : (c : tie.Then1 invariant-loop decreases-loop) → c.before.before.before.before.before.before.before.loop.keep.len < dot_limit
 room-keep c =
     let l = c.before in
     let s = l.before.before.before.before.before.before in
     keeps-room _ _ _ _ (step l) l.before.kept-counter.ensures s.loop.invariant.2.keeps c.if1.true
     s.before.before.before.before.before.before.before.requires.1.1
 
-room_gone : (c : tie.Then2 invariant-loop decreases-loop) → c.before.before.before.before.before.before.before.before.loop.gone.len < dotLimit
+room_gone : (c : tie.Then2 invariant-loop decreases-loop) → c.before.before.before.before.before.before.before.before.loop.gone.len < dot_limit
 room_gone c =
     let l = c.before.before in
     let s = l.before.before.before.before.before.before in

@@ -1,7 +1,7 @@
 -- `meet` meets its contract: what the two clocks have at their places decides.
 use mathlib.Core.Path.{sym, ◌∙◌}
 use borrow.Author.Tests.{lt-ltb, le-ltb}
-use Rattle.clock.specs.Dots.{noDot, dotsOf}
+use Rattle.clock.specs.Dots.{no_dot, dots_of}
 use Rattle.listlaws.proofs.Rests.{drop-step, drop-end}
 use Rattle.keeping.specs.Keeping.{meeting}
 use borrow.Author.Rules.{rules}
@@ -17,8 +17,8 @@ returns c =
     let a = b.args in
     c.first_alone.ensures
     ∙ sym (rw (
-      drop-step a.t1.dots a.t1.len a.i noDot (omega (arith, b.requires)),
-      drop-step a.t4.dots a.t4.len a.j noDot
+      drop-step a.t1.dots a.t1.len a.i no_dot (omega (arith, b.requires)),
+      drop-step a.t4.dots a.t4.len a.j no_dot
           (omega (arith, b.requires)),
       lt-ltb _ _ f.if3.true,
     ))
@@ -32,8 +32,8 @@ returns-2 c =
     let a = b.args in
     c.second-alone.ensures
     ∙ sym (rw (
-      drop-step a.t1.dots a.t1.len a.i noDot (omega (arith, b.requires)),
-      drop-step a.t4.dots a.t4.len a.j noDot
+      drop-step a.t1.dots a.t1.len a.i no_dot (omega (arith, b.requires)),
+      drop-step a.t4.dots a.t4.len a.j no_dot
           (omega (arith, b.requires)),
       le-ltb _ _ e.if3.false,
       lt-ltb _ _ f.if4.true,
@@ -46,8 +46,8 @@ returns-3 c =
     let b = e.before.before.before.before.before.before.before in
     let a = b.args in
     sym (rw (
-      drop-step a.t1.dots a.t1.len a.i noDot (omega (arith, b.requires)),
-      drop-step a.t4.dots a.t4.len a.j noDot
+      drop-step a.t1.dots a.t1.len a.i no_dot (omega (arith, b.requires)),
+      drop-step a.t4.dots a.t4.len a.j no_dot
           (omega (arith, b.requires)),
       le-ltb _ _ e.if3.false,
       le-ltb _ _ c.if4.false,
@@ -59,7 +59,7 @@ returns-4 c =
     let b = c.before.before.before.before in
     let a = b.args in
     c.first-alone2.ensures ∙ sym
-    (rw (drop-step a.t1.dots a.t1.len a.i noDot (omega (arith, b.requires)), drop-end (dotsOf a.t4) a.j (omega (arith, b.requires))))
+    (rw (drop-step a.t1.dots a.t1.len a.i no_dot (omega (arith, b.requires)), drop-end (dots_of a.t4) a.j (omega (arith, b.requires))))
 
 returns-5 : tie.Need-returns-5
 unfolding meeting
@@ -67,14 +67,14 @@ returns-5 c =
     let b = c.before.before.before.before in
     let a = b.args in
     c.second-alone2.ensures ∙ sym
-    (rw (drop-end (dotsOf a.t1) a.i (omega (arith, b.requires)), drop-step a.t4.dots a.t4.len a.j noDot (omega (arith, b.requires))))
+    (rw (drop-end (dots_of a.t1) a.i (omega (arith, b.requires)), drop-step a.t4.dots a.t4.len a.j no_dot (omega (arith, b.requires))))
 
 returns-6 : tie.Need-returns-6
 unfolding meeting
 returns-6 c =
     let b = c.before.before in
     let a = b.args in
-    sym (rw (drop-end (dotsOf a.t1) a.i (omega (arith, b.requires)), drop-end (dotsOf a.t4) a.j (omega (arith, b.requires))))
+    sym (rw (drop-end (dots_of a.t1) a.i (omega (arith, b.requires)), drop-end (dots_of a.t4) a.j (omega (arith, b.requires))))
 
 pub meet-spec : {M : Type 1} → statement M
 meet-spec =

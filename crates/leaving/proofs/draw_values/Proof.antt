@@ -8,20 +8,20 @@ use native.Mathlib.Omega.{arith}
 use Rattle.listlaws.specs.Sift.{sift, those}
 use Rattle.listlaws.proofs.Pads.{unmapped}
 use Rattle.clock.specs.declared.Dot.{Dot}
-use Rattle.clock.specs.Dots.{dotsOf}
+use Rattle.clock.specs.Dots.{dots_of}
 use Rattle.register.specs.declared.Value.{Value}
-use Rattle.limits.specs.Limits.{valueLimit}
-use Rattle.register.specs.Values.{noValue, alive}
+use Rattle.limits.specs.Limits.{value_limit}
+use Rattle.register.specs.Values.{no_value, alive}
 use Rattle.entries.specs.declared.Entry.{Entry}
 use Rattle.removals.specs.declared.Removal.{Removal}
-use Rattle.entries.specs.Model.{valuesIn}
+use Rattle.entries.specs.Model.{values_in}
 use Rattle.marks.specs.Marks.{picked}
 use Rattle.marks.proofs.Picks.{picked-yes, picked-no, picked-end}
 use Rattle.queued.specs.Queue.{Queued, Marked}
 use Rattle.entrywalk.specs.Walking.{LiesAt}
-use Rattle.sketch.specs.Drawn.{valueNamed, imageNamed, valueFrom, Draws}
+use Rattle.sketch.specs.Drawn.{value_named, image_named, value_from, Draws}
 use Rattle.sketch.proofs.Adding.{add_none, add-one, add-over}
-use Rattle.leaving.specs.Left.{valueLeft}
+use Rattle.leaving.specs.Left.{value_left}
 use Rattle.entrywalk.proofs.Lying.{many-values}
 use Rattle.leaving.proofs.Growing.{sift-first, Grown, grown-start, grown-on, grown-same, grown-end}
 use borrow.Author.Rules.{rules}
@@ -30,13 +30,13 @@ use Rattle.leaving.proofs.draw_values.Tie as tie
 
 abbrev invariant-loop : tie.invariant-loop
 invariant-loop v x second gone t ds theirs s cs ours stand whole n out₀ i₀ out i =
-    ((i ≤ n) × ((n ≤ valueLimit) × ((n ≡ x.values.to - x.values.from)
-    × ((out₀.len ≤ valueLimit) × ((out.len ≤ out₀.len + i) × ((length stand ≡ valueLimit) × (length out.sources ≡ 4)))))))
+    ((i ≤ n) × ((n ≤ value_limit) × ((n ≡ x.values.to - x.values.from)
+    × ((out₀.len ≤ value_limit) × ((out.len ≤ out₀.len + i) × ((length stand ≡ value_limit) × (length out.sources ≡ 4)))))))
     × ((a b : List ℕ) (key : ℕ) (d : List Dot) (l : List Value) (e : Entry) (u w : List Removal) → cond second b a ≡ v → Draws a b key d l out₀
     → LiesAt v e x → Queued t ds u → Queued s cs w
     → Marked u e.key theirs → Marked w e.key ours
-    → Grown (Draws a b key d) (l ++ sift alive (valueLeft w u e.key (dotsOf gone)) (picked stand (valuesIn e)))
-    (sift alive (valueLeft w u e.key (dotsOf gone)) (picked (drop i stand) (drop i (valuesIn e)))) out)
+    → Grown (Draws a b key d) (l ++ sift alive (value_left w u e.key (dots_of gone)) (picked stand (values_in e)))
+    (sift alive (value_left w u e.key (dots_of gone)) (picked (drop i stand) (drop i (values_in e)))) out)
 
 abbrev decreases-loop : tie.decreases-loop
 decreases-loop v x second gone t ds theirs s cs ours stand whole n out₀ i₀ out i = n - i
@@ -97,12 +97,12 @@ loop-again c =
         ),
       ),
       λ a b key d l e u w q g h y z m n.
-          let low : t.loop.i < length (valuesIn e) = omega (arith, many-values h, i.1.1.0) in
+          let low : t.loop.i < length (values_in e) = omega (arith, many-values h, i.1.1.0) in
           let found = o.1 e u w h low y z m n in
-          let image : imageNamed a b r ≡ _ = ap (λ z. cond z b a) o.0.0 ∙ q in
-          let value : valueFrom a b r ≡ _ = ap (λ z. valueNamed z r) image ∙ found.1 in
-          grown-on (Draws a b key d) (those alive (valueFrom a b r ∷ [])) (t.loop.invariant.1 a b key d l e u w q g h y z m n)
-          (ap (sift alive _) (picked-yes _ (valuesIn e) t.loop.i noValue (omega (arith, i)) low
+          let image : image_named a b r ≡ _ = ap (λ z. cond z b a) o.0.0 ∙ q in
+          let value : value_from a b r ≡ _ = ap (λ z. value_named z r) image ∙ found.1 in
+          grown-on (Draws a b key d) (those alive (value_from a b r ∷ [])) (t.loop.invariant.1 a b key d l e u w q g h y z m n)
+          (ap (sift alive _) (picked-yes _ (values_in e) t.loop.i no_value (omega (arith, i)) low
           c.before.before.before.before.before.before.if1.true)
           ∙ sift-first alive _ _ _ value)
           (λ k p. add-one p r (rw image found.0) c.before.before.some-marks.ensures c.before.if2.true long c.if3.true),
@@ -116,12 +116,12 @@ loop-again-2 c =
     let r = c.before.before.before.before.before.source_of.result in (
       (omega arith, (i.1.0, (i.1.1.0, (i.1.1.1.0, (omega (arith, i), i.1.1.1.1.1))))),
       λ a b key d l e u w q g h y z m n.
-          let low : t.loop.i < length (valuesIn e) = omega (arith, many-values h, i.1.1.0) in
+          let low : t.loop.i < length (values_in e) = omega (arith, many-values h, i.1.1.0) in
           let found = o.1 e u w h low y z m n in
-          let image : imageNamed a b r ≡ _ = ap (λ z. cond z b a) o.0.0 ∙ q in
-          let value : valueFrom a b r ≡ _ = ap (λ z. valueNamed z r) image ∙ found.1 in
-          grown-on (Draws a b key d) (those alive (valueFrom a b r ∷ [])) (t.loop.invariant.1 a b key d l e u w q g h y z m n)
-          (ap (sift alive _) (picked-yes _ (valuesIn e) t.loop.i noValue (omega (arith, i)) low
+          let image : image_named a b r ≡ _ = ap (λ z. cond z b a) o.0.0 ∙ q in
+          let value : value_from a b r ≡ _ = ap (λ z. value_named z r) image ∙ found.1 in
+          grown-on (Draws a b key d) (those alive (value_from a b r ∷ [])) (t.loop.invariant.1 a b key d l e u w q g h y z m n)
+          (ap (sift alive _) (picked-yes _ (values_in e) t.loop.i no_value (omega (arith, i)) low
           c.before.before.before.before.before.before.if1.true)
           ∙ sift-first alive _ _ _ value)
           (λ k p. add-over p r (rw image found.0) c.before.before.some-marks.ensures c.before.if2.true (omega arith)),
@@ -135,12 +135,12 @@ loop-again-3 c =
     let r = c.before.before.before.before.source_of.result in (
       (omega arith, (i.1.0, (i.1.1.0, (i.1.1.1.0, (omega (arith, i), i.1.1.1.1.1))))),
       λ a b key d l e u w q g h y z m n.
-          let low : t.loop.i < length (valuesIn e) = omega (arith, many-values h, i.1.1.0) in
+          let low : t.loop.i < length (values_in e) = omega (arith, many-values h, i.1.1.0) in
           let found = o.1 e u w h low y z m n in
-          let image : imageNamed a b r ≡ _ = ap (λ z. cond z b a) o.0.0 ∙ q in
-          let value : valueFrom a b r ≡ _ = ap (λ z. valueNamed z r) image ∙ found.1 in
-          grown-on (Draws a b key d) (those alive (valueFrom a b r ∷ [])) (t.loop.invariant.1 a b key d l e u w q g h y z m n)
-          (ap (sift alive _) (picked-yes _ (valuesIn e) t.loop.i noValue (omega (arith, i)) low
+          let image : image_named a b r ≡ _ = ap (λ z. cond z b a) o.0.0 ∙ q in
+          let value : value_from a b r ≡ _ = ap (λ z. value_named z r) image ∙ found.1 in
+          grown-on (Draws a b key d) (those alive (value_from a b r ∷ [])) (t.loop.invariant.1 a b key d l e u w q g h y z m n)
+          (ap (sift alive _) (picked-yes _ (values_in e) t.loop.i no_value (omega (arith, i)) low
           c.before.before.before.before.before.if1.true)
           ∙ sift-first alive _ _ _ value)
           (λ k p. add_none p r (rw image found.0) c.before.some-marks.ensures c.if2.false),
@@ -152,9 +152,9 @@ loop-again-4 c =
     let i = t.loop.invariant.0 in (
       (omega arith, (i.1.0, (i.1.1.0, (i.1.1.1.0, (omega (arith, i), i.1.1.1.1.1))))),
       λ a b key d l e u w q g h y z m n.
-          let low : t.loop.i < length (valuesIn e) = omega (arith, many-values h, i.1.1.0) in
+          let low : t.loop.i < length (values_in e) = omega (arith, many-values h, i.1.1.0) in
           grown-same (Draws a b key d) (t.loop.invariant.1 a b key d l e u w q g h y z m n)
-          (ap (sift alive _) (picked-no _ (valuesIn e) t.loop.i noValue (omega (arith, i)) low c.if1.false)),
+          (ap (sift alive _) (picked-no _ (values_in e) t.loop.i no_value (omega (arith, i)) low c.if1.false)),
     )
 
 returns : tie.Need-returns invariant-loop decreases-loop
@@ -165,7 +165,7 @@ returns c =
       omega (arith, i),
       λ a b key d l e u w q g h y z m n.
           grown-end (Draws a b key d) (t.loop.invariant.1 a b key d l e u w q g h y z m n)
-          (ap (sift alive _) (picked-end _ (valuesIn e) t.loop.i (omega (arith, many-values h, i.1.1.0)))),
+          (ap (sift alive _) (picked-end _ (values_in e) t.loop.i (omega (arith, many-values h, i.1.1.0)))),
     )
 
 pub draw-values-spec : {M : Type 1} → statement M

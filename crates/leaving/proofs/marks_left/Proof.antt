@@ -2,10 +2,10 @@
 use mathlib.Core.Path.{ap, sym, ◌∙◌}
 use native.Mathlib.Omega.{arith}
 use borrow.Author.Rules.{rules}
-use Rattle.limits.specs.Limits.{dotLimit}
-use Rattle.clock.specs.Dots.{dotsOf, cutDots}
-use Rattle.runs.specs.Run.{runDots}
-use Rattle.queued.specs.Queue.{cutsFor}
+use Rattle.limits.specs.Limits.{dot_limit}
+use Rattle.clock.specs.Dots.{dots_of, cut_dots}
+use Rattle.runs.specs.Run.{run_dots}
+use Rattle.queued.specs.Queue.{cuts_for}
 use Rattle.marks.proofs.Picks.{picked_all}
 use Rattle.marks.proofs.Dots.{length_run}
 use Rattle.leaving.proofs.Whole.{whole-left}
@@ -18,7 +18,7 @@ returns c =
     let p = z.requires.0 in
     let u = p.1.0 c.if1.true in
     λ v w key q r m n.
-    picked_all (runDots z.args.run.now) dotLimit (omega (arith, length_run z.args.run.now, p.0))
+    picked_all (run_dots z.args.run.now) dot_limit (omega (arith, length_run z.args.run.now, p.0))
     ∙ sym (whole-left u v w key p.1.1.0 q r m n)
 
 returns-2 : tie.Need-returns-2
@@ -27,9 +27,9 @@ returns-2 c =
     let p = z.requires.0.0 in
     λ v w key q r m n.
     c.cut-listed-marks2.ensures w key r n
-    ∙ ap (cutsFor w key) (c.before.cut-listed-marks.ensures v key q m
-    ∙ ap (cutsFor v key) (c.before.before.cut-marks.ensures ∙ ap (cutDots (dotsOf z.args.gone))
-    (picked_all (runDots z.args.run.now) dotLimit (omega (arith, length_run z.args.run.now, p)))))
+    ∙ ap (cuts_for w key) (c.before.cut-listed-marks.ensures v key q m
+    ∙ ap (cuts_for v key) (c.before.before.cut-marks.ensures ∙ ap (cut_dots (dots_of z.args.gone))
+    (picked_all (run_dots z.args.run.now) dot_limit (omega (arith, length_run z.args.run.now, p)))))
 
 pub marks-left-spec : {M : Type 1} → statement M
 marks-left-spec = tie.close (tie.spec returns (λ c κs. search rules) (λ c κs. search rules) (λ c κs. search rules) returns-2)

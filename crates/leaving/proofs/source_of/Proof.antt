@@ -2,8 +2,8 @@
 use mathlib.Core.Path.{refl, ap, ◌∙◌}
 use native.Mathlib.Omega.{arith}
 use borrow.Author.Rules.{rules}
-use Rattle.clock.specs.Dots.{clockOf, cutDots}
-use Rattle.queued.specs.Queue.{cutsFor}
+use Rattle.clock.specs.Dots.{clock_of, cut_dots}
+use Rattle.queued.specs.Queue.{cuts_for}
 use Rattle.entrywalk.proofs.Lying.{value-says, value-content, value-stands}
 use Rattle.leaving.proofs.source_of.Statement.{statement}
 use Rattle.leaving.proofs.source_of.Tie as tie
@@ -98,9 +98,9 @@ returns c =
           let a = g.place in
           let b = g.inside in
           let dots = c.before.before.marks-left.ensures u w e.key q r m n
-          ∙ ap (cutsFor w e.key) (ap (cutsFor u e.key) (ap (cutDots _) (value-says h _ low).dots)) in (
+          ∙ ap (cuts_for w e.key) (ap (cuts_for u e.key) (ap (cut_dots _) (value-says h _ low).dots)) in (
             record { order = g.order; few = g.few; run = g.run; value = omega arith },
-            λ i. record { clock = clockOf (dots i); value = value-content h _ low i },
+            λ i. record { clock = clock_of (dots i); value = value-content h _ low i },
           ),
     )
 

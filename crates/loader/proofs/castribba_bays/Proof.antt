@@ -1,8 +1,8 @@
 -- `castribba_bays` meets its contract: each way out is a law of `Answers`.
 use mathlib.Core.Path.{refl, sym, ◌∙◌}
-use Rattle.maprecords.specs.Related.{readMap}
+use Rattle.maprecords.specs.Related.{read_map}
 use Rattle.answers.proofs.Answers.{number-first, number_short, number-done, refuses, writes}
-use Rattle.loader.specs.Calls.{bayCount}
+use Rattle.loader.specs.Calls.{bay_count}
 use Rattle.loader.proofs.Reporting.{length-reports}
 use borrow.Author.Rules.{rules}
 use native.Mathlib.Omega.{arith}
@@ -17,7 +17,7 @@ returns c =
 returns-2 : tie.Need-returns-2
 returns-2 c =
     let s = c.before.before in
-    let long = length-reports (readMap s.before.before.before.before.before.args.map.now).map 0 bayCount in
+    let long = length-reports (read_map s.before.before.before.before.before.args.map.now).map 0 bay_count in
     let first = sym s.before.before.lay-out.ensures.0 ∙ s.if1.false in
     rw c.word2.ensures (refuses _ _ (number_short _ _ first refl refl (omega arith)) (omega arith))
 
@@ -29,7 +29,7 @@ returns-3 c =
     let w = c.before.before in
     let s = w.before.before.before in
     let m = s.before.before.lay-out.ensures in
-    let long = length-reports (readMap s.before.before.before.before.before.args.map.now).map 0 bayCount in
+    let long = length-reports (read_map s.before.before.before.before.before.args.map.now).map 0 bay_count in
     let first = sym m.0 ∙ s.if1.false in
     writes _ _ (number-done _ _ first refl refl (omega arith)) w.write-reports.ensures
 

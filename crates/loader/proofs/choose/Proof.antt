@@ -8,30 +8,30 @@ use native.Mathlib.Numerals.{add-one}
 use lib.ListN.{length, take, get_or}
 use lib.Seq.{take-suc, take_all}
 use borrow.Author.Tests.{not-true, not-false}
-use Rattle.listlaws.specs.First.{firstIn}
+use Rattle.listlaws.specs.First.{first_in}
 use Rattle.listlaws.specs.Sift.{sift, those}
 use Rattle.scan.proofs.Rooms.{those-yes, those-no}
 use Rattle.register.specs.declared.Value.{Value}
-use Rattle.limits.specs.Limits.{valueLimit}
-use Rattle.register.specs.Values.{noValue}
-use Rattle.mapimage.specs.MapImage.{flatFrom, valueRecords}
+use Rattle.limits.specs.Limits.{value_limit}
+use Rattle.register.specs.Values.{no_value}
+use Rattle.mapimage.specs.MapImage.{flat_from, value_records}
 use Rattle.keyed.specs.Keyed.{RecordsLie, Registered}
 use Rattle.comparing.specs.Registers.{RunsOf}
 use Rattle.entrywalk.proofs.Starts.{runs-compared}
 use Rattle.entrywalk.proofs.Lying.{many-there}
-use Rattle.loader.specs.Choice.{isBelow, undropped, smallest, differ, reportOn, reportOf}
+use Rattle.loader.specs.Choice.{is_below, undropped, smallest, differ, report_on, report_of}
 use borrow.Author.Rules.{rules}
 use Rattle.loader.proofs.choose.Statement.{statement}
 use Rattle.loader.proofs.choose.Tie as tie
 
 -- what is left of the first i values
 abbrev left : List Value → ℕ → List Value
-left l i = those (λ v. not (isBelow l v)) (take i l)
+left l i = those (λ v. not (is_below l v)) (take i l)
 
 abbrev invariant-loop : tie.invariant-loop
 invariant-loop map values n starts r₀ i₀ r i =
-    ((i ≤ n) × ((r.count ≤ i) × (n ≤ valueLimit)))
-    × ((key : ℕ) (l : List Value) → RecordsLie map (flatFrom (valueRecords 3 key) 0 l) values → RunsOf map starts n l → r ≡ reportOn (left l i))
+    ((i ≤ n) × ((r.count ≤ i) × (n ≤ value_limit)))
+    × ((key : ℕ) (l : List Value) → RecordsLie map (flat_from (value_records 3 key) 0 l) values → RunsOf map starts n l → r ≡ report_on (left l i))
 
 abbrev decreases-loop : tie.decreases-loop
 decreases-loop map values n starts r₀ i₀ r i = n - i
@@ -50,7 +50,7 @@ module _ (c : tie.At-loop invariant-loop decreases-loop) where
       runs-compared (c.before.starts-of.ensures h.key l many h.fourth.records) many h.few h.each
 
 loop-holds : tie.Need-loop-init invariant-loop decreases-loop
-unfolding sift smallest differ firstIn
+unfolding sift smallest differ first_in
 loop-holds c =
     let p = c.before.before.before.requires.1 in
     ((omega arith, (omega arith, omega (arith, p.few, many-there p.key _ p.third))), λ key l h r. refl)
@@ -68,14 +68,14 @@ with-value-requires c κs = omega arith
 
 -- one value more
 module _ (l : List Value) (i : ℕ) (h : i < length l) where
-  taken : take (i + 1) l ≡ take i l ++ (get_or l i noValue ∷ [])
-  taken = rw (add-one i) (take-suc l i noValue h)
+  taken : take (i + 1) l ≡ take i l ++ (get_or l i no_value ∷ [])
+  taken = rw (add-one i) (take-suc l i no_value h)
 
-  stays : isBelow l (get_or l i noValue) ≡ false → left l (i + 1) ≡ left l i ++ (get_or l i noValue ∷ [])
-  stays t = ap (those (λ v. not (isBelow l v))) taken ∙ those-yes (λ v. not (isBelow l v)) (take i l) (get_or l i noValue) (ap not t)
+  stays : is_below l (get_or l i no_value) ≡ false → left l (i + 1) ≡ left l i ++ (get_or l i no_value ∷ [])
+  stays t = ap (those (λ v. not (is_below l v))) taken ∙ those-yes (λ v. not (is_below l v)) (take i l) (get_or l i no_value) (ap not t)
 
-  goes : isBelow l (get_or l i noValue) ≡ true → left l (i + 1) ≡ left l i
-  goes t = ap (those (λ v. not (isBelow l v))) taken ∙ those-no (λ v. not (isBelow l v)) (take i l) (get_or l i noValue) (ap not t)
+  goes : is_below l (get_or l i no_value) ≡ true → left l (i + 1) ≡ left l i
+  goes t = ap (those (λ v. not (is_below l v))) taken ∙ those-no (λ v. not (is_below l v)) (take i l) (get_or l i no_value) (ap not t)
 
 loop-again : tie.Need-loop-preserved invariant-loop decreases-loop
 loop-again c =
@@ -83,9 +83,9 @@ loop-again c =
       (omega arith, (omega (arith, c.with_value.ensures.0), omega arith)),
       λ key l h r.
           let k : s.loop.i < length l = omega (arith, r.count) in
-          c.with_value.ensures.1 (left l s.loop.i) (get_or l s.loop.i noValue) (s.loop.invariant.1 key l h r)
+          c.with_value.ensures.1 (left l s.loop.i) (get_or l s.loop.i no_value) (s.loop.invariant.1 key l h r)
           (c.before.number_at.ensures key l h k)
-          ∙ ap reportOn (sym (stays l s.loop.i k (sym (c.before.before.before.is_below.ensures l r)
+          ∙ ap report_on (sym (stays l s.loop.i k (sym (c.before.before.before.is_below.ensures l r)
           ∙ not-true _ c.before.before.if1.true))),
     )
 
@@ -95,15 +95,15 @@ loop-again-2 c =
       (omega arith, (omega arith, omega arith)),
       λ key l h r.
           let k : s.loop.i < length l = omega (arith, r.count) in
-          s.loop.invariant.1 key l h r ∙ ap reportOn (sym (goes l s.loop.i k (sym (c.before.is_below.ensures l r) ∙ not-false _ c.if1.false))),
+          s.loop.invariant.1 key l h r ∙ ap report_on (sym (goes l s.loop.i k (sym (c.before.is_below.ensures l r) ∙ not-false _ c.if1.false))),
     )
 
 returns : tie.Need-returns invariant-loop decreases-loop
-unfolding reportOf undropped
+unfolding report_of undropped
 returns c = λ l h.
     let s = c.before in
     let n = many-there h.key l h.third in
-    s.loop.invariant.1 h.key l h.third (compared s l h) ∙ ap (λ k. reportOn (those (λ v. not (isBelow l v)) k))
+    s.loop.invariant.1 h.key l h.third (compared s l h) ∙ ap (λ k. report_on (those (λ v. not (is_below l v)) k))
     (take_all s.loop.i l (omega arith))
 
 pub choose_spec : {M : Type 1} → statement M

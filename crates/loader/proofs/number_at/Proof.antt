@@ -1,13 +1,13 @@
 -- `number_at` meets its contract: a value's record says its number.
 use mathlib.Core.Path.{ap, ◌∙◌}
 use native.Mathlib.Omega.{arith}
-use Rattle.records.specs.Records.{recordFrom}
+use Rattle.records.specs.Records.{record_from}
 use Rattle.entrywalk.proofs.Lying.{content-there, inside-there}
 use Rattle.loader.proofs.number_at.Statement.{statement}
 use Rattle.loader.proofs.number_at.Tie as tie
 
 returns : tie.Need-returns
-unfolding recordFrom
+unfolding record_from
 returns c = λ key l h k. c.read64.ensures ∙ ap (λ x. x.number) (content-there key l h _ k)
 
 pub number-at-spec : {M : Type 1} → statement M

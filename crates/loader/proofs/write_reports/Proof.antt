@@ -1,8 +1,8 @@
 -- `write_reports` meets its contract: one report after the other.
 use mathlib.Core.Path.{◌≡◌}
 use Prim.Native.Nat.{◌≤◌, ◌-◌}
-use Rattle.maprecords.specs.Related.{readMap}
-use Rattle.loader.specs.Calls.{bayCount}
+use Rattle.maprecords.specs.Related.{read_map}
+use Rattle.loader.specs.Calls.{bay_count}
 use Rattle.loader.proofs.Reporting.{Reporting, report-start, report-room, report-on}
 use borrow.Author.Rules.{rules}
 use native.Mathlib.Omega.{arith}
@@ -10,10 +10,10 @@ use Rattle.loader.proofs.write_reports.Statement.{statement}
 use Rattle.loader.proofs.write_reports.Tie as tie
 
 abbrev invariant-loop : tie.invariant-loop
-invariant-loop map l out₀ next₀ bay₀ out next bay = (bay ≤ bayCount) × Reporting (readMap map).map out₀ bay out next
+invariant-loop map l out₀ next₀ bay₀ out next bay = (bay ≤ bay_count) × Reporting (read_map map).map out₀ bay out next
 
 abbrev decreases-loop : tie.decreases-loop
-decreases-loop map l out₀ next₀ bay₀ out next bay = bayCount - bay
+decreases-loop map l out₀ next₀ bay₀ out next bay = bay_count - bay
 
 loop-holds : tie.Need-loop-init invariant-loop decreases-loop
 loop-holds c = (omega arith, report-start)
@@ -39,7 +39,7 @@ same_length c =
 returns : tie.Need-returns invariant-loop decreases-loop
 returns c =
     let s = c.before in
-    let e : s.loop.bay ≡ bayCount = omega arith in
+    let e : s.loop.bay ≡ bay_count = omega arith in
     rw (← e) s.loop.invariant.1.wrote
 
 pub write-reports-spec : {M : Type 1} → statement M

@@ -7,13 +7,13 @@ use lib.ListN.{length, get_or}
 use lib.Seq.{take-length}
 use Rattle.listlaws.specs.Fold.{fold}
 use Rattle.listlaws.proofs.Folding.{Folding, folding-start, folding-on, folding-end}
-use Rattle.mailbox.specs.Machine.{byteIn, pieceIn}
+use Rattle.mailbox.specs.Machine.{byte_in, piece_in}
 use borrow.Author.Rules.{rules}
 use Rattle.mailbox.proofs.take.Statement.{statement}
 use Rattle.mailbox.proofs.take.Tie as tie
 
 abbrev invariant-loop : tie.invariant-loop
-invariant-loop mem₀ piece n i₀ mem i = (i ≤ n) × Folding (λ w. w) byteIn mem₀ piece n i mem
+invariant-loop mem₀ piece n i₀ mem i = (i ≤ n) × Folding (λ w. w) byte_in mem₀ piece n i mem
 
 abbrev decreases-loop : tie.decreases-loop
 decreases-loop mem₀ piece n i₀ mem i = n - i
@@ -47,17 +47,17 @@ loop-again c = let s = c.before.before.before.before in
     let piece = c.before.before.before.before.before.before.before.before.args.piece.now in (
       omega arith,
       folding-on 0 s.loop.invariant.1 (omega (arith, ap length (take-length piece)))
-          (λ w e. c.take-byte.ensures ∙ ap (λ m. byteIn m (get_or piece s.loop.i 0)) e),
+          (λ w e. c.take-byte.ensures ∙ ap (λ m. byte_in m (get_or piece s.loop.i 0)) e),
     )
 
 returns-2 : tie.Need-returns-2 invariant-loop decreases-loop
-unfolding pieceIn
+unfolding piece_in
 returns-2 c = let s = c.before in
     let piece = c.before.before.before.before.before.args.piece.now in
     rw (eq-eqb _ 1 s.before.if1.false) (
       refl,
       folding-end s.loop.invariant.1 (omega (arith, ap length (take-length piece)))
-          ∙ ap (fold byteIn c.before.before.before.before.before.args.mem.now) (take-length piece),
+          ∙ ap (fold byte_in c.before.before.before.before.before.args.mem.now) (take-length piece),
     )
 
 pub take_spec : {M : Type 1} → statement M

@@ -1,12 +1,12 @@
 -- `take_byte` meets its contract.
 use borrow.Author.Tests.{eq-eqb, ne_eqb, le-leb, lt-leb}
-use Rattle.mailbox.specs.Machine.{byteIn}
+use Rattle.mailbox.specs.Machine.{byte_in}
 use borrow.Author.Rules.{rules}
 use Rattle.mailbox.proofs.take_byte.Statement.{statement}
 use Rattle.mailbox.proofs.take_byte.Tie as tie
 
 returns : tie.Need-returns
-unfolding byteIn
+unfolding byte_in
 returns c = rw (
   ← c.before.before.before.before.before.before.before.before.before.before.before.read32.ensures,
   lt-leb _ _ c.before.before.before.before.before.before.before.before.before.before.if1.true,
@@ -18,7 +18,7 @@ returns c = rw (
 )
 
 returns-2 : tie.Need-returns-2
-unfolding byteIn
+unfolding byte_in
 returns-2 c = rw (
   ← c.before.before.before.before.before.before.read32.ensures,
   lt-leb _ _ c.before.before.before.before.before.if1.true,
@@ -28,7 +28,7 @@ returns-2 c = rw (
 )
 
 returns-3 : tie.Need-returns-3
-unfolding byteIn
+unfolding byte_in
 returns-3 c = rw (← c.before.before.before.read32.ensures, le-leb _ _ c.before.before.if1.false) c.put322.ensures
 
 pub take-byte-spec : {M : Type 1} → statement M

@@ -1,12 +1,12 @@
 -- `take_record` meets its contract.
 use borrow.Author.Tests.{eq-eqb, ne_eqb}
-use Rattle.mailbox.specs.Machine.{recordIn}
+use Rattle.mailbox.specs.Machine.{record_in}
 use borrow.Author.Rules.{rules}
 use Rattle.mailbox.proofs.take_record.Statement.{statement}
 use Rattle.mailbox.proofs.take_record.Tie as tie
 
 returns : tie.Need-returns
-unfolding recordIn
+unfolding record_in
 returns c = let at = c.before.before.before.before.before in
     let s = rw (
       at.before.before.before.before.before.before.scan-of.ensures,
@@ -25,7 +25,7 @@ returns c = let at = c.before.before.before.before.before in
     )
 
 returns-2 : tie.Need-returns-2
-unfolding recordIn
+unfolding record_in
 returns-2 c = let at = c.before.before.before in
     let s = rw (
       at.before.before.before.before.before.before.scan-of.ensures,
@@ -43,7 +43,7 @@ returns-2 c = let at = c.before.before.before in
     )
 
 returns-3 : tie.Need-returns-3
-unfolding recordIn
+unfolding record_in
 returns-3 c = let at = c.before.before in
     let s = rw (
       at.before.before.before.before.before.before.scan-of.ensures,

@@ -3,7 +3,7 @@ use mathlib.Core.Path.{ap, sym, ◌∙◌}
 use Rattle.clock.specs.declared.Clock.{Clock}
 use Rattle.map.specs.declared.Op.{Op}
 use Rattle.promises.proofs.Ways.{first_out, op-out}
-use Rattle.making.proofs.Made.{removalUnder}
+use Rattle.making.proofs.Made.{removal_under}
 use borrow.Author.Rules.{rules}
 use Rattle.making.proofs.rm_get.Statement.{statement}
 use Rattle.making.proofs.rm_get.Tie as tie
@@ -18,7 +18,7 @@ returns-2 : tie.Need-returns-2
 returns-2 c =
     let l = c.before.before.before.before.before.before.before.before.lay-out.ensures in
     let key = c.before.before.before.before.before.before.before.before.before.before.before.args.key in
-    let g = c.before.before.before.before.rm.ensures ∙ ap (λ (x : Clock). removalUnder x key)
+    let g = c.before.before.before.before.rm.ensures ∙ ap (λ (x : Clock). removal_under x key)
     c.before.before.before.before.before.clock-at.ensures in
     op-out _ (sym l.0 ∙ c.before.before.before.before.before.before.if1.false) (ap (λ (x : Op). record { number = 0; op = x }) g)
     c.before.before.give-op.ensures

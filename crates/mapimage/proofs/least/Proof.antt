@@ -1,9 +1,9 @@
 -- `least` meets its contract: the loop holds each removal against the least so far.
 use Prim.Native.Nat.{◌≤◌, ◌-◌, ◌^◌}
 use lib.ListN.{drop, get_or}
-use Rattle.removals.specs.Model.{waitingOf}
-use Rattle.removals.proofs.Packs.{noRemovalRead}
-use Rattle.mapimage.specs.MapImage.{flatFrom, keyNumbers}
+use Rattle.removals.specs.Model.{waiting_of}
+use Rattle.removals.proofs.Packs.{no_removal_read}
+use Rattle.mapimage.specs.MapImage.{flat_from, key_numbers}
 use Rattle.mapimage.proofs.Flats.{flat_on, flat-end, Least, least_start, least-all, least-end}
 use borrow.Author.Rules.{rules}
 use native.Mathlib.Omega.{arith}
@@ -11,8 +11,8 @@ use Rattle.mapimage.proofs.least.Statement.{statement}
 use Rattle.mapimage.proofs.least.Tie as tie
 
 abbrev invariant-loop : tie.invariant-loop
-invariant-loop low waiting n best₀ i₀ best i = (i ≤ n) × Least (2 ^ 40) low (2 ^ 40) (flatFrom keyNumbers 0 (waitingOf waiting))
-    (flatFrom keyNumbers i (drop i (waitingOf waiting))) best
+invariant-loop low waiting n best₀ i₀ best i = (i ≤ n) × Least (2 ^ 40) low (2 ^ 40) (flat_from key_numbers 0 (waiting_of waiting))
+    (flat_from key_numbers i (drop i (waiting_of waiting))) best
 
 abbrev decreases-loop : tie.decreases-loop
 decreases-loop low waiting n best₀ i₀ best i = n - i
@@ -24,9 +24,9 @@ loop-again : tie.Need-loop-preserved invariant-loop decreases-loop
 loop-again c =
     let s = c.before.before.before in
     let a = s.before.before.args in
-    let e = flat_on keyNumbers a.t1.items a.t1.len s.loop.i noRemovalRead (omega arith) in (
+    let e = flat_on key_numbers a.t1.items a.t1.len s.loop.i no_removal_read (omega arith) in (
       omega arith,
-      least-all (keyNumbers s.loop.i (get_or a.t1.items s.loop.i noRemovalRead)) s.loop.invariant.1 e c.least-in.ensures.1
+      least-all (key_numbers s.loop.i (get_or a.t1.items s.loop.i no_removal_read)) s.loop.invariant.1 e c.least-in.ensures.1
           c.least-in.ensures.0,
     )
 
@@ -34,7 +34,7 @@ returns : tie.Need-returns invariant-loop decreases-loop
 returns c =
     let s = c.before in
     let a = s.before.before.args in
-    least-end s.loop.invariant.1 (flat-end keyNumbers (waitingOf a.t1) s.loop.i (omega arith))
+    least-end s.loop.invariant.1 (flat-end key_numbers (waiting_of a.t1) s.loop.i (omega arith))
 
 pub least-spec : {M : Type 1} → statement M
 least-spec =

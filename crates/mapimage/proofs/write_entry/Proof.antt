@@ -1,7 +1,7 @@
 -- `write_entry` meets its contract.
 use lib.ListN.{length-map}
-use Rattle.clock.specs.Dots.{dotsOf}
-use Rattle.clockimage.specs.Image.{dotRecord}
+use Rattle.clock.specs.Dots.{dots_of}
+use Rattle.clockimage.specs.Image.{dot_record}
 use borrow.Author.Tests.{eq-eqb, ne_eqb}
 use borrow.Author.Rules.{rules}
 use native.Mathlib.Omega.{arith}
@@ -12,7 +12,7 @@ write-dots-requires : tie.Need-write-dots-requires
 write-dots-requires c κs =
     let a = c.before.before.before.before.args in
     let h = rw (eq-eqb _ _ c.before.before.if1.true) at c.before.before.before.before.requires in
-    omega (arith, length-map (dotsOf a.e.clock) (dotRecord 2 0 a.e.key))
+    omega (arith, length-map (dots_of a.e.clock) (dot_record 2 0 a.e.key))
 
 returns : tie.Need-returns
 returns c = rw (eq-eqb _ _ c.before.before.before.before.before.if1.true) c.before.before.write-dots.ensures

@@ -1,7 +1,7 @@
 -- `write_value` meets its contract.
 use lib.ListN.{length-map}
-use Rattle.clock.specs.Dots.{dotsOf}
-use Rattle.clockimage.specs.Image.{dotRecord}
+use Rattle.clock.specs.Dots.{dots_of}
+use Rattle.clockimage.specs.Image.{dot_record}
 use borrow.Author.Tests.{eq-eqb, ne_eqb}
 use Rattle.records.proofs.Writing.{wrote_one}
 use borrow.Author.Rules.{rules}
@@ -19,7 +19,7 @@ write-dots-requires : tie.Need-write-dots-requires
 write-dots-requires c κs =
     let a = c.before.before.before.before.args in
     let h = rw (ne_eqb _ _ c.before.before.if1.false) at c.before.before.before.before.requires in
-    omega (arith, length-map (dotsOf a.v.clock) (dotRecord 4 a.index a.key))
+    omega (arith, length-map (dots_of a.v.clock) (dot_record 4 a.index a.key))
 
 returns-2 : tie.Need-returns-2
 returns-2 c = rw (ne_eqb _ _ c.before.before.before.before.before.if1.false) c.before.before.write-dots.ensures

@@ -4,9 +4,9 @@ use mathlib.Core.Logic.{inl, inr}
 use Prim.Native.Nat.{◌≤◌, ◌<◌, ◌-◌, ◌+◌}
 use lib.ListN.{length, get_or}
 use borrow.Author.Tests.{ltb-true, ltb-false}
-use Rattle.clock.specs.Dots.{noDot, dotsOf}
-use Rattle.limits.specs.Limits.{dotLimit}
-use Rattle.runs.specs.Run.{runDots}
+use Rattle.clock.specs.Dots.{no_dot, dots_of}
+use Rattle.limits.specs.Limits.{dot_limit}
+use Rattle.runs.specs.Run.{run_dots}
 use Rattle.marks.proofs.Dots.{run_at, length_run, few-dots}
 use Rattle.marks.proofs.Cutting.{Cutting, cutting-start, cutting-past, cutting-alone, cutting-off, cutting-on, cutting-end}
 use borrow.Author.Rules.{rules}
@@ -15,7 +15,7 @@ use Rattle.marks.proofs.cut_marks.Statement.{statement}
 use Rattle.marks.proofs.cut_marks.Tie as tie
 
 abbrev invariant-loop : tie.invariant-loop
-invariant-loop run by n m left₀ i₀ j₀ left i j = (i ≤ n) × (j ≤ m) × (length left₀ ≡ dotLimit) × Cutting by.dots by.len (runDots run) left₀ i j left
+invariant-loop run by n m left₀ i₀ j₀ left i j = (i ≤ n) × (j ≤ m) × (length left₀ ≡ dot_limit) × Cutting by.dots by.len (run_dots run) left₀ i j left
 
 abbrev decreases-loop : tie.decreases-loop
 decreases-loop run by n m left₀ i₀ j₀ left i j = (n - i) + (m - j)
@@ -27,10 +27,10 @@ loop-holds c =
 
 -- both places are in use, and the run's dot was read
 record Level (c : tie.After-e invariant-loop decreases-loop) : Type 0 where
-  pub ours : let s = c.before.before.before.before in s.loop.i < length (runDots s.before.before.before.args.run.now)
-  pub theirs : let s = c.before.before.before.before in s.loop.j < length (dotsOf s.before.before.before.args.t3)
+  pub ours : let s = c.before.before.before.before in s.loop.i < length (run_dots s.before.before.before.args.run.now)
+  pub theirs : let s = c.before.before.before.before in s.loop.j < length (dots_of s.before.before.before.args.t3)
   pub dot : let s = c.before.before.before.before in
-      get_or (runDots s.before.before.before.args.run.now) s.loop.i noDot ≡ c.before.dot_at.result
+      get_or (run_dots s.before.before.before.args.run.now) s.loop.i no_dot ≡ c.before.dot_at.result
 
 level : (c : tie.After-e invariant-loop decreases-loop) → Level c
 level c =
@@ -70,8 +70,8 @@ loop-again-2 c =
 -- both have the actor
 same : (c : tie.Else3 invariant-loop decreases-loop) → let y = c.before.before.before.before.before.before in
     let s = y.before.before.before.before in
-    (get_or s.before.before.before.args.t3.dots s.loop.j noDot).actor
-    ≡ (get_or (runDots s.before.before.before.args.run.now) s.loop.i noDot).actor
+    (get_or s.before.before.before.args.t3.dots s.loop.j no_dot).actor
+    ≡ (get_or (run_dots s.before.before.before.args.run.now) s.loop.i no_dot).actor
 same c =
     let t = c.before.before.before in
     let q = level t.before.before.before in

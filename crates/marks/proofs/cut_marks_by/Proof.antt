@@ -5,9 +5,9 @@ use Prim.Native.Nat.{◌≤◌, ◌<◌, ◌-◌, ◌+◌, ◌/◌}
 use lib.ListN.{length, get_or}
 use lib.Seq.{take-length}
 use borrow.Author.Tests.{ltb-true, ltb-false}
-use Rattle.clock.specs.Dots.{noDot}
-use Rattle.limits.specs.Limits.{dotLimit}
-use Rattle.runs.specs.Run.{runDots}
+use Rattle.clock.specs.Dots.{no_dot}
+use Rattle.limits.specs.Limits.{dot_limit}
+use Rattle.runs.specs.Run.{run_dots}
 use Rattle.marks.proofs.Dots.{run_at, length_run, all, few-dots}
 use Rattle.marks.proofs.Cutting.{Cutting, cutting-start, cutting-past, cutting-alone, cutting-off, cutting-on, cutting-end}
 use borrow.Author.Rules.{rules}
@@ -16,8 +16,8 @@ use Rattle.marks.proofs.cut_marks_by.Statement.{statement}
 use Rattle.marks.proofs.cut_marks_by.Tie as tie
 
 abbrev invariant-loop : tie.invariant-loop
-invariant-loop run by n m left₀ i₀ j₀ left i j = (i ≤ n) × (j ≤ m) × (length left₀ ≡ dotLimit) × Cutting (runDots by) (length (runDots by))
-    (runDots run) left₀ i j left
+invariant-loop run by n m left₀ i₀ j₀ left i j = (i ≤ n) × (j ≤ m) × (length left₀ ≡ dot_limit) × Cutting (run_dots by) (length (run_dots by))
+    (run_dots run) left₀ i j left
 
 abbrev decreases-loop : tie.decreases-loop
 decreases-loop run by n m left₀ i₀ j₀ left i j = (n - i) + (m - j)
@@ -25,16 +25,16 @@ decreases-loop run by n m left₀ i₀ j₀ left i j = (n - i) + (m - j)
 loop-holds : tie.Need-loop-init invariant-loop decreases-loop
 loop-holds c =
     let p = c.before.before.requires in
-    (search rules, search rules, search rules, cutting-start (rw (take-length (runDots c.before.before.args.by.now)) p.1.1) p.1.0)
+    (search rules, search rules, search rules, cutting-start (rw (take-length (run_dots c.before.before.args.by.now)) p.1.1) p.1.0)
 
 -- both places are in use, and their dots were read
 record Level (c : tie.After-dot-at2 invariant-loop decreases-loop) : Type 0 where
-  pub ours : let s = c.before.before.before.before in s.loop.i < length (runDots s.before.before.before.args.run.now)
-  pub theirs : let s = c.before.before.before.before in s.loop.j < length (all (runDots s.before.before.before.args.by.now))
+  pub ours : let s = c.before.before.before.before in s.loop.i < length (run_dots s.before.before.before.args.run.now)
+  pub theirs : let s = c.before.before.before.before in s.loop.j < length (all (run_dots s.before.before.before.args.by.now))
   pub dot : let s = c.before.before.before.before in
-      get_or (runDots s.before.before.before.args.run.now) s.loop.i noDot ≡ c.before.dot_at.result
+      get_or (run_dots s.before.before.before.args.run.now) s.loop.i no_dot ≡ c.before.dot_at.result
   pub other : let s = c.before.before.before.before in
-      get_or (runDots s.before.before.before.args.by.now) s.loop.j noDot ≡ c.dot-at2.result
+      get_or (run_dots s.before.before.before.args.by.now) s.loop.j no_dot ≡ c.dot-at2.result
 
 level : (c : tie.After-dot-at2 invariant-loop decreases-loop) → Level c
 level c =
@@ -43,7 +43,7 @@ level c =
     let k : s.loop.j < length s.before.before.before.args.by.now / 16 = ltb-true _ _ c.before.before.if1.true in
     record {
       ours = omega (arith, length_run run);
-      theirs = rw (take-length (runDots s.before.before.before.args.by.now))
+      theirs = rw (take-length (run_dots s.before.before.before.args.by.now))
           (omega (arith, length_run s.before.before.before.args.by.now));
       dot = run_at run s.loop.i (omega arith) ∙ sym c.before.dot_at.ensures;
       other = run_at s.before.before.before.args.by.now s.loop.j k ∙ sym c.dot-at2.ensures;
@@ -76,8 +76,8 @@ loop-again-2 c =
 -- both have the actor
 same : (c : tie.Else3 invariant-loop decreases-loop) → let y = c.before.before.before.before.before.before in
     let s = y.before.before.before.before in
-    (get_or (runDots s.before.before.before.args.by.now) s.loop.j noDot).actor
-    ≡ (get_or (runDots s.before.before.before.args.run.now) s.loop.i noDot).actor
+    (get_or (run_dots s.before.before.before.args.by.now) s.loop.j no_dot).actor
+    ≡ (get_or (run_dots s.before.before.before.args.run.now) s.loop.i no_dot).actor
 same c =
     let t = c.before.before.before in
     let q = level t.before.before.before in
@@ -113,10 +113,10 @@ returns : tie.Need-returns invariant-loop decreases-loop
 returns c =
     let s = c.before.before in
     let by = s.before.before.before.args.by.now in
-    let h : length (all (runDots by)) ≤ s.loop.j = rw (take-length (runDots by))
+    let h : length (all (run_dots by)) ≤ s.loop.j = rw (take-length (run_dots by))
     (omega (arith, ltb-false s.loop.j (length by / 16) c.if1.false, length_run by)) in
     cutting-end s.loop.invariant.3 (inr h) (few-dots s.before.before.before.args.run.now _ s.before.before.before.requires.0
-    s.loop.invariant.2) ∙ rw (take-length (runDots by))
+    s.loop.invariant.2) ∙ rw (take-length (run_dots by))
 
 returns-2 : tie.Need-returns-2 invariant-loop decreases-loop
 returns-2 c =
@@ -124,7 +124,7 @@ returns-2 c =
     let by = s.before.before.before.args.by.now in
     cutting-end s.loop.invariant.3 (inl (omega (arith, length_run s.before.before.before.args.run.now)))
     (few-dots s.before.before.before.args.run.now _ s.before.before.before.requires.0 s.loop.invariant.2) ∙ rw
-    (take-length (runDots by))
+    (take-length (run_dots by))
 
 pub cut-marks-by-spec : {M : Type 1} → statement M
 cut-marks-by-spec =

@@ -1,11 +1,11 @@
 -- `dot_at` meets its contract: the two numbers of the record that a dot has.
-use Rattle.records.specs.Records.{recordFrom}
+use Rattle.records.specs.Records.{record_from}
 use borrow.Author.Rules.{rules}
 use Rattle.marks.proofs.dot_at.Statement.{statement}
 use Rattle.marks.proofs.dot_at.Tie as tie
 
 returns : tie.Need-returns
-unfolding recordFrom
+unfolding record_from
 returns c = λ i. record { actor = c.before.read16.ensures i; counter = c.read64.ensures i }
 
 pub dot-at-spec : {M : Type 1} → statement M

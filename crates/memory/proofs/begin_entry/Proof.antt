@@ -1,11 +1,11 @@
 -- `begin_entry` meets its contract.
-use Rattle.memory.specs.Putting.{entryBegun}
+use Rattle.memory.specs.Putting.{entry_begun}
 use borrow.Author.Rules.{rules}
 use Rattle.memory.proofs.begin_entry.Statement.{statement}
 use Rattle.memory.proofs.begin_entry.Tie as tie
 
 returns : tie.Need-returns
-unfolding entryBegun
+unfolding entry_begun
 returns c = rw (
   c.put83.ensures,
   c.before.before.put82.ensures,

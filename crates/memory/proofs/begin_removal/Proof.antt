@@ -1,11 +1,11 @@
 -- `begin_removal` meets its contract.
-use Rattle.memory.specs.Putting.{removalBegun}
+use Rattle.memory.specs.Putting.{removal_begun}
 use borrow.Author.Rules.{rules}
 use Rattle.memory.proofs.begin_removal.Statement.{statement}
 use Rattle.memory.proofs.begin_removal.Tie as tie
 
 returns : tie.Need-returns
-unfolding removalBegun
+unfolding removal_begun
 returns c = rw (
   c.put83.ensures,
   c.before.before.put82.ensures,

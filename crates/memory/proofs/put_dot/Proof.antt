@@ -1,12 +1,12 @@
 -- `put_dot` meets its contract.
 use borrow.Author.Tests.{lt-ltb, le-ltb}
-use Rattle.memory.specs.Putting.{dotPut}
+use Rattle.memory.specs.Putting.{dot_put}
 use borrow.Author.Rules.{rules}
 use Rattle.memory.proofs.put_dot.Statement.{statement}
 use Rattle.memory.proofs.put_dot.Tie as tie
 
 returns : tie.Need-returns
-unfolding dotPut
+unfolding dot_put
 returns c = rw (
   lt-ltb _ _ c.before.before.before.before.before.before.if1.true,
   c.put8.ensures,
@@ -15,7 +15,7 @@ returns c = rw (
 )
 
 returns-2 : tie.Need-returns-2
-unfolding dotPut
+unfolding dot_put
 returns-2 c = rw (le-ltb _ _ c.if1.false)
 
 pub put-dot-spec : {M : Type 1} → statement M

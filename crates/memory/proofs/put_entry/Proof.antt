@@ -1,12 +1,12 @@
 -- `put_entry` meets its contract.
 use borrow.Author.Tests.{eq-eqb, ne_eqb, lt-ltb, le-ltb}
-use Rattle.memory.specs.Putting.{entryPut}
+use Rattle.memory.specs.Putting.{entry_put}
 use borrow.Author.Rules.{rules}
 use Rattle.memory.proofs.put_entry.Statement.{statement}
 use Rattle.memory.proofs.put_entry.Tie as tie
 
 returns : tie.Need-returns
-unfolding entryPut
+unfolding entry_put
 returns c = rw (
   ← c.before.before.before.before.before.count.ensures.0,
   ← c.before.before.before.find.ensures,
@@ -14,7 +14,7 @@ returns c = rw (
 ) c.put-known.ensures
 
 returns-2 : tie.Need-returns-2
-unfolding entryPut
+unfolding entry_put
 returns-2 c = rw (
   ← c.before.before.before.before.before.before.before.before.count.ensures.0,
   ← c.before.before.before.before.before.before.find.ensures,
@@ -24,7 +24,7 @@ returns-2 c = rw (
 ) c.begin-entry.ensures
 
 returns-3 : tie.Need-returns-3
-unfolding entryPut
+unfolding entry_put
 returns-3 c = rw (
   ← c.before.before.before.before.before.before.before.before.count.ensures.0,
   ← c.before.before.before.before.before.before.find.ensures,
@@ -34,7 +34,7 @@ returns-3 c = rw (
 ) c.lose.ensures
 
 returns-4 : tie.Need-returns-4
-unfolding entryPut
+unfolding entry_put
 returns-4 c = rw (
   ← c.before.before.before.before.before.before.before.count.ensures.0,
   ← c.before.before.before.before.before.find.ensures,

@@ -1,12 +1,12 @@
 -- `put_key` meets its contract.
 use borrow.Author.Tests.{lt-ltb, le-ltb}
-use Rattle.memory.specs.Putting.{keyPut}
+use Rattle.memory.specs.Putting.{key_put}
 use borrow.Author.Rules.{rules}
 use Rattle.memory.proofs.put_key.Statement.{statement}
 use Rattle.memory.proofs.put_key.Tie as tie
 
 returns : tie.Need-returns
-unfolding keyPut
+unfolding key_put
 returns c = rw (
   lt-ltb _ _ c.before.before.before.before.before.if1.true,
   c.put8.ensures,
@@ -15,7 +15,7 @@ returns c = rw (
 )
 
 returns-2 : tie.Need-returns-2
-unfolding keyPut
+unfolding key_put
 returns-2 c = rw (le-ltb _ _ c.if1.false)
 
 pub put-key-spec : {M : Type 1} → statement M

@@ -1,20 +1,20 @@
 -- `put_record` meets its contract.
 use borrow.Author.Tests.{eq-eqb, ne_eqb, lt-ltb, le-ltb}
-use Rattle.memory.specs.Putting.{recordPut}
+use Rattle.memory.specs.Putting.{record_put}
 use borrow.Author.Rules.{rules}
 use Rattle.memory.proofs.put_record.Statement.{statement}
 use Rattle.memory.proofs.put_record.Tie as tie
 
 returns : tie.Need-returns
-unfolding recordPut
+unfolding record_put
 returns c = rw (eq-eqb _ _ c.before.before.if1.true) c.put-dot.ensures
 
 returns-2 : tie.Need-returns-2
-unfolding recordPut
+unfolding record_put
 returns-2 c = rw (ne_eqb _ _ c.before.before.before.before.if1.false, lt-ltb _ _ c.before.before.if2.true) c.put-entry.ensures
 
 returns-3 : tie.Need-returns-3
-unfolding recordPut
+unfolding record_put
 returns-3 c = rw (
   ne_eqb _ _ c.before.before.before.before.before.if1.false,
   le-ltb _ _ c.before.before.before.if2.false,

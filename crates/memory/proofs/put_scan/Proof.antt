@@ -1,11 +1,11 @@
 -- `put_scan` meets its contract.
-use Rattle.memory.specs.Putting.{scanPut}
+use Rattle.memory.specs.Putting.{scan_put}
 use borrow.Author.Rules.{rules}
 use Rattle.memory.proofs.put_scan.Statement.{statement}
 use Rattle.memory.proofs.put_scan.Tie as tie
 
 returns : tie.Need-returns
-unfolding scanPut
+unfolding scan_put
 returns c = rw (
   c.put163.ensures,
   c.before.before.before.put162.ensures,

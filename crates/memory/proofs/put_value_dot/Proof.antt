@@ -1,12 +1,12 @@
 -- `put_value_dot` meets its contract.
 use borrow.Author.Tests.{lt-ltb, le-ltb}
-use Rattle.memory.specs.Putting.{valueDotPut}
+use Rattle.memory.specs.Putting.{value_dot_put}
 use borrow.Author.Rules.{rules}
 use Rattle.memory.proofs.put_value_dot.Statement.{statement}
 use Rattle.memory.proofs.put_value_dot.Tie as tie
 
 returns : tie.Need-returns
-unfolding valueDotPut
+unfolding value_dot_put
 returns c = rw (
   lt-ltb _ _ c.before.before.before.before.if1.true,
   lt-ltb _ _ c.before.before.before.if2.true,
@@ -15,11 +15,11 @@ returns c = rw (
 )
 
 returns-2 : tie.Need-returns-2
-unfolding valueDotPut
+unfolding value_dot_put
 returns-2 c = rw (lt-ltb _ _ c.before.before.before.if1.true, le-ltb _ _ c.before.before.if2.false) c.lose.ensures
 
 returns-3 : tie.Need-returns-3
-unfolding valueDotPut
+unfolding value_dot_put
 returns-3 c = rw (le-ltb _ _ c.before.before.if1.false) c.lose2.ensures
 
 pub put-value-dot-spec : {M : Type 1} → statement M

@@ -1,12 +1,12 @@
 -- `put_waiting` meets its contract.
 use borrow.Author.Tests.{eq-eqb, ne_eqb, lt-ltb, le-ltb}
-use Rattle.memory.specs.Putting.{waitingPut}
+use Rattle.memory.specs.Putting.{waiting_put}
 use borrow.Author.Rules.{rules}
 use Rattle.memory.proofs.put_waiting.Statement.{statement}
 use Rattle.memory.proofs.put_waiting.Tie as tie
 
 returns : tie.Need-returns
-unfolding waitingPut
+unfolding waiting_put
 returns c = rw (
   ← c.before.before.before.before.before.count.ensures.0,
   lt-ltb _ _ c.before.before.before.before.if1.true,
@@ -14,7 +14,7 @@ returns c = rw (
 ) c.put-dot.ensures
 
 returns-2 : tie.Need-returns-2
-unfolding waitingPut
+unfolding waiting_put
 returns-2 c = rw (
   ← c.before.before.before.before.before.count.ensures.0,
   lt-ltb _ _ c.before.before.before.before.if1.true,
@@ -22,7 +22,7 @@ returns-2 c = rw (
 ) c.put-key.ensures
 
 returns-3 : tie.Need-returns-3
-unfolding waitingPut
+unfolding waiting_put
 returns-3 c = rw (
   ← c.before.before.before.before.before.before.before.count.ensures.0,
   le-ltb _ _ c.before.before.before.before.before.before.if1.false,
@@ -32,7 +32,7 @@ returns-3 c = rw (
 ) c.begin-removal.ensures
 
 returns-4 : tie.Need-returns-4
-unfolding waitingPut
+unfolding waiting_put
 returns-4 c = rw (
   ← c.before.before.before.before.before.before.before.count.ensures.0,
   le-ltb _ _ c.before.before.before.before.before.before.if1.false,
@@ -42,7 +42,7 @@ returns-4 c = rw (
 ) c.lose.ensures
 
 returns-5 : tie.Need-returns-5
-unfolding waitingPut
+unfolding waiting_put
 returns-5 c = rw (
   ← c.before.before.before.before.before.before.count.ensures.0,
   le-ltb _ _ c.before.before.before.before.before.if1.false,
@@ -51,7 +51,7 @@ returns-5 c = rw (
 ) c.lose2.ensures
 
 returns-6 : tie.Need-returns-6
-unfolding waitingPut
+unfolding waiting_put
 returns-6 c = rw (
   ← c.before.before.before.before.before.count.ensures.0,
   le-ltb _ _ c.before.before.before.before.if1.false,

@@ -3,15 +3,15 @@ use mathlib.Core.Path.{◌≡◌, refl, ap, sym, ◌∙◌}
 use Prim.Native.Nat.{ℕ, ◌≤◌, ◌<◌, ◌-◌, ◌/◌}
 use native.Mathlib.Omega.{arith}
 use lib.ListN.{length}
-use Rattle.culling.specs.Looking.{isWanted}
-use Rattle.mending.specs.Tables.{dotsAfter}
+use Rattle.culling.specs.Looking.{is_wanted}
+use Rattle.mending.specs.Tables.{dots_after}
 use Rattle.mending.proofs.Dots.{dots-here, dots-other, dots-gone, dots-end, told}
 use borrow.Author.Rules.{rules}
 use Rattle.mending.proofs.dot_from.Statement.{statement}
 use Rattle.mending.proofs.dot_from.Tie as tie
 
 abbrev invariant-loop : tie.invariant-loop
-invariant-loop image marks index from n w i₀ i = (i ≤ n) × (from ≤ i) × (dotsAfter marks image index from ≡ dotsAfter marks image index i)
+invariant-loop image marks index from n w i₀ i = (i ≤ n) × (from ≤ i) × (dots_after marks image index from ≡ dots_after marks image index i)
 
 abbrev decreases-loop : tie.decreases-loop
 decreases-loop image marks index from n w i₀ i = n - i
@@ -26,7 +26,7 @@ returns c =
     let p = c.before.before.before.before.before.before.before.before.before.before.before.requires in
     let h : s.loop.i < length a.image.now / 16 = omega (arith, c.before.before.before.before.before.before.loop-test.true) in
     let u = told a.marks.now a.image.now p.1 a.index s.loop.i h c.before.before.read-record.ensures
-    (c.before.is-wanted.ensures ∙ ap (λ w. isWanted w c.before.before.read-record.result)
+    (c.before.is-wanted.ensures ∙ ap (λ w. is_wanted w c.before.before.read-record.result)
     c.before.before.before.before.before.before.before.before.of-index.ensures) in
     record {
       above = s.loop.invariant.1;
@@ -44,7 +44,7 @@ loop-again c =
     let p = c.before.before.before.before.before.before.before.before.before.before.before.requires in
     let h : s.loop.i < length a.image.now / 16 = omega (arith, c.before.before.before.before.before.before.loop-test.true) in
     let u = told a.marks.now a.image.now p.1 a.index s.loop.i h c.before.before.read-record.ensures
-    (c.before.is-wanted.ensures ∙ ap (λ w. isWanted w c.before.before.read-record.result)
+    (c.before.is-wanted.ensures ∙ ap (λ w. is_wanted w c.before.before.read-record.result)
     c.before.before.before.before.before.before.before.before.of-index.ensures) in (
       omega (arith, h),
       omega (arith, s.loop.invariant.1),
@@ -73,7 +73,7 @@ returns-2 c =
     record {
       above = p.0;
       inside = omega arith;
-      rest = s.loop.invariant.2 ∙ ap (dotsAfter a.marks.now a.image.now a.index) e;
+      rest = s.loop.invariant.2 ∙ ap (dots_after a.marks.now a.image.now a.index) e;
       here = λ q. absurd (omega arith);
     }
 

@@ -3,7 +3,7 @@ use mathlib.Core.Path.{◌≡◌, refl, ap, sym, ◌∙◌}
 use Prim.Native.Nat.{ℕ, ◌≤◌, ◌<◌, ◌-◌}
 use native.Mathlib.Omega.{arith}
 use lib.ListN.{length, get_or, length-set}
-use Rattle.mending.specs.Tables.{fourthOf, Led}
+use Rattle.mending.specs.Tables.{fourth_of, Led}
 use Rattle.mending.proofs.Leading.{table-set}
 use Rattle.mending.proofs.Fourths.{byte-indexes}
 use borrow.Author.Rules.{rules}
@@ -11,7 +11,7 @@ use Rattle.mending.proofs.find_leads.Statement.{statement}
 use Rattle.mending.proofs.find_leads.Tie as tie
 
 abbrev invariant-loop : tie.invariant-loop
-invariant-loop image marks leads₀ i₀ leads i = (i ≤ 256) × (length leads ≡ 256) × ((w : ℕ) → w < i → Led (fourthOf marks image) w (get_or leads w 0))
+invariant-loop image marks leads₀ i₀ leads i = (i ≤ 256) × (length leads ≡ 256) × ((w : ℕ) → w < i → Led (fourth_of marks image) w (get_or leads w 0))
 
 abbrev decreases-loop : tie.decreases-loop
 decreases-loop image marks leads₀ i₀ leads i = 256 - i
@@ -33,7 +33,7 @@ loop-again c =
     let a = c.before.before.before.before.before.before.before.args in (
       omega (arith, c.before.before.loop-test.true),
       length-set s.loop.leads s.loop.i _ ∙ s.loop.invariant.1,
-      table-set (Led (fourthOf a.marks.now a.image.now)) s.loop.leads s.loop.i s.loop.invariant.2 _
+      table-set (Led (fourth_of a.marks.now a.image.now)) s.loop.leads s.loop.i s.loop.invariant.2 _
           (omega (arith, c.before.before.loop-test.true, s.loop.invariant.1)) c.lead-of.ensures,
     )
 

@@ -4,8 +4,8 @@ use Prim.Native.Nat.{ℕ, ◌≤◌, ◌<◌, ◌-◌}
 use native.Mathlib.Omega.{arith}
 use lib.ListN.{length, get_or, length-set}
 use Rattle.listlaws.specs.Order.{◌∈◌}
-use Rattle.salvagerules.specs.Indexes.{waitingIndexes, waitingIndex}
-use Rattle.mending.specs.Tables.{fourthOf}
+use Rattle.salvagerules.specs.Indexes.{waiting_indexes, waiting_index}
+use Rattle.mending.specs.Tables.{fourth_of}
 use Rattle.mending.proofs.Leading.{table-set, table-skip}
 use borrow.Author.Rules.{rules}
 use Rattle.mending.proofs.find_ranks.Statement.{statement}
@@ -13,7 +13,7 @@ use Rattle.mending.proofs.find_ranks.Tie as tie
 
 abbrev invariant-loop : tie.invariant-loop
 invariant-loop image marks leads ranks₀ i₀ ranks i = (i ≤ 256) × (length ranks ≡ 256)
-    × ((w : ℕ) → w < i → w ∈ waitingIndexes (fourthOf marks image) → get_or ranks w 0 ≡ waitingIndex (fourthOf marks image) w)
+    × ((w : ℕ) → w < i → w ∈ waiting_indexes (fourth_of marks image) → get_or ranks w 0 ≡ waiting_index (fourth_of marks image) w)
 
 abbrev decreases-loop : tie.decreases-loop
 decreases-loop image marks leads ranks₀ i₀ ranks i = 256 - i
@@ -31,10 +31,10 @@ loop-again : tie.Need-loop-preserved invariant-loop decreases-loop
 loop-again c =
     let s = c.before.before.before.before in
     let a = c.before.before.before.before.before.before.before.before.before.args in
-    let k = fourthOf a.marks.now a.image.now in (
+    let k = fourth_of a.marks.now a.image.now in (
       omega (arith, c.before.before.before.loop-test.true),
       length-set s.loop.ranks s.loop.i _ ∙ s.loop.invariant.1,
-      table-set (λ w x. w ∈ waitingIndexes k → x ≡ waitingIndex k w) s.loop.ranks s.loop.i s.loop.invariant.2 _
+      table-set (λ w x. w ∈ waiting_indexes k → x ≡ waiting_index k w) s.loop.ranks s.loop.i s.loop.invariant.2 _
           (omega (arith, c.before.before.before.loop-test.true, s.loop.invariant.1)) (λ _. c.rank-of.ensures),
     )
 
@@ -43,10 +43,10 @@ loop-again-2 c =
     let s = c.before.before.before in
     let a = c.before.before.before.before.before.before.before.before.args in
     let p = c.before.before.before.before.before.before.before.before.requires in
-    let k = fourthOf a.marks.now a.image.now in (
+    let k = fourth_of a.marks.now a.image.now in (
       omega (arith, c.before.before.loop-test.true),
       s.loop.invariant.1,
-      table-skip (λ w x. w ∈ waitingIndexes k → x ≡ waitingIndex k w) s.loop.ranks s.loop.i s.loop.invariant.2
+      table-skip (λ w x. w ∈ waiting_indexes k → x ≡ waiting_index k w) s.loop.ranks s.loop.i s.loop.invariant.2
           (λ m. let r = (p.2.each s.loop.i (omega (arith, c.before.before.loop-test.true))).waits m in
           absurd (omega (arith, r.3, c.if1.false, c.before.before.loop-test.true))),
     )

@@ -4,8 +4,8 @@ use Prim.Native.Nat.{ℕ, ◌≤◌, ◌<◌, ◌-◌, ◌/◌}
 use native.Mathlib.Omega.{arith}
 use lib.ListN.{length, take}
 use Rattle.listlaws.specs.Sift.{sift}
-use Rattle.culling.specs.Marks.{markedOf, leftItems}
-use Rattle.mending.specs.Tables.{fourthOf}
+use Rattle.culling.specs.Marks.{marked_of, left_items}
+use Rattle.mending.specs.Tables.{fourth_of}
 use Rattle.mending.proofs.Rooming.{Rooming, room-start, room-end, room-skip-at, room-other-at, room-more-at, room-found-at}
 use borrow.Author.Rules.{rules}
 use Rattle.mending.proofs.has_room.Statement.{statement}
@@ -13,7 +13,7 @@ use Rattle.mending.proofs.has_room.Tie as tie
 
 abbrev invariant-loop : tie.invariant-loop
 invariant-loop image marks leads n r lead count₀ i₀ count i = (i ≤ n) × (count ≤ i)
-    × Rooming (fourthOf marks image) r (leftItems 0 (take i (markedOf marks image))) count
+    × Rooming (fourth_of marks image) r (left_items 0 (take i (marked_of marks image))) count
 
 abbrev decreases-loop : tie.decreases-loop
 decreases-loop image marks leads n r lead count₀ i₀ count i = n - i

@@ -4,7 +4,7 @@ use borrow.Author.Tests.{eq-eqb, ne_eqb}
 use native.Mathlib.Omega.{arith}
 use Rattle.salvagelaws.proofs.Waiting.{index-all}
 use Rattle.salvagelaws.proofs.Limited.{key-known}
-use Rattle.mending.specs.Tables.{fourthOf}
+use Rattle.mending.specs.Tables.{fourth_of}
 use Rattle.mending.proofs.Leading.{leading}
 use borrow.Author.Rules.{rules}
 use Rattle.mending.proofs.is_united.Statement.{statement}
@@ -17,7 +17,7 @@ returns : tie.Need-returns
 returns c =
     let a = c.before.before.before.before.before.before.before.args in
     let p = c.before.before.before.before.before.before.before.requires in
-    let k = fourthOf a.marks.now a.image.now in
+    let k = fourth_of a.marks.now a.image.now in
     rw (eq-eqb _ 5 c.before.before.if1.true)
     (c.is-lead.ensures ∙ leading k p.2.scan a.leads.now p.3 a.r.index (index-all k p.2.scan a.r p.4
     c.before.before.if1.true))
@@ -26,7 +26,7 @@ has-room-requires : tie.Need-has-room-requires
 has-room-requires c κs =
     let a = c.before.before.before.before.before.before.before.args in
     let p = c.before.before.before.before.before.before.before.requires in
-    (p.0, p.1, p.2, p.3, key-known (fourthOf a.marks.now a.image.now) p.2 a.r p.4 c.if2.true)
+    (p.0, p.1, p.2, p.3, key-known (fourth_of a.marks.now a.image.now) p.2 a.r p.4 c.if2.true)
 
 returns-2 : tie.Need-returns-2
 returns-2 c = rw (ne_eqb _ 5 c.before.before.before.if1.false, eq-eqb _ 6 c.before.if2.true) c.has_room.ensures

@@ -6,8 +6,8 @@ use native.Mathlib.Omega.{arith}
 use lib.Dec.{eqb}
 use lib.ListN.{length, get_or}
 use borrow.Author.Tests.{not-true, not-false}
-use Rattle.salvagerules.specs.Indexes.{waitingClock, sameDots}
-use Rattle.mending.specs.Tables.{fourthOf}
+use Rattle.salvagerules.specs.Indexes.{waiting_clock, same_dots}
+use Rattle.mending.specs.Tables.{fourth_of}
 use Rattle.mending.proofs.Leading.{used-told, used-means, unused-means, passed_on, led-found, led-own, led-none}
 use borrow.Author.Rules.{rules}
 use Rattle.mending.proofs.lead_of.Statement.{statement}
@@ -15,7 +15,7 @@ use Rattle.mending.proofs.lead_of.Tie as tie
 
 abbrev invariant-loop : tie.invariant-loop
 invariant-loop image marks leads index i₀ i = (i ≤ index) × (index < 256) × ((j : ℕ) → j < i → (eqb (get_or leads j 0) j
-    && sameDots (waitingClock (fourthOf marks image) j) (waitingClock (fourthOf marks image) index)) ≡ false)
+    && same_dots (waiting_clock (fourth_of marks image) j) (waiting_clock (fourth_of marks image) index)) ≡ false)
 
 abbrev decreases-loop : tie.decreases-loop
 decreases-loop image marks leads index i₀ i = index - i
@@ -27,8 +27,8 @@ returns : tie.Need-returns invariant-loop decreases-loop
 returns c =
     let a = c.before.before.before.before.before.before.args in
     let p = c.before.before.before.before.before.before.requires in
-    led-none (fourthOf a.marks.now a.image.now) p.2 a.index
-    (unused-means (fourthOf a.marks.now a.image.now) p.2 a.index
+    led-none (fourth_of a.marks.now a.image.now) p.2 a.index
+    (unused-means (fourth_of a.marks.now a.image.now) p.2 a.index
     (used-told a.marks.now a.image.now p.0 a.index c.before.before.of-index.ensures c.before.Has-left.ensures
     ∙ not-true _ c.if1.true))
 
@@ -51,7 +51,7 @@ returns-2 c =
     let s = c.before.before.before.before.before in
     let a = c.before.before.before.before.before.before.before.before.before.before.before.before.args in
     let p = c.before.before.before.before.before.before.before.before.before.before.before.before.requires in
-    let k = fourthOf a.marks.now a.image.now in
+    let k = fourth_of a.marks.now a.image.now in
     led-found k p.2 a.leads.now a.index s.loop.invariant.1 p.3 s.loop.i c.before.before.before.before.loop-test.true
     (sym c.before.before.before.is-lead.ensures ∙ c.before.before.if2.true) (sym c.before.waits-same.ensures ∙ c.if3.true)
     (used-means k p.2 a.index
@@ -67,7 +67,7 @@ loop-again c =
     let p = c.before.before.before.before.before.before.before.before.before.before.before.before.requires in (
       omega (arith, c.before.before.before.before.loop-test.true),
       s.loop.invariant.1,
-      passed_on (fourthOf a.marks.now a.image.now) p.2 a.leads.now a.index s.loop.invariant.1 p.3 s.loop.invariant.2
+      passed_on (fourth_of a.marks.now a.image.now) p.2 a.leads.now a.index s.loop.invariant.1 p.3 s.loop.invariant.2
           (ap₂ (λ x y. x && y) (sym c.before.before.before.is-lead.ensures) (sym c.before.waits-same.ensures ∙ c.if3.false)
           ∙ and-false c.before.before.before.is-lead.result),
     )
@@ -79,9 +79,9 @@ loop-again-2 c =
     let p = c.before.before.before.before.before.before.before.before.before.before.requires in (
       omega (arith, c.before.before.loop-test.true),
       s.loop.invariant.1,
-      passed_on (fourthOf a.marks.now a.image.now) p.2 a.leads.now a.index s.loop.invariant.1 p.3 s.loop.invariant.2
-          (ap (λ x. x && sameDots (waitingClock (fourthOf a.marks.now a.image.now) s.loop.i)
-          (waitingClock (fourthOf a.marks.now a.image.now) a.index)) (sym c.before.is-lead.ensures ∙ c.if2.false)),
+      passed_on (fourth_of a.marks.now a.image.now) p.2 a.leads.now a.index s.loop.invariant.1 p.3 s.loop.invariant.2
+          (ap (λ x. x && same_dots (waiting_clock (fourth_of a.marks.now a.image.now) s.loop.i)
+          (waiting_clock (fourth_of a.marks.now a.image.now) a.index)) (sym c.before.is-lead.ensures ∙ c.if2.false)),
     )
 
 returns-3 : tie.Need-returns-3 invariant-loop decreases-loop
@@ -89,7 +89,7 @@ returns-3 c =
     let s = c.before in
     let a = c.before.before.before.before.before.before.before.before.args in
     let p = c.before.before.before.before.before.before.before.before.requires in
-    let k = fourthOf a.marks.now a.image.now in
+    let k = fourth_of a.marks.now a.image.now in
     led-own k p.2 a.leads.now a.index s.loop.invariant.1 p.3
     (λ j h. s.loop.invariant.2 j (omega (arith, c.loop-test.false)))
     (used-means k p.2 a.index

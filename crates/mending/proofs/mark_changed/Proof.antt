@@ -6,11 +6,11 @@ use native.Mathlib.Omega.{arith}
 use lib.Dec.{ltb}
 use lib.ListN.{length, get_or, length-set}
 use borrow.Author.Tests.{ltb-true}
-use Rattle.records.specs.Records.{recordsOf}
+use Rattle.records.specs.Records.{records_of}
 use Rattle.scan.specs.Each.{every}
 use Rattle.salvagerules.specs.Fates.{staying}
-use Rattle.culling.specs.Marks.{markedOf, afterFour}
-use Rattle.culling.proofs.Marked.{noMarked, count-marked, marked-at, marked-set}
+use Rattle.culling.specs.Marks.{marked_of, after_four}
+use Rattle.culling.proofs.Marked.{no_marked, count-marked, marked-at, marked-set}
 use Rattle.mending.proofs.Fourths.{supplied, left-all, united-early}
 use Rattle.mending.proofs.Leading.{table-set, table-skip}
 use Rattle.mending.proofs.Changing.{Changing, mark-small, change-start, change-gone, change-kept, change-on, change-end}
@@ -20,7 +20,7 @@ use Rattle.mending.proofs.mark_changed.Tie as tie
 
 abbrev invariant-loop : tie.invariant-loop
 invariant-loop image marks₀ ranks n i₀ marks i = (i ≤ n) × (length marks ≡ length marks₀)
-    × Changing (staying (afterFour (recordsOf image))) (markedOf marks₀ image) i (markedOf marks image) × ((j : ℕ) → j < i → get_or marks j 0 < 264)
+    × Changing (staying (after_four (records_of image))) (marked_of marks₀ image) i (marked_of marks image) × ((j : ℕ) → j < i → get_or marks j 0 < 264)
 
 abbrev decreases-loop : tie.decreases-loop
 decreases-loop image marks₀ ranks n i₀ marks i = n - i
@@ -39,10 +39,10 @@ new-index-requires c κs =
     let f = s.loop.invariant.2.fourth in (
       room,
       p.1,
-      rw f (supplied (recordsOf a.image.now)),
+      rw f (supplied (records_of a.image.now)),
       rw f p.4,
       Memᴰ.cast (c.before.read-record.ensures ∙ sym (ap (λ z. z.item) e))
-          (left-all 5 (markedOf s.loop.marks a.image.now) s.loop.i (omega (arith, count-marked s.loop.marks a.image.now room))
+          (left-all 5 (marked_of s.loop.marks a.image.now) s.loop.i (omega (arith, count-marked s.loop.marks a.image.now room))
           (rw (ap (λ z. z.mark) e ∙ c.before.before.if1.true) refl)),
     )
 
@@ -120,15 +120,15 @@ loop-again-3 c =
       omega (arith, h),
       s.loop.invariant.1,
       change-gone s.loop.invariant.2 (omega (arith, count-marked a.marks.now a.image.now p.0))
-          (ap (every (λ f. ltb f.step 8)) p.2.fates ∙ united-early (recordsOf a.image.now))
+          (ap (every (λ f. ltb f.step 8)) p.2.fates ∙ united-early (records_of a.image.now))
           (λ q. c.if1.false (sym (ap (λ z. z.mark) e) ∙ q)),
       table-skip (λ w x. x < 264) s.loop.marks s.loop.i s.loop.invariant.3
           (omega (
             arith,
             ap (λ z. z.mark) e,
-            ltb-true (get_or (markedOf s.loop.marks a.image.now) s.loop.i noMarked).mark 8 (mark-small s.loop.invariant.2 (omega
+            ltb-true (get_or (marked_of s.loop.marks a.image.now) s.loop.i no_marked).mark 8 (mark-small s.loop.invariant.2 (omega
                 (arith, count-marked a.marks.now a.image.now p.0))
-                (ap (every (λ f. ltb f.step 8)) p.2.fates ∙ united-early (recordsOf a.image.now))),
+                (ap (every (λ f. ltb f.step 8)) p.2.fates ∙ united-early (records_of a.image.now))),
           )),
     )
 
@@ -141,7 +141,7 @@ returns c =
     let a = c.before.before.before.before.before.args in
     let p = c.before.before.before.before.before.requires in
     record {
-      fates = change-end (recordsOf a.image.now) (markedOf a.marks.now a.image.now) p.2.fates s.loop.invariant.2
+      fates = change-end (records_of a.image.now) (marked_of a.marks.now a.image.now) p.2.fates s.loop.invariant.2
           (omega (arith, c.loop-test.false, count-marked a.marks.now a.image.now p.0));
       small = λ j q. s.loop.invariant.3 j (omega (arith, c.loop-test.false));
     }

@@ -1,9 +1,9 @@
 -- `mark_indexes` meets its contract: the tables, what goes, and what changes.
 use mathlib.Core.Path.{◌≡◌, refl, ap, sym, ◌∙◌}
 use native.Mathlib.Omega.{arith}
-use Rattle.records.specs.Records.{recordsOf}
-use Rattle.scan.specs.Numbers.{scanNumber}
-use Rattle.culling.specs.Marks.{markedOf}
+use Rattle.records.specs.Records.{records_of}
+use Rattle.scan.specs.Numbers.{scan_number}
+use Rattle.culling.specs.Marks.{marked_of}
 use Rattle.mending.specs.Tables.{LeadsOf, RanksOf}
 use Rattle.mending.proofs.Fourths.{fourth-is, supplied}
 use borrow.Author.Rules.{rules}
@@ -16,8 +16,8 @@ find-leads-requires c κs =
     let p = c.before.before.before.before.requires in (
       p.0,
       search rules,
-      rw (fourth-is (markedOf a.marks.now a.image.now) (recordsOf a.image.now) p.2.fates) (supplied
-          (recordsOf a.image.now)).scan,
+      rw (fourth-is (marked_of a.marks.now a.image.now) (records_of a.image.now) p.2.fates) (supplied
+          (records_of a.image.now)).scan,
     )
 
 find-ranks-requires : tie.Need-find-ranks-requires
@@ -25,7 +25,7 @@ find-ranks-requires c κs =
     let a = c.before.before.before.before.before.before.before.before.before.args in
     let p = c.before.before.before.before.before.before.before.before.before.requires in (
       p.0,
-      rw (fourth-is (markedOf a.marks.now a.image.now) (recordsOf a.image.now) p.2.fates) (supplied (recordsOf
+      rw (fourth-is (marked_of a.marks.now a.image.now) (records_of a.image.now) p.2.fates) (supplied (records_of
           a.image.now)).scan,
       c.before.before.before.before.find-leads.ensures,
       search rules,
@@ -37,7 +37,7 @@ mark-united-requires c κs =
     let p = c.before.before.before.before.before.before.before.before.before.before.before.before.before.requires in (
       p.0,
       p.2,
-      rw (← fourth-is (markedOf a.marks.now a.image.now) (recordsOf a.image.now) p.2.fates)
+      rw (← fourth-is (marked_of a.marks.now a.image.now) (records_of a.image.now) p.2.fates)
           c.before.before.before.before.before.before.before.before.find-leads.ensures,
     )
 
@@ -49,7 +49,7 @@ mark-changed-requires c κs =
       p.1,
       c.before.before.before.before.mark-united.ensures.0,
       c.before.before.before.before.mark-united.ensures.1,
-      rw (← fourth-is (markedOf a.marks.now a.image.now) (recordsOf a.image.now) p.2.fates)
+      rw (← fourth-is (marked_of a.marks.now a.image.now) (records_of a.image.now) p.2.fates)
           c.before.before.before.before.before.before.before.before.find-ranks.ensures,
     )
 

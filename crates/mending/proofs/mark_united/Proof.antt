@@ -5,8 +5,8 @@ use Prim.Native.Nat.{ℕ, ◌*◌, ◌/◌, ◌≤◌, ◌<◌, ◌-◌}
 use native.Mathlib.Omega.{arith}
 use borrow.Author.Tests.{not-true, not-false, eq-eqb}
 use lib.ListN.{length, length-set}
-use Rattle.records.specs.Records.{recordsOf}
-use Rattle.culling.specs.Marks.{markedOf}
+use Rattle.records.specs.Records.{records_of}
+use Rattle.culling.specs.Marks.{marked_of}
 use Rattle.culling.proofs.Marked.{count-marked, marked-at, marked-set}
 use Rattle.mending.proofs.Fourths.{Uniting, unite-start, unite-skip, unite-keep, unite-go, unite-end, supplied, left-all}
 use borrow.Author.Rules.{rules}
@@ -15,7 +15,7 @@ use Rattle.mending.proofs.mark_united.Tie as tie
 
 abbrev invariant-loop : tie.invariant-loop
 invariant-loop image marks₀ leads n i₀ marks i = (i ≤ n) × (length marks ≡ length marks₀)
-    × Uniting (recordsOf image) (markedOf marks₀ image) i (markedOf marks image)
+    × Uniting (records_of image) (marked_of marks₀ image) i (marked_of marks image)
 
 abbrev decreases-loop : tie.decreases-loop
 decreases-loop image marks₀ leads n i₀ marks i = n - i
@@ -25,7 +25,7 @@ loop-holds c =
     let a = c.before.before.before.args in (
       omega arith,
       refl,
-      unite-start (recordsOf a.image.now) (markedOf a.marks.now a.image.now)
+      unite-start (records_of a.image.now) (marked_of a.marks.now a.image.now)
           c.before.before.before.requires.1.fates,
     )
 
@@ -40,10 +40,10 @@ is-united-requires c κs =
     let f = s.loop.invariant.2.fourth in (
       omega (arith, h),
       room,
-      rw f (supplied (recordsOf a.image.now)),
+      rw f (supplied (records_of a.image.now)),
       rw f p.2,
       Memᴰ.cast (c.read-record.ensures ∙ sym (ap (λ z. z.item) e))
-          (left-all 5 (markedOf s.loop.marks a.image.now) s.loop.i (omega (arith, count-marked s.loop.marks a.image.now room))
+          (left-all 5 (marked_of s.loop.marks a.image.now) s.loop.i (omega (arith, count-marked s.loop.marks a.image.now room))
           (rw (ap (λ z. z.mark) e ∙ c.before.before.if1.true) refl)),
     )
 
@@ -118,7 +118,7 @@ returns c =
     let a = c.before.before.before.before.before.args in
     let p = c.before.before.before.before.before.requires in (
       record {
-        fates = unite-end (recordsOf a.image.now) (markedOf a.marks.now a.image.now) p.1.fates s.loop.invariant.2
+        fates = unite-end (records_of a.image.now) (marked_of a.marks.now a.image.now) p.1.fates s.loop.invariant.2
             (omega (arith, c.loop-test.false, count-marked a.marks.now a.image.now p.0));
       },
       s.loop.invariant.2.fourth,

@@ -1,7 +1,7 @@
 -- `new_index` meets its contract, kind by kind.
 use mathlib.Core.Path.{◌≡◌, refl, ap, sym, ◌∙◌}
 use native.Mathlib.Omega.{arith}
-use Rattle.mending.specs.Tables.{fourthOf}
+use Rattle.mending.specs.Tables.{fourth_of}
 use Rattle.mending.proofs.Changing.{value-small, waits-known, index-small}
 use borrow.Author.Rules.{rules}
 use Rattle.mending.proofs.new_index.Statement.{statement}
@@ -11,7 +11,7 @@ returns : tie.Need-returns
 returns c =
     let a = c.before.before.before.before.before.before.before.args in
     let p = c.before.before.before.before.before.before.before.requires in
-    let k = fourthOf a.marks.now a.image.now in
+    let k = fourth_of a.marks.now a.image.now in
     let e = c.values-below.ensures.0 in
     (rw c.before.if1.true e, omega (arith, e, value-small k p.2 a.r p.4 c.before.if1.true))
 
@@ -26,7 +26,7 @@ returns-2 : tie.Need-returns-2
 returns-2 c =
     let a = c.before.before.before.before.before.before.before.before.before.before.before.args in
     let p = c.before.before.before.before.before.before.before.before.before.before.before.requires in
-    let k = fourthOf a.marks.now a.image.now in
+    let k = fourth_of a.marks.now a.image.now in
     let m = waits-known k p.2 a.r p.4 c.before.before.if2.true in
     let e = p.3.each a.r.index m in (
       rw (c.before.before.before.before.before.if1.false, c.before.before.if2.true) e,

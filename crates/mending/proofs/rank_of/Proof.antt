@@ -7,10 +7,10 @@ use lib.Dec.{eqb}
 use lib.ListN.{length, get_or}
 use Rattle.listlaws.specs.Sift.{sift, those}
 use Rattle.scan.proofs.Eachs.{both}
-use Rattle.removals.specs.Waits.{clockBefore}
-use Rattle.maprecords.specs.Reading.{numbersBelow}
-use Rattle.salvagerules.specs.Indexes.{waitingClock}
-use Rattle.mending.specs.Tables.{fourthOf}
+use Rattle.removals.specs.Waits.{clock_before}
+use Rattle.maprecords.specs.Reading.{numbers_below}
+use Rattle.salvagerules.specs.Indexes.{waiting_clock}
+use Rattle.mending.specs.Tables.{fourth_of}
 use Rattle.mending.proofs.Leading.{number_more, number-other, rank_is}
 use borrow.Author.Rules.{rules}
 use Rattle.mending.proofs.rank_of.Statement.{statement}
@@ -18,14 +18,14 @@ use Rattle.mending.proofs.rank_of.Tie as tie
 
 abbrev invariant-loop : tie.invariant-loop
 invariant-loop image marks leads index count₀ i₀ count i = (i ≤ 256) × (count ≤ i) × (count ≡ length (those
-    (λ j. eqb (get_or leads j 0) j && clockBefore (waitingClock (fourthOf marks image) j) (waitingClock (fourthOf marks image) index))
-    (numbersBelow i)))
+    (λ j. eqb (get_or leads j 0) j && clock_before (waiting_clock (fourth_of marks image) j) (waiting_clock (fourth_of marks image) index))
+    (numbers_below i)))
 
 abbrev decreases-loop : tie.decreases-loop
 decreases-loop image marks leads index count₀ i₀ count i = 256 - i
 
 loop-holds : tie.Need-loop-init invariant-loop decreases-loop
-unfolding sift numbersBelow
+unfolding sift numbers_below
 loop-holds c = (omega arith, omega arith, refl)
 
 is-lead-requires : tie.Need-is-lead-requires invariant-loop decreases-loop
@@ -61,8 +61,8 @@ loop-again-3 c =
       omega (arith, c.before.before.loop-test.true),
       omega (arith, s.loop.invariant.1),
       number-other _ s.loop.invariant.2
-          (ap (λ x. x && clockBefore (waitingClock (fourthOf a.marks.now a.image.now) s.loop.i)
-          (waitingClock (fourthOf a.marks.now a.image.now) a.index)) (sym c.before.is-lead.ensures ∙ c.if1.false)),
+          (ap (λ x. x && clock_before (waiting_clock (fourth_of a.marks.now a.image.now) s.loop.i)
+          (waiting_clock (fourth_of a.marks.now a.image.now) a.index)) (sym c.before.is-lead.ensures ∙ c.if1.false)),
     )
 
 returns : tie.Need-returns invariant-loop decreases-loop
@@ -72,9 +72,9 @@ returns c =
     let p = c.before.before.before.before.before.requires in
     let e : s.loop.i ≡ 256 = omega (arith, s.loop.invariant.0, c.loop-test.false) in
     s.loop.invariant.2
-    ∙ ap (λ n. length (those (λ j. eqb (get_or a.leads.now j 0) j && clockBefore (waitingClock (fourthOf a.marks.now a.image.now) j)
-    (waitingClock (fourthOf a.marks.now a.image.now) a.index)) (numbersBelow n))) e
-    ∙ rank_is (fourthOf a.marks.now a.image.now) p.1 a.leads.now p.2 a.index
+    ∙ ap (λ n. length (those (λ j. eqb (get_or a.leads.now j 0) j && clock_before (waiting_clock (fourth_of a.marks.now a.image.now) j)
+    (waiting_clock (fourth_of a.marks.now a.image.now) a.index)) (numbers_below n))) e
+    ∙ rank_is (fourth_of a.marks.now a.image.now) p.1 a.leads.now p.2 a.index
 
 pub rank-of-spec : {M : Type 1} → statement M
 rank-of-spec =

@@ -8,8 +8,8 @@ use lib.ListN.{length, take}
 use lib.Seq.{take_all}
 use Rattle.listlaws.specs.Sift.{sift, those}
 use Rattle.records.specs.declared.Record.{Record}
-use Rattle.maprecords.specs.Reading.{underKey}
-use Rattle.culling.specs.Marks.{markedOf, leftItems}
+use Rattle.maprecords.specs.Reading.{under_key}
+use Rattle.culling.specs.Marks.{marked_of, left_items}
 use Rattle.culling.proofs.Marked.{count-marked}
 use Rattle.mending.proofs.Fourths.{Counted, count-skip, count-more, count-other}
 use borrow.Author.Rules.{rules}
@@ -17,8 +17,8 @@ use Rattle.mending.proofs.values_below.Statement.{statement}
 use Rattle.mending.proofs.values_below.Tie as tie
 
 abbrev invariant-loop : tie.invariant-loop
-invariant-loop image marks key index n count₀ i₀ count i = (i ≤ n) × (count ≤ i) × (count ≡ length (those (λ s. underKey 3 key s && ltb s.index index)
-    (leftItems 5 (take i (markedOf marks image)))))
+invariant-loop image marks key index n count₀ i₀ count i = (i ≤ n) × (count ≤ i) × (count ≡ length (those (λ s. under_key 3 key s && ltb s.index index)
+    (left_items 5 (take i (marked_of marks image)))))
 
 abbrev decreases-loop : tie.decreases-loop
 decreases-loop image marks key index n count₀ i₀ count i = n - i
@@ -46,7 +46,7 @@ loop-again c =
     ) in (
       omega (arith, h),
       omega (arith, s.loop.invariant.1),
-      count-more 5 (λ x. underKey 3 a.key x && ltb x.index a.index) a.marks.now a.image.now p.0 s.loop.i h s.loop.invariant.2
+      count-more 5 (λ x. under_key 3 a.key x && ltb x.index a.index) a.marks.now a.image.now p.0 s.loop.i h s.loop.invariant.2
           c.before.before.before.before.before.before.is-left.ensures c.before.before.before.before.before.if1.true
           c.before.before.before.before.read-record.ensures c.if2.true,
     )
@@ -62,7 +62,7 @@ loop-again-2 c =
     ) in (
       omega (arith, h),
       omega (arith, s.loop.invariant.1),
-      count-other 5 (λ x. underKey 3 a.key x && ltb x.index a.index) a.marks.now a.image.now p.0 s.loop.i h
+      count-other 5 (λ x. under_key 3 a.key x && ltb x.index a.index) a.marks.now a.image.now p.0 s.loop.i h
           s.loop.invariant.2
           c.before.before.before.before.before.before.is-left.ensures c.before.before.before.before.before.if1.true
           c.before.before.before.before.read-record.ensures c.if2.false,
@@ -76,7 +76,7 @@ loop-again-3 c =
     let h : s.loop.i < length a.image.now / 16 = omega (arith, c.before.before.before.loop-test.true) in (
       omega (arith, h),
       omega (arith, s.loop.invariant.1),
-      count-skip 5 (λ x. underKey 3 a.key x && ltb x.index a.index) a.marks.now a.image.now p.0 s.loop.i h s.loop.invariant.2
+      count-skip 5 (λ x. under_key 3 a.key x && ltb x.index a.index) a.marks.now a.image.now p.0 s.loop.i h s.loop.invariant.2
           c.before.is-left.ensures c.if1.false,
     )
 
@@ -86,8 +86,8 @@ returns c =
     let a = c.before.before.before.before.args in
     let p = c.before.before.before.before.requires in (
       s.loop.invariant.2
-          ∙ ap (λ l. length (those (λ x. underKey 3 a.key x && ltb x.index a.index) (leftItems 5 l)))
-          (take_all s.loop.i (markedOf a.marks.now a.image.now)
+          ∙ ap (λ l. length (those (λ x. under_key 3 a.key x && ltb x.index a.index) (left_items 5 l)))
+          (take_all s.loop.i (marked_of a.marks.now a.image.now)
           (omega (arith, c.loop-test.false, count-marked a.marks.now a.image.now p.0))),
       omega (arith, s.loop.invariant.0, s.loop.invariant.1),
     )

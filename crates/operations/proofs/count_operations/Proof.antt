@@ -6,14 +6,14 @@ use native.Mathlib.Omega.{arith}
 use borrow.Author.Rules.{rules}
 use lib.ListN.{length, drop}
 use Rattle.listlaws.proofs.Rests.{drop-end}
-use Rattle.promises.specs.CatchUp.{operationsOf}
+use Rattle.promises.specs.CatchUp.{operations_of}
 use Rattle.promises.proofs.Cuts.{cut-nothing}
 use Rattle.operations.proofs.count_operations.Statement.{statement}
 use Rattle.operations.proofs.count_operations.Tie as tie
 
 abbrev invariant-loop : tie.invariant-loop
 invariant-loop list n at₀ count₀ at count =
-    (at ≤ length list) × ((count ≤ at) × (length (operationsOf list) ≡ count + length (operationsOf (drop at list))))
+    (at ≤ length list) × ((count ≤ at) × (length (operations_of list) ≡ count + length (operations_of (drop at list))))
 
 abbrev decreases-loop : tie.decreases-loop
 decreases-loop list n at₀ count₀ at count = length list - at
@@ -38,8 +38,8 @@ loop-again c =
 returns : tie.Need-returns invariant-loop decreases-loop
 returns c =
     let list = c.before.before.before.args.list.now in
-    let e : operationsOf (drop c.before.loop.at list) ≡ []
-    = ap operationsOf (drop-end list c.before.loop.at (omega arith)) ∙ cut-nothing in
+    let e : operations_of (drop c.before.loop.at list) ≡ []
+    = ap operations_of (drop-end list c.before.loop.at (omega arith)) ∙ cut-nothing in
     omega (arith, ap length e)
 
 pub count-operations-spec : {M : Type 1} → statement M

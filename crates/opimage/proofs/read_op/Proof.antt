@@ -4,7 +4,7 @@ use Prim.Native.Nat.{◌≤◌, ◌-◌, ◌/◌}
 use lib.ListN.{length}
 use borrow.Author.Tests.{lt-ltb, le-ltb, eq-eqb, ne_eqb}
 use Rattle.records.proofs.Feeding.{Feeding, feed-start, feed-on, feed-end}
-use Rattle.opimage.specs.OpImage.{readOp}
+use Rattle.opimage.specs.OpImage.{read_op}
 use Rattle.opimage.specs.SoFar.{OpSoFar}
 use borrow.Author.Rules.{rules}
 use native.Mathlib.Omega.{arith}
@@ -18,11 +18,11 @@ abbrev decreases-loop : tie.decreases-loop
 decreases-loop bytes len n reader₀ i₀ reader i = n - i
 
 returns : tie.Need-returns invariant-loop decreases-loop
-unfolding readOp
+unfolding read_op
 returns c = rw (lt-ltb _ _ c.before.if1.true) c.refused.ensures
 
 returns-2 : tie.Need-returns-2 invariant-loop decreases-loop
-unfolding readOp
+unfolding read_op
 returns-2 c = rw (le-ltb _ _ c.before.before.if1.false, ne_eqb _ _ c.before.if2.true) c.refused2.ensures
 
 loop-holds : tie.Need-loop-init invariant-loop decreases-loop
@@ -42,7 +42,7 @@ loop-again c = (
 )
 
 returns-3 : tie.Need-returns-3 invariant-loop decreases-loop
-unfolding readOp
+unfolding read_op
 returns-3 c =
     let at-if2 = c.before.before.before.before in
     let f = feed-end _ c.before.before.loop.invariant.1.1 (omega arith) in

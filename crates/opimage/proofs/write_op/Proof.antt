@@ -1,6 +1,6 @@
 -- `write_op` meets its contract.
 use Rattle.records.proofs.RoundTrips.{length-bytes}
-use Rattle.opimage.specs.OpImage.{opRecords}
+use Rattle.opimage.specs.OpImage.{op_records}
 use borrow.Author.Rules.{rules}
 use native.Mathlib.Omega.{arith}
 use Rattle.opimage.proofs.write_op.Statement.{statement}
@@ -9,7 +9,7 @@ use Rattle.opimage.proofs.write_op.Tie as tie
 write-update-requires : tie.Need-write-update-requires
 write-update-requires c κs =
     let a = c.before.before.before.before in
-    let e = rw c.before.before.if1.true at (length-bytes (opRecords a.args.op)) in
+    let e = rw c.before.before.if1.true at (length-bytes (op_records a.args.op)) in
     let h = rw c.before.before.if1.true at a.requires in
     omega arith
 
@@ -19,7 +19,7 @@ returns c = rw c.before.before.before.before.before.if1.true c.before.before.wri
 write-removal-requires : tie.Need-write-removal-requires
 write-removal-requires c κs =
     let a = c.before.before.before.before in
-    let e = rw c.before.before.if1.false at (length-bytes (opRecords a.args.op)) in
+    let e = rw c.before.before.if1.false at (length-bytes (op_records a.args.op)) in
     let h = rw c.before.before.if1.false at a.requires in
     omega arith
 

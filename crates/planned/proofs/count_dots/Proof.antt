@@ -4,9 +4,9 @@ use mathlib.Core.List.{List}
 use Prim.Native.Nat.{ℕ, ◌+◌, ◌*◌, ◌≤◌, ◌<◌, ◌-◌}
 use lib.ListN.{length, drop}
 use Rattle.listlaws.proofs.Pads.{unmapped}
-use Rattle.limits.specs.Limits.{dotLimit}
+use Rattle.limits.specs.Limits.{dot_limit}
 use Rattle.removals.specs.declared.Removal.{Removal}
-use Rattle.mapimage.specs.MapImage.{flatFrom, waitingDots}
+use Rattle.mapimage.specs.MapImage.{flat_from, waiting_dots}
 use Rattle.planned.specs.Planned.{Plans}
 use Rattle.planned.proofs.Planning.{plan-places, plan-within, plan-count, dots-end}
 use borrow.Author.Rules.{rules}
@@ -16,8 +16,8 @@ use Rattle.planned.proofs.count_dots.Tie as tie
 
 abbrev invariant-loop : tie.invariant-loop
 invariant-loop p n total₀ i₀ total i =
-    ((i ≤ n) × (total ≤ i * dotLimit)) × ((s t : List ℕ) (w v result : List Removal) → Plans s t w v result p
-    → length (flatFrom waitingDots 0 result) ≡ total + length (flatFrom waitingDots i (drop i result)))
+    ((i ≤ n) × (total ≤ i * dot_limit)) × ((s t : List ℕ) (w v result : List Removal) → Plans s t w v result p
+    → length (flat_from waiting_dots 0 result) ≡ total + length (flat_from waiting_dots i (drop i result)))
 
 abbrev decreases-loop : tie.decreases-loop
 decreases-loop p n total₀ i₀ total i = n - i

@@ -7,14 +7,14 @@ use borrow.Author.Tests.{ltb-true}
 use lib.ListN.{length, length-set}
 use Rattle.listlaws.proofs.Pads.{unmapped}
 use Rattle.listlaws.proofs.Weaving.{both-past}
-use Rattle.clock.specs.Dots.{dotsOf}
+use Rattle.clock.specs.Dots.{dots_of}
 use Rattle.removals.specs.declared.Removal.{Removal}
-use Rattle.limits.specs.Limits.{waitingLimit}
+use Rattle.limits.specs.Limits.{waiting_limit}
 use Rattle.removals.specs.Valid.{ValidWaiting}
 use Rattle.queued.specs.Queue.{Queued}
 use Rattle.planned.specs.declared.Held.{Held}
 use Rattle.planned.specs.Planned.{HeldLies}
-use Rattle.planned.specs.Left.{leftIn}
+use Rattle.planned.specs.Left.{left_in}
 use Rattle.planned.proofs.Lefts.{queue-places, run-clear, run-left}
 use Rattle.planned.proofs.Joining.{Turned, turned, nearer, Joining, join-start, found-on, found-off, stay-rise, held-lies}
 use Rattle.planned.proofs.Results.{join-plans}
@@ -25,9 +25,9 @@ use Rattle.planned.proofs.join_plan.Tie as tie
 
 abbrev invariant-loop : tie.invariant-loop
 invariant-loop s t seen q p n m items₀ ours₀ theirs₀ count₀ i₀ j₀ items ours theirs count i j =
-    ((i ≤ n) × (j ≤ m) × (count ≤ i + j) × (length ours ≡ waitingLimit) × (length theirs ≡ waitingLimit) × (length items ≡ waitingLimit))
+    ((i ≤ n) × (j ≤ m) × (count ≤ i + j) × (length ours ≡ waiting_limit) × (length theirs ≡ waiting_limit) × (length items ≡ waiting_limit))
     × ((w v : List Removal) → Queued s q w → Queued t p v → ValidWaiting w → ValidWaiting v
-    → Joining (dotsOf seen) w v s t i j count items ours theirs)
+    → Joining (dots_of seen) w v s t i j count items ours theirs)
 
 abbrev decreases-loop : tie.decreases-loop
 decreases-loop s t seen q p n m items₀ ours₀ theirs₀ count₀ i₀ j₀ items ours theirs count i j = (n - i) + (m - j)
@@ -56,8 +56,8 @@ turn-of : (c : tie.After-next-turn invariant-loop decreases-loop) → let t = c.
     let a = t.before.before.before.before.before.before.args in
     (w v : List Removal) → Queued a.s.now a.t2 w → Queued a.t.now a.t4 v
     → Turned w v t.loop.i t.loop.j c.next-turn.result.first c.next-turn.result.second
-    (cond c.next-turn.result.first (leftIn a.s.now c.before.before.before.before.whole2.result)
-    (leftIn a.t.now c.before.whole3.result))
+    (cond c.next-turn.result.first (left_in a.s.now c.before.before.before.before.whole2.result)
+    (left_in a.t.now c.before.whole3.result))
 turn-of c w v q p =
     let t = c.before.before.before.before.before.before.before.before.before.before in
     let e = c.next-turn.ensures in
@@ -73,8 +73,8 @@ lies-of : (c : tie.After-next-turn invariant-loop decreases-loop) → let t = c.
     let a = t.before.before.before.before.before.before.args in
     (w v : List Removal) → Queued a.s.now a.t2 w → Queued a.t.now a.t4 v
     → HeldLies a.s.now a.t.now c.next-turn.result.held
-    (cond c.next-turn.result.first (leftIn a.s.now c.before.before.before.before.whole2.result)
-    (leftIn a.t.now c.before.whole3.result))
+    (cond c.next-turn.result.first (left_in a.s.now c.before.before.before.before.whole2.result)
+    (left_in a.t.now c.before.whole3.result))
 lies-of c w v q p =
     let n = turn-of c w v q p in
     held-lies c.next-turn.result.first c.next-turn.ensures.1.0
@@ -125,7 +125,7 @@ loop-again c =
           let few = q.few in
           let more = p.few in
           let n = turn-of u w v q p in
-          found-on (g.1 w v q p b c') n (stay-rise (dotsOf a.seen) b.rising c'.rising)
+          found-on (g.1 w v q p b c') n (stay-rise (dots_of a.seen) b.rising c'.rising)
           u.before.before.before.before.before.before.before.before.place.result
           u.before.before.before.before.before.before.before.place2.result 0
           d.before.before.before.before.before.before.place3.result
@@ -157,7 +157,7 @@ loop-again-2 c =
           let few = q.few in
           let more = p.few in
           let n = turn-of u w v q p in
-          found-off (g.1 w v q p b c') n (stay-rise (dotsOf a.seen) b.rising c'.rising)
+          found-off (g.1 w v q p b c') n (stay-rise (dots_of a.seen) b.rising c'.rising)
           u.before.before.before.before.before.before.before.before.place.result
           u.before.before.before.before.before.before.before.place2.result 0
           d.before.before.before.before.before.before.place3.result
@@ -176,7 +176,7 @@ returns c =
     λ w v q p b d.
     let n = queue-places q t.before.before.before.places.ensures in
     let m = queue-places p t.before.before.places2.ensures in
-    join-plans (dotsOf a.seen) b d q.few p.few (t.loop.invariant.1 w v q p b d) (omega (arith, o.0)) (omega (arith, o.1))
+    join-plans (dots_of a.seen) b d q.few p.few (t.loop.invariant.1 w v q p b d) (omega (arith, o.0)) (omega (arith, o.1))
 
 loop-less : tie.Need-loop-smaller invariant-loop decreases-loop
 loop-less c = (near c.before.before).1.0

@@ -1,8 +1,8 @@
 -- `next_turn` meets its contract: the one in turn is looked at.
 use mathlib.Core.Path.{◌≡◌, refl, sym, ◌∙◌}
 use mathlib.Core.Bool.{Bool, true, false, not, ◌&&◌, ◌||◌}
-use Rattle.removals.specs.Waits.{clockBefore}
-use Rattle.planned.specs.Left.{leftIn}
+use Rattle.removals.specs.Waits.{clock_before}
+use Rattle.planned.specs.Left.{left_in}
 use Rattle.listlaws.proofs.Orders.{apart}
 use Rattle.planned.proofs.next_turn.Statement.{statement}
 use Rattle.planned.proofs.next_turn.Tie as tie
@@ -37,7 +37,7 @@ waits-requires-2 : tie.Need-waits-requires-2
 waits-requires-2 c κs =
     let p = c.before.before.before.before.before.requires in
     let a = c.before.before.before.before.before.args in (
-      p.0.1 (other-one a.mine a.yours (clockBefore (leftIn a.t.now a.y) (leftIn a.s.now a.x))
+      p.0.1 (other-one a.mine a.yours (clock_before (left_in a.t.now a.y) (left_in a.s.now a.x))
           (sym c.before.before.in-turn.ensures ∙ c.if1.false) p.1.0),
       p.1.1,
     )

@@ -5,10 +5,10 @@ use Prim.Native.Nat.{◌+◌, ◌*◌, ◌≤◌, ◌<◌, ◌-◌}
 use lib.ListN.{length, drop, get_or, length-map}
 use Rattle.listlaws.proofs.Pads.{unmapped}
 use Rattle.removals.specs.declared.Removal.{Removal}
-use Rattle.removals.specs.Model.{noRemoval, underOf}
+use Rattle.removals.specs.Model.{no_removal, under_of}
 use Rattle.records.proofs.Writing.{Writing, write-start, write-room, write-on, write-end}
-use Rattle.clockimage.specs.Image.{dotRecord}
-use Rattle.mapimage.specs.MapImage.{flatFrom, waitingDots}
+use Rattle.clockimage.specs.Image.{dot_record}
+use Rattle.mapimage.specs.MapImage.{flat_from, waiting_dots}
 use Rattle.planned.specs.Planned.{Plans}
 use Rattle.planned.proofs.Planning.{plan-places, plan-within, plan-dots, dots-next, dots-end}
 use borrow.Author.Rules.{rules}
@@ -18,8 +18,8 @@ use Rattle.planned.proofs.write_clocks.Tie as tie
 
 abbrev invariant-loop : tie.invariant-loop
 invariant-loop out₀ at s t p n next₀ i₀ out next i =
-    (i ≤ n) × ((w v result : List Removal) → Plans s t w v result p → at + length (flatFrom waitingDots 0 result) * 16 ≤ length out₀
-    → Writing (flatFrom waitingDots 0 result) (flatFrom waitingDots i (drop i result)) at out₀ out next)
+    (i ≤ n) × ((w v result : List Removal) → Plans s t w v result p → at + length (flat_from waiting_dots 0 result) * 16 ≤ length out₀
+    → Writing (flat_from waiting_dots 0 result) (flat_from waiting_dots i (drop i result)) at out₀ out next)
 
 abbrev decreases-loop : tie.decreases-loop
 decreases-loop out₀ at s t p n next₀ i₀ out next i = n - i
@@ -43,9 +43,9 @@ write-held-requires c κs =
       omega (
         arith,
         ap length (plan-dots h p.0 inside),
-        (write-room _ _ _ (waitingDots i (get_or result i noRemoval)) _
+        (write-room _ _ _ (waiting_dots i (get_or result i no_removal)) _
             (t.loop.invariant.1 _ _ result h p.1.4) (dots-next result i inside)).0,
-        length-map (underOf (get_or result i noRemoval)) (dotRecord 5 i 0),
+        length-map (under_of (get_or result i no_removal)) (dot_record 5 i 0),
       ),
     )
 
@@ -57,7 +57,7 @@ loop-again c =
       λ w v result h room.
           let i = t.loop.i in
           let inside : i < length result = (let e = plan-places h p.0 t.before.places.ensures in let k = c.before.before.before.before.before.loop-test.true in omega arith) in
-          write-on _ _ _ (waitingDots i (get_or result i noRemoval)) (t.loop.invariant.1 w v result h room) (dots-next result i inside)
+          write-on _ _ _ (waiting_dots i (get_or result i no_removal)) (t.loop.invariant.1 w v result h room) (dots-next result i inside)
           (rw (plan-dots h p.0 inside) at c.before.before.write-held.ensures),
     )
 

@@ -2,13 +2,13 @@
 use Rattle.std.proofs.Common.{◌-◌, ◌≤◌, rules}
 use Rattle.questions.proofs.same.Statement.{statement}
 use Rattle.questions.proofs.same.Tie as tie
-use Rattle.questions.proofs.Rooms.{roomBytes}
+use Rattle.questions.proofs.Rooms.{room_bytes}
 
 abbrev invariant-loop : tie.invariant-loop
-invariant-loop a b i₀ i = i ≤ roomBytes
+invariant-loop a b i₀ i = i ≤ room_bytes
 
 abbrev decreases-loop : tie.decreases-loop
-decreases-loop a b i₀ i = roomBytes - i
+decreases-loop a b i₀ i = room_bytes - i
 
 pub same_spec : {M : Type 1} → statement M
 same_spec =

@@ -5,7 +5,7 @@ use Prim.Native.Nat.{ℕ, ◌≤◌, ◌-◌}
 use native.Mathlib.Omega.{arith}
 use Rattle.listlaws.proofs.Folding.{folding-start}
 use Rattle.clock.specs.declared.Dot.{Dot}
-use Rattle.clock.specs.Dots.{clockOf}
+use Rattle.clock.specs.Dots.{clock_of}
 use Rattle.clock.proofs.Packs.{cut_left}
 use Rattle.removals.specs.declared.Removal.{Removal}
 use Rattle.queued.specs.Queue.{Queued, Marked}
@@ -15,7 +15,7 @@ use Rattle.queued.proofs.cut_listed.Statement.{statement}
 use Rattle.queued.proofs.cut_listed.Tie as tie
 
 abbrev invariant-loop : tie.invariant-loop
-invariant-loop s q under n out₀ i₀ out i = (i ≤ n) × ((w : List Removal) (key : ℕ) (d : List Dot) → Queued s q w → Marked w key under → out₀ ≡ clockOf d
+invariant-loop s q under n out₀ i₀ out i = (i ≤ n) × ((w : List Removal) (key : ℕ) (d : List Dot) → Queued s q w → Marked w key under → out₀ ≡ clock_of d
     → Cutting w key d i out)
 
 abbrev decreases-loop : tie.decreases-loop

@@ -5,7 +5,7 @@ use Prim.Native.Nat.{ℕ, ◌≤◌, ◌-◌}
 use native.Mathlib.Omega.{arith}
 use Rattle.listlaws.proofs.Folding.{folding-start}
 use Rattle.removals.specs.declared.Removal.{Removal}
-use Rattle.runs.specs.Run.{runDots}
+use Rattle.runs.specs.Run.{run_dots}
 use Rattle.marks.specs.Marks.{picked}
 use Rattle.queued.specs.Queue.{Queued, Marked}
 use Rattle.queued.proofs.Cutting.{MarksCutting, marks-on, marks-not, marks-end}
@@ -15,7 +15,7 @@ use Rattle.queued.proofs.cut_listed_marks.Tie as tie
 
 abbrev invariant-loop : tie.invariant-loop
 invariant-loop s q run under n out₀ i₀ out i = (i ≤ n) × ((w : List Removal) (key : ℕ) → Queued s q w → Marked w key under
-    → MarksCutting w key (picked out₀ (runDots run)) i (picked out (runDots run)))
+    → MarksCutting w key (picked out₀ (run_dots run)) i (picked out (run_dots run)))
 
 abbrev decreases-loop : tie.decreases-loop
 decreases-loop s q run under n out₀ i₀ out i = n - i

@@ -5,8 +5,8 @@ use lib.ListN.{length, length-set}
 use mathlib.Core.Path.{◌≡◌}
 use native.Mathlib.Omega.{arith}
 use Rattle.removals.specs.declared.Removal.{Removal}
-use Rattle.limits.specs.Limits.{waitingLimit}
-use Rattle.mapimage.specs.MapImage.{keyNumber}
+use Rattle.limits.specs.Limits.{waiting_limit}
+use Rattle.mapimage.specs.MapImage.{key_number}
 use Rattle.queued.specs.Queue.{Keyed}
 use Rattle.queued.proofs.Marking.{Marking, mark-start, mark-pass, mark_on, mark-none, mark-over, mark-end, moved_on}
 use borrow.Author.Rules.{rules}
@@ -14,8 +14,8 @@ use Rattle.queued.proofs.listers.Statement.{statement}
 use Rattle.queued.proofs.listers.Tie as tie
 
 abbrev invariant-loop : tie.invariant-loop
-invariant-loop s at end key under₀ i₀ under i = ((at ≤ i) × ((i ≤ end) × (length under ≡ waitingLimit)))
-    × ((low : ℕ) (w : List Removal) → Keyed s at end low w → low ≤ keyNumber 0 key → Marking s end key w i under)
+invariant-loop s at end key under₀ i₀ under i = ((at ≤ i) × ((i ≤ end) × (length under ≡ waiting_limit)))
+    × ((low : ℕ) (w : List Removal) → Keyed s at end low w → low ≤ key_number 0 key → Marking s end key w i under)
 
 abbrev decreases-loop : tie.decreases-loop
 decreases-loop s at end key under₀ i₀ under i = end - i

@@ -3,9 +3,9 @@ use mathlib.Core.Path.{◌≡◌, sym}
 use Prim.Native.Nat.{◌*◌, ◌+◌, ◌≤◌, ◌-◌}
 use lib.ListN.{length, length-set}
 use native.Mathlib.Omega.{arith}
-use Rattle.limits.specs.Limits.{waitingLimit}
-use Rattle.map.specs.Model.{waitingIn}
-use Rattle.maprecords.specs.Related.{readMap}
+use Rattle.limits.specs.Limits.{waiting_limit}
+use Rattle.map.specs.Model.{waiting_in}
+use Rattle.maprecords.specs.Related.{read_map}
 use Rattle.queued.proofs.Taking.{Taking, waiting-fits, take-start, take_on, take-end}
 use borrow.Author.Rules.{rules}
 use Rattle.queued.proofs.queue_of.Statement.{statement}
@@ -13,8 +13,8 @@ use Rattle.queued.proofs.queue_of.Tie as tie
 
 abbrev invariant-loop : tie.invariant-loop
 invariant-loop s n end at₀ starts₀ i₀ at starts i =
-    ((at ≤ end) × ((end * 16 ≤ length s) × ((i ≤ n) × ((n ≤ waitingLimit) × (length starts ≡ waitingLimit + 1)))))
-    × Taking s end (waitingIn (readMap s).map) at i starts
+    ((at ≤ end) × ((end * 16 ≤ length s) × ((i ≤ n) × ((n ≤ waiting_limit) × (length starts ≡ waiting_limit + 1)))))
+    × Taking s end (waiting_in (read_map s).map) at i starts
 
 abbrev decreases-loop : tie.decreases-loop
 decreases-loop s n end at₀ starts₀ i₀ at starts i = n - i

@@ -1,17 +1,17 @@
 -- `ready_under` meets its contract: the put clock's own dot, then the map clock's counter, then every actor of the put clock.
 use mathlib.Core.Path.{◌∙◌}
 use borrow.Author.Tests.{eq-eqb, ne_eqb, le-leb, lt-leb}
-use Rattle.readiness.specs.Ready.{readyUnder}
+use Rattle.readiness.specs.Ready.{ready_under}
 use borrow.Author.Rules.{rules}
 use Rattle.readiness.proofs.ready_under.Statement.{statement}
 use Rattle.readiness.proofs.ready_under.Tie as tie
 
 returns : tie.Need-returns
-unfolding readyUnder
+unfolding ready_under
 returns c = rw (ne_eqb _ _ (rw c.before.before.get.ensures at c.if1.true))
 
 returns-2 : tie.Need-returns-2
-unfolding readyUnder
+unfolding ready_under
 returns-2 c =
     let a = c.before.before.before in
     rw (
@@ -20,7 +20,7 @@ returns-2 c =
     )
 
 returns-3 : tie.Need-returns-3
-unfolding readyUnder
+unfolding ready_under
 returns-3 c =
     let b = c.before in
     let a = b.before.before.before in

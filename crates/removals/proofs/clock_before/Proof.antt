@@ -6,8 +6,8 @@ use Prim.Native.Nat.{◌≤◌, ◌<◌, ◌-◌, ◌+◌}
 use lib.ListN.{length, drop, get_or}
 use borrow.Author.Tests.{le-ltb, ltb-true, ltb-false}
 use Rattle.listlaws.proofs.Rests.{drop-step, drop-end}
-use Rattle.clock.specs.Dots.{noDot, dotsOf}
-use Rattle.removals.specs.Waits.{clockBefore}
+use Rattle.clock.specs.Dots.{no_dot, dots_of}
+use Rattle.removals.specs.Waits.{clock_before}
 use Rattle.removals.proofs.ClockOrder.{before-actor, before-counter, before-rest, before-prefix}
 use borrow.Author.Rules.{rules}
 use native.Mathlib.Omega.{arith}
@@ -15,7 +15,7 @@ use Rattle.removals.proofs.clock_before.Statement.{statement}
 use Rattle.removals.proofs.clock_before.Tie as tie
 
 abbrev invariant-loop : tie.invariant-loop
-invariant-loop a b n m i₀ i = (i ≤ n) × (i ≤ m) × (clockBefore (dotsOf a) (dotsOf b) ≡ clockBefore (drop i (dotsOf a)) (drop i (dotsOf b)))
+invariant-loop a b n m i₀ i = (i ≤ n) × (i ≤ m) × (clock_before (dots_of a) (dots_of b) ≡ clock_before (drop i (dots_of a)) (drop i (dots_of b)))
 
 abbrev decreases-loop : tie.decreases-loop
 decreases-loop a b n m i₀ i = n - i
@@ -28,7 +28,7 @@ element-copy-out-y c = omega (arith, ltb-true)
 
 -- both clocks have a dot at the place
 level : (c : tie.After-y invariant-loop decreases-loop) → let s = c.before.before.before.before in
-    (s.loop.i < length (dotsOf s.before.before.before.args.t1)) × (s.loop.i < length (dotsOf s.before.before.before.args.t2))
+    (s.loop.i < length (dots_of s.before.before.before.args.t1)) × (s.loop.i < length (dots_of s.before.before.before.args.t2))
 level c =
     let s = c.before.before.before.before in
     let k : s.loop.i < s.before.size2.result = ltb-true _ _ c.before.before.if1.true in
@@ -36,15 +36,15 @@ level c =
 
 -- what is left begins with the two dots
 meet : (c : tie.After-y invariant-loop decreases-loop) → let s = c.before.before.before.before in let a = s.before.before.before.args in
-    clockBefore (dotsOf a.t1) (dotsOf a.t2)
-    ≡ clockBefore (get_or a.t1.dots s.loop.i noDot ∷ drop (s.loop.i + 1) (dotsOf a.t1))
-    (get_or a.t2.dots s.loop.i noDot ∷ drop (s.loop.i + 1) (dotsOf a.t2))
+    clock_before (dots_of a.t1) (dots_of a.t2)
+    ≡ clock_before (get_or a.t1.dots s.loop.i no_dot ∷ drop (s.loop.i + 1) (dots_of a.t1))
+    (get_or a.t2.dots s.loop.i no_dot ∷ drop (s.loop.i + 1) (dots_of a.t2))
 meet c =
     let s = c.before.before.before.before in
     let a = s.before.before.before.args in
     s.loop.invariant.2 ∙ rw (
-      drop-step a.t1.dots a.t1.len s.loop.i noDot (level c).0,
-      drop-step a.t2.dots a.t2.len s.loop.i noDot (level c).1,
+      drop-step a.t1.dots a.t1.len s.loop.i no_dot (level c).0,
+      drop-step a.t2.dots a.t2.len s.loop.i no_dot (level c).1,
     )
 
 returns : tie.Need-returns invariant-loop decreases-loop
@@ -71,7 +71,7 @@ loop-again c =
     )
 
 returns-3 : tie.Need-returns-3 invariant-loop decreases-loop
-unfolding clockBefore
+unfolding clock_before
 returns-3 c =
     let s = c.before in
     let a = s.before.before.before.args in
@@ -79,9 +79,9 @@ returns-3 c =
     ⊎_elim
     (λ w.
     let h : s.before.size2.result ≤ i = ltb-false i s.before.size2.result w.1.left in
-    rw (s.loop.invariant.2, drop-end (dotsOf a.t2) i (omega (arith, s.before.size2.ensures))) (le-ltb _ _ h))
-    (λ w. rw (s.loop.invariant.2, drop-end (dotsOf a.t1) i (omega (arith, w.left, s.before.before.size.ensures)), s.before.size2.ensures.0)
-    (before-prefix (dotsOf a.t2) i))
+    rw (s.loop.invariant.2, drop-end (dots_of a.t2) i (omega (arith, s.before.size2.ensures))) (le-ltb _ _ h))
+    (λ w. rw (s.loop.invariant.2, drop-end (dots_of a.t1) i (omega (arith, w.left, s.before.before.size.ensures)), s.before.size2.ensures.0)
+    (before-prefix (dots_of a.t2) i))
     c.loop-test.branch
 
 pub clock-before-spec : {M : Type 1} → statement M

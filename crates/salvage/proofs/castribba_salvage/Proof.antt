@@ -5,7 +5,7 @@ use Prim.Native.Nat.{ℕ, ◌≤◌, ◌<◌, ◌*◌}
 use native.Mathlib.Omega.{arith}
 use borrow.Author.Tests.{lt-ltb, le-ltb}
 use lib.ListN.{length}
-use Rattle.mapimage.specs.MapImage.{mapLongest}
+use Rattle.mapimage.specs.MapImage.{map_longest}
 use Rattle.answers.proofs.Answers.{number-first, number_short, number-done, refuses, writes}
 use Rattle.salvage.proofs.Selected.{image-is, image-long}
 use borrow.Author.Rules.{rules}
@@ -15,13 +15,13 @@ use Rattle.salvage.proofs.castribba_salvage.Tie as tie
 returns : tie.Need-returns
 returns c =
     let a = c.before.before.before.before.args in
-    let e = ap {B = ℕ} (λ b. cond b 2 0) (sym (lt-ltb mapLongest (length a.image.now) c.before.if1.true)) in
+    let e = ap {B = ℕ} (λ b. cond b 2 0) (sym (lt-ltb map_longest (length a.image.now) c.before.if1.true)) in
     rw c.word.ensures (refuses _ _ (number-first _ _ e (omega arith)) (omega arith))
 
 returns-2 : tie.Need-returns-2
 returns-2 c =
     let a = c.before.before.before.before.before.before.before.before.before.before.args in
-    let first = ap {B = ℕ} (λ b. cond b 2 0) (le-ltb mapLongest (length a.image.now) (omega (
+    let first = ap {B = ℕ} (λ b. cond b 2 0) (le-ltb map_longest (length a.image.now) (omega (
       arith,
       c.before.before.before.before.before.before.before.if1.false,
     ))) in
@@ -42,7 +42,7 @@ write-kept-requires c κs = (
 returns-3 : tie.Need-returns-3
 returns-3 c =
     let a = c.before.before.before.before.before.before.before.before.before.before.before.before.before.before.args in
-    let first = ap {B = ℕ} (λ b. cond b 2 0) (le-ltb mapLongest (length a.image.now) (omega (
+    let first = ap {B = ℕ} (λ b. cond b 2 0) (le-ltb map_longest (length a.image.now) (omega (
       arith,
       c.before.before.before.before.before.before.before.before.before.before.before.if1.false,
     ))) in

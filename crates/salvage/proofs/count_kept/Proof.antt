@@ -6,7 +6,7 @@ use native.Mathlib.Omega.{arith}
 use lib.ListN.{length, take}
 use lib.Seq.{take_all}
 use Rattle.listlaws.specs.Sift.{sift, those}
-use Rattle.culling.specs.Marks.{markedOf, leftItems}
+use Rattle.culling.specs.Marks.{marked_of, left_items}
 use Rattle.culling.proofs.Marked.{count-marked}
 use Rattle.mending.proofs.Fourths.{count-skip, count-more}
 use Rattle.salvage.proofs.Kept.{count_kept}
@@ -15,8 +15,8 @@ use Rattle.salvage.proofs.count_kept.Statement.{statement}
 use Rattle.salvage.proofs.count_kept.Tie as tie
 
 abbrev invariant-loop : tie.invariant-loop
-invariant-loop image marks n count₀ i₀ count i = (i ≤ n) × (count ≤ i) × (count ≡ length (those (λ r. true) (leftItems 8 (take i
-    (markedOf marks image)))))
+invariant-loop image marks n count₀ i₀ count i = (i ≤ n) × (count ≤ i) × (count ≡ length (those (λ r. true) (left_items 8 (take i
+    (marked_of marks image)))))
 
 abbrev decreases-loop : tie.decreases-loop
 decreases-loop image marks n count₀ i₀ count i = n - i
@@ -52,9 +52,9 @@ returns : tie.Need-returns invariant-loop decreases-loop
 returns c =
     let s = c.before in
     let a = c.before.before.before.before.args in
-    let xs = markedOf a.marks.now a.image.now in (
+    let xs = marked_of a.marks.now a.image.now in (
       s.loop.invariant.2
-          ∙ ap (λ l. length (those (λ r. true) (leftItems 8 l)))
+          ∙ ap (λ l. length (those (λ r. true) (left_items 8 l)))
           (take_all s.loop.i xs (omega (
             arith,
             c.loop-test.false,

@@ -3,17 +3,17 @@ use mathlib.Core.Path.{◌≡◌, refl, ap, sym, ◌∙◌}
 use Prim.Native.Nat.{ℕ, ◌+◌, ◌≤◌, ◌<◌, ◌-◌, ◌/◌}
 use native.Mathlib.Omega.{arith}
 use lib.ListN.{length}
-use Rattle.salvagerules.specs.Report.{toldFrom}
-use Rattle.culling.specs.Marks.{markedOf}
-use Rattle.salvage.specs.Selecting.{stepsIn}
-use Rattle.salvage.proofs.Telling.{toldAfter, told_here, told-skip, told-end}
+use Rattle.salvagerules.specs.Report.{told_from}
+use Rattle.culling.specs.Marks.{marked_of}
+use Rattle.salvage.specs.Selecting.{steps_in}
+use Rattle.salvage.proofs.Telling.{told_after, told_here, told-skip, told-end}
 use borrow.Author.Rules.{rules}
 use Rattle.salvage.proofs.count_told.Statement.{statement}
 use Rattle.salvage.proofs.count_told.Tie as tie
 
 abbrev invariant-loop : tie.invariant-loop
 invariant-loop image marks n count₀ i₀ count i = (i ≤ n) × (count ≤ i)
-    × (count + length (toldAfter marks image i) ≡ length (toldFrom 0 (stepsIn (markedOf marks image))))
+    × (count + length (told_after marks image i) ≡ length (told_from 0 (steps_in (marked_of marks image))))
 
 abbrev decreases-loop : tie.decreases-loop
 decreases-loop image marks n count₀ i₀ count i = n - i

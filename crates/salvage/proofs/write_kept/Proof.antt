@@ -5,9 +5,9 @@ use Prim.Native.Nat.{ℕ, ◌≤◌, ◌<◌, ◌-◌, ◌*◌, ◌+◌}
 use native.Mathlib.Omega.{arith}
 use lib.ListN.{length}
 use Rattle.records.proofs.Writing.{Writing, write-start, write-room, write-on, write-end, wrote_one, write_kept}
-use Rattle.opimage.specs.OpImage.{noRecord}
-use Rattle.culling.specs.Marks.{markedOf}
-use Rattle.salvage.specs.Selecting.{keptOf, selectFrom}
+use Rattle.opimage.specs.OpImage.{no_record}
+use Rattle.culling.specs.Marks.{marked_of}
+use Rattle.salvage.specs.Selecting.{kept_of, select_from}
 use Rattle.salvage.proofs.Selected.{length-select, select-step, select-end}
 use borrow.Author.Rules.{rules}
 use Rattle.salvage.proofs.write_kept.Statement.{statement}
@@ -15,7 +15,7 @@ use Rattle.salvage.proofs.write_kept.Tie as tie
 
 abbrev invariant-loop : tie.invariant-loop
 invariant-loop image marks n out₀ last₀ next₀ i₀ out last next i = (i ≤ n)
-    × Writing (selectFrom n noRecord (keptOf (markedOf marks image))) (selectFrom (n - i) last (keptOf (markedOf marks image))) 0 out₀ out next
+    × Writing (select_from n no_record (kept_of (marked_of marks image))) (select_from (n - i) last (kept_of (marked_of marks image))) 0 out₀ out next
 
 abbrev decreases-loop : tie.decreases-loop
 decreases-loop image marks n out₀ last₀ next₀ i₀ out last next i = n - i
@@ -23,13 +23,13 @@ decreases-loop image marks n out₀ last₀ next₀ i₀ out last next i = n - i
 loop-holds : tie.Need-loop-init invariant-loop decreases-loop
 loop-holds c =
     let a = c.before.before.before.args in
-    let k = keptOf (markedOf a.marks.now a.image.now) in
+    let k = kept_of (marked_of a.marks.now a.image.now) in
     let e : a.n - 0 ≡ a.n = omega arith in (
       omega arith,
-      rw e (write-start (selectFrom a.n noRecord k) 0 a.out.now (omega (
+      rw e (write-start (select_from a.n no_record k) 0 a.out.now (omega (
         arith,
         c.before.before.before.requires.2,
-        length-select a.n noRecord k,
+        length-select a.n no_record k,
       ))),
     )
 
@@ -40,7 +40,7 @@ write-record-requires : tie.Need-write-record-requires invariant-loop decreases-
 write-record-requires c κs =
     let s = c.before.before.before in
     let a = c.before.before.before.before.before.before.before.args in
-    let k = keptOf (markedOf a.marks.now a.image.now) in
+    let k = kept_of (marked_of a.marks.now a.image.now) in
     let e = select-step a.n s.loop.i s.loop.last c.before.next-record.result k c.before.before.loop-test.true
     c.before.next-record.ensures in
     omega (arith, (write-room _ _ _ (c.before.next-record.result ∷ []) _ s.loop.invariant.1 e).0)
@@ -49,7 +49,7 @@ loop-again : tie.Need-loop-preserved invariant-loop decreases-loop
 loop-again c =
     let s = c.before.before.before.before.before.before in
     let a = c.before.before.before.before.before.before.before.before.before.before.args in
-    let k = keptOf (markedOf a.marks.now a.image.now) in
+    let k = kept_of (marked_of a.marks.now a.image.now) in
     let e = select-step a.n s.loop.i s.loop.last c.before.before.before.before.next-record.result k
     c.before.before.before.before.before.loop-test.true c.before.before.before.before.next-record.ensures in (
       omega (arith, c.before.before.before.before.before.loop-test.true),
@@ -65,7 +65,7 @@ returns c =
     let s = c.before in
     let a = c.before.before.before.before.before.args in
     write-end _ _ _ s.loop.invariant.1
-    (select-end a.n s.loop.i s.loop.last (keptOf (markedOf a.marks.now a.image.now)) (omega (arith, c.loop-test.false)))
+    (select-end a.n s.loop.i s.loop.last (kept_of (marked_of a.marks.now a.image.now)) (omega (arith, c.loop-test.false)))
 
 pub write-kept-spec : {M : Type 1} → statement M
 write-kept-spec =

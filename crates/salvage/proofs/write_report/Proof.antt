@@ -3,17 +3,17 @@ use mathlib.Core.Path.{◌≡◌, refl, ap, sym, ◌∙◌}
 use Prim.Native.Nat.{ℕ, ◌+◌, ◌≤◌, ◌<◌, ◌-◌, ◌/◌}
 use native.Mathlib.Omega.{arith}
 use lib.ListN.{length}
-use Rattle.salvagerules.specs.Report.{toldFrom}
-use Rattle.culling.specs.Marks.{markedOf}
-use Rattle.salvage.specs.Selecting.{stepsIn}
-use Rattle.salvage.proofs.Telling.{Telling, tell-start, tell-kept, tell-room, tell-on, tell-end, toldAfter, told_here, told-skip, told-end}
+use Rattle.salvagerules.specs.Report.{told_from}
+use Rattle.culling.specs.Marks.{marked_of}
+use Rattle.salvage.specs.Selecting.{steps_in}
+use Rattle.salvage.proofs.Telling.{Telling, tell-start, tell-kept, tell-room, tell-on, tell-end, told_after, told_here, told-skip, told-end}
 use borrow.Author.Rules.{rules}
 use Rattle.salvage.proofs.write_report.Statement.{statement}
 use Rattle.salvage.proofs.write_report.Tie as tie
 
 abbrev invariant-loop : tie.invariant-loop
 invariant-loop image marks out₀ n next₀ i₀ out next i = (i ≤ n)
-    × Telling (toldFrom 0 (stepsIn (markedOf marks image))) (toldAfter marks image i) out₀ out next
+    × Telling (told_from 0 (steps_in (marked_of marks image))) (told_after marks image i) out₀ out next
 
 abbrev decreases-loop : tie.decreases-loop
 decreases-loop image marks out₀ n next₀ i₀ out next i = n - i

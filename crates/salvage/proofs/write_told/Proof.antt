@@ -2,18 +2,18 @@
 use mathlib.Core.Path.{refl}
 use mathlib.Core.List.{◌++◌, append-nil}
 use native.Mathlib.Omega.{arith}
-use Rattle.records.specs.Bytes.{numBytes}
+use Rattle.records.specs.Bytes.{num_bytes}
 use Rattle.records.proofs.Placing.{placed_on}
-use Rattle.salvagerules.specs.Report.{toldBytes}
+use Rattle.salvagerules.specs.Report.{told_bytes}
 use borrow.Author.Rules.{rules}
 use Rattle.salvage.proofs.write_told.Statement.{statement}
 use Rattle.salvage.proofs.write_told.Tie as tie
 
 returns : tie.Need-returns
-unfolding toldBytes
+unfolding told_bytes
 returns c =
     let a = c.before.before.before.before.before.before.before.before.before.args in
-    rw (append-nil (numBytes 2 a.place ++ numBytes 0 a.step))
+    rw (append-nil (num_bytes 2 a.place ++ num_bytes 0 a.step))
     (record {
       left = placed_on _ _ _ _ _ c.before.before.before.before.before.before.put32.ensures
           c.before.before.put8.ensures refl (omega arith);

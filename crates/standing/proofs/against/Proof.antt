@@ -5,11 +5,11 @@ use Prim.Native.Nat.{◌≤◌, ◌<◌, ◌-◌, ◌+◌}
 use lib.ListN.{length, get_or}
 use Rattle.clock.specs.declared.Order.{Order}
 use Rattle.clock.specs.declared.Order.TheVariants.{Equal, Greater, Less, Concurrent}
-use Rattle.clock.specs.Dots.{dotsOf, order_of}
+use Rattle.clock.specs.Dots.{dots_of, order_of}
 use Rattle.register.specs.declared.Value.{Value}
-use Rattle.limits.specs.Limits.{valueLimit}
-use Rattle.register.specs.Values.{noValue}
-use Rattle.runs.specs.Run.{runDots}
+use Rattle.limits.specs.Limits.{value_limit}
+use Rattle.register.specs.Values.{no_value}
+use Rattle.runs.specs.Run.{run_dots}
 use Rattle.comparing.specs.Registers.{RunOf, RunsOf}
 use Rattle.comparing.proofs.Cut.{run-dots}
 use Rattle.standing.proofs.Standings.{Passed, passed_start, passed_on, passed-off, passed-stops, passed-end}
@@ -20,8 +20,8 @@ use Rattle.standing.proofs.against.Tie as tie
 
 abbrev invariant-loop : tie.invariant-loop
 invariant-loop run s n before starts left₀ j₀ left j =
-    (j ≤ n) × (length left₀ ≡ valueLimit) ×
-    ((v : Value) (l : List Value) → runDots run ≡ dotsOf v.clock → RunsOf s starts n l → Passed v l left₀ j left)
+    (j ≤ n) × (length left₀ ≡ value_limit) ×
+    ((v : Value) (l : List Value) → run_dots run ≡ dots_of v.clock → RunsOf s starts n l → Passed v l left₀ j left)
 
 abbrev decreases-loop : tie.decreases-loop
 decreases-loop run s n before starts left₀ j₀ left j = n - j
@@ -32,8 +32,8 @@ loop-holds c = (search rules, search rules, λ v l e r. passed_start)
 -- the place of a value, and where its run lies
 found : (c : tie.In-loop invariant-loop decreases-loop) → let s = c.before in
     let a = s.before.before.before in
-    (s.loop.j < valueLimit) × RunOf a.args.s.now (get_or a.args.t3 s.loop.j 0) (get_or a.args.t3 (s.loop.j + 1) 0)
-    (get_or a.requires.1.0 s.loop.j noValue)
+    (s.loop.j < value_limit) × RunOf a.args.s.now (get_or a.args.t3 s.loop.j 0) (get_or a.args.t3 (s.loop.j + 1) 0)
+    (get_or a.requires.1.0 s.loop.j no_value)
 found c =
     let s = c.before in
     let r = s.before.before.before.requires.1.1 in
@@ -49,8 +49,8 @@ module _ (c : tie.After-compare-runs invariant-loop decreases-loop) (v : Value) 
   abbrev Met : Order → Type 0
   Met o = let s = c.before.before.before in
       let a = s.before.before.before.args in
-      runDots a.run.now ≡ dotsOf v.clock → RunsOf a.s.now a.t3 a.n l → c.compare-runs.result ≡ o
-      → order_of (dotsOf v.clock) (dotsOf (get_or l s.loop.j noValue).clock) ≡ o
+      run_dots a.run.now ≡ dots_of v.clock → RunsOf a.s.now a.t3 a.n l → c.compare-runs.result ≡ o
+      → order_of (dots_of v.clock) (dots_of (get_or l s.loop.j no_value).clock) ≡ o
 
   met : (o : Order) → Met o
   met o e r t =

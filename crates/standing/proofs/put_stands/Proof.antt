@@ -6,11 +6,11 @@ use Prim.Native.Nat.{◌≤◌, ◌<◌, ◌-◌, ◌+◌}
 use lib.ListN.{get_or}
 use Rattle.clock.specs.declared.Order.{Order}
 use Rattle.clock.specs.declared.Order.TheVariants.{Equal, Greater, Less, Concurrent}
-use Rattle.clock.specs.Dots.{dotsOf, order_of}
+use Rattle.clock.specs.Dots.{dots_of, order_of}
 use Rattle.register.specs.declared.Value.{Value}
-use Rattle.limits.specs.Limits.{valueLimit}
-use Rattle.register.specs.Values.{noValue}
-use Rattle.runs.specs.Run.{runDots}
+use Rattle.limits.specs.Limits.{value_limit}
+use Rattle.register.specs.Values.{no_value}
+use Rattle.runs.specs.Run.{run_dots}
 use Rattle.comparing.specs.Registers.{RunOf, RunsOf}
 use Rattle.comparing.proofs.Cut.{run-dots}
 use Rattle.standing.proofs.Registers.{Putting, putting-start, putting-on, putting-off, putting-end}
@@ -21,7 +21,7 @@ use Rattle.standing.proofs.put_stands.Tie as tie
 
 abbrev invariant-loop : tie.invariant-loop
 invariant-loop s n put starts remain₀ yields₀ i₀ remain yields i =
-    (i ≤ n) × ((l : List Value) (v : Value) → RunsOf s starts n l → runDots put ≡ dotsOf v.clock → Putting l v i remain yields)
+    (i ≤ n) × ((l : List Value) (v : Value) → RunsOf s starts n l → run_dots put ≡ dots_of v.clock → Putting l v i remain yields)
 
 abbrev decreases-loop : tie.decreases-loop
 decreases-loop s n put starts remain₀ yields₀ i₀ remain yields i = n - i
@@ -32,8 +32,8 @@ loop-holds c = (search rules, λ l v r e. putting-start)
 -- the place of a value, and where its run lies
 found : (c : tie.In-loop invariant-loop decreases-loop) → let s = c.before in
     let a = s.before.before.before in
-    (s.loop.i < valueLimit) × RunOf a.args.s.now (get_or a.args.t2 s.loop.i 0) (get_or a.args.t2 (s.loop.i + 1) 0)
-    (get_or a.requires.0.0 s.loop.i noValue)
+    (s.loop.i < value_limit) × RunOf a.args.s.now (get_or a.args.t2 s.loop.i 0) (get_or a.args.t2 (s.loop.i + 1) 0)
+    (get_or a.requires.0.0 s.loop.i no_value)
 found c =
     let s = c.before in
     let r = s.before.before.before.requires.0.1 in
@@ -47,8 +47,8 @@ compare-runs-requires c κs =
 -- how the value that the walk has come to stands to the put
 met : (c : tie.After-compare-runs invariant-loop decreases-loop) (l : List Value) (v : Value) (o : Order) → let s = c.before.before.before in
     let a = s.before.before.before.args in
-    RunsOf a.s.now a.t2 a.n l → runDots a.put.now ≡ dotsOf v.clock → c.compare-runs.result ≡ o → order_of
-    (dotsOf (get_or l s.loop.i noValue).clock) (dotsOf v.clock) ≡ o
+    RunsOf a.s.now a.t2 a.n l → run_dots a.put.now ≡ dots_of v.clock → c.compare-runs.result ≡ o → order_of
+    (dots_of (get_or l s.loop.i no_value).clock) (dots_of v.clock) ≡ o
 met c l v o r e t = let s = c.before.before.before in
     rw (← e, ← run-dots (r.each s.loop.i (omega arith))) (sym c.compare-runs.ensures) ∙ t
 

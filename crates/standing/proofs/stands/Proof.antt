@@ -3,8 +3,8 @@ use mathlib.Core.List.{List}
 use Prim.Native.Nat.{◌≤◌, ◌<◌, ◌-◌, ◌+◌}
 use lib.ListN.{get_or}
 use Rattle.register.specs.declared.Value.{Value}
-use Rattle.limits.specs.Limits.{valueLimit}
-use Rattle.register.specs.Values.{noValue}
+use Rattle.limits.specs.Limits.{value_limit}
+use Rattle.register.specs.Values.{no_value}
 use Rattle.comparing.specs.Registers.{RunOf, RunsOf}
 use Rattle.comparing.proofs.Cut.{run-dots}
 use Rattle.standing.proofs.Registers.{Merging, merging_start, merging-on, merging-off, merging-end}
@@ -26,8 +26,8 @@ loop-holds c = (search rules, λ l k p q. merging_start q.few)
 -- the place of a value, and where its run lies
 found : (c : tie.In-loop invariant-loop decreases-loop) → let s = c.before in
     let a = s.before.before.before in
-    (s.loop.i < valueLimit) × RunOf a.args.s.now (get_or a.args.t2 s.loop.i 0) (get_or a.args.t2 (s.loop.i + 1) 0)
-    (get_or a.requires.0.0 s.loop.i noValue)
+    (s.loop.i < value_limit) × RunOf a.args.s.now (get_or a.args.t2 s.loop.i 0) (get_or a.args.t2 (s.loop.i + 1) 0)
+    (get_or a.requires.0.0 s.loop.i no_value)
 found c =
     let s = c.before in
     let r = s.before.before.before.requires.0.1 in
@@ -43,7 +43,7 @@ loop-again c =
     let g = c.before.before in
     let s = g.before.before.before in (
       omega arith,
-      λ l k p q. let f = g.against.ensures (get_or l s.loop.i noValue) k (run-dots (p.each s.loop.i (omega arith))) q in
+      λ l k p q. let f = g.against.ensures (get_or l s.loop.i no_value) k (run-dots (p.each s.loop.i (omega arith))) q in
           merging-off (s.loop.invariant.1 l k p q) (omega (arith, p.count)) f.0 f.1 c.if1.true (found g.before.before).0,
     )
 
@@ -52,7 +52,7 @@ loop-again-2 c =
     let g = c.before.before in
     let s = g.before.before.before in (
       omega arith,
-      λ l k p q. let f = g.against.ensures (get_or l s.loop.i noValue) k (run-dots (p.each s.loop.i (omega arith))) q in
+      λ l k p q. let f = g.against.ensures (get_or l s.loop.i no_value) k (run-dots (p.each s.loop.i (omega arith))) q in
           merging-on (s.loop.invariant.1 l k p q) (omega (arith, p.count)) f.0 f.1 c.if1.false,
     )
 

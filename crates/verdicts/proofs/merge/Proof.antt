@@ -1,7 +1,7 @@
 -- `merge` meets its contract: a refused image's number, or what both say.
 use mathlib.Core.Path.{ap, sym, ◌∙◌}
 use Rattle.asking.specs.declared.CvRDTValidation.TheVariants.{Once}
-use Rattle.asking.specs.Asking.{spentNumber}
+use Rattle.asking.specs.Asking.{spent_number}
 use Rattle.answers.proofs.Answers.{number-first, number-second, both-pass, one-fails, other-fails}
 use Rattle.verdicts.proofs.Carrying.{number_passed, nothing-found, found}
 use borrow.Author.Rules.{rules}
@@ -36,7 +36,7 @@ returns-3 c =
     let m = sym mm.0 ∙ c.before.before.before.before.before.if1.false in
     let o = sym oo.0 ∙ c.before.before.if2.false in
     let v = c.before.spent-between.ensures in
-    let p = c.spent-number.ensures ∙ ap spentNumber v ∙ number_passed _ _ _ m o in
+    let p = c.spent-number.ensures ∙ ap spent_number v ∙ number_passed _ _ _ m o in
     let q = v ∙ found _ _ _ Once (both-pass _ _ m o) in
     λ i. record { number = p i; spent = q i }
 

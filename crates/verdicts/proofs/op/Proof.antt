@@ -1,9 +1,9 @@
 -- `op` meets its contract: a refused image's number, or what both say.
 use mathlib.Core.Path.{ap, sym, ◌∙◌}
-use Rattle.maprecords.specs.Related.{readMap}
+use Rattle.maprecords.specs.Related.{read_map}
 use Rattle.opimage.specs.declared.ReadOp.{ReadOp}
 use Rattle.asking.specs.declared.CmRDTValidation.TheVariants.{Fits}
-use Rattle.asking.specs.Asking.{validateOp, orderNumber}
+use Rattle.asking.specs.Asking.{validate_op, order_number}
 use Rattle.answers.proofs.Answers.{number-first, number-second, both-pass, one-fails, other-fails}
 use Rattle.verdicts.proofs.Carrying.{number_passed, nothing-found, found}
 use borrow.Author.Rules.{rules}
@@ -34,9 +34,9 @@ returns-3 c =
     let oo = c.before.before.before.before.read-op.ensures in
     let m = sym mm.0 ∙ c.before.before.before.before.before.if1.false in
     let o = sym (ap (λ (r : ReadOp). r.number) oo) ∙ c.before.before.if2.false in
-    let v = c.before.order-of.ensures ∙ ap (λ (o : ReadOp). validateOp
-    (readMap c.before.before.before.before.before.before.before.before.before.before.args.map.now).map o.op) oo in
-    let p = c.order-number.ensures ∙ ap orderNumber v ∙ number_passed _ _ _ m o in
+    let v = c.before.order-of.ensures ∙ ap (λ (o : ReadOp). validate_op
+    (read_map c.before.before.before.before.before.before.before.before.before.before.args.map.now).map o.op) oo in
+    let p = c.order-number.ensures ∙ ap order_number v ∙ number_passed _ _ _ m o in
     let q = v ∙ found _ _ _ Fits (both-pass _ _ m o) in
     λ i. record { number = p i; order = q i }
 

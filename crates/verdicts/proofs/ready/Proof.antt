@@ -2,9 +2,9 @@
 use mathlib.Core.Path.{ap, ap₂, sym, ◌∙◌}
 use Rattle.opimage.specs.declared.ReadOp.{ReadOp}
 use Rattle.clock.specs.declared.Clock.{Clock}
-use Rattle.clock.specs.Dots.{dotsOf}
+use Rattle.clock.specs.Dots.{dots_of}
 use Rattle.readiness.specs.declared.Readiness.TheVariants.{Next}
-use Rattle.readiness.specs.Ready.{readyAt, ready, readyNumber}
+use Rattle.readiness.specs.Ready.{ready_at, ready, ready_number}
 use Rattle.answers.proofs.Answers.{number-first, number-second, both-pass, one-fails, other-fails}
 use Rattle.verdicts.proofs.Carrying.{number_passed, nothing-found, found}
 use borrow.Author.Rules.{rules}
@@ -34,8 +34,8 @@ returns-3 c =
     let m = sym mm.0 ∙ c.before.before.before.before.before.if1.false in
     let o = sym (ap (λ (r : ReadOp). r.number) oo) ∙ c.before.before.if2.false in
     let k = (mm.1 c.before.before.before.before.before.if1.false).clock in
-    let v = c.before.ready.ensures ∙ ap₂ (λ (l : Clock) (o : ReadOp). readyAt (dotsOf l) o.op) k oo in
-    let p = c.ready-number.ensures ∙ ap readyNumber v ∙ number_passed _ _ _ m o in
+    let v = c.before.ready.ensures ∙ ap₂ (λ (l : Clock) (o : ReadOp). ready_at (dots_of l) o.op) k oo in
+    let p = c.ready-number.ensures ∙ ap ready_number v ∙ number_passed _ _ _ m o in
     let q = v ∙ found _ _ _ Next (both-pass _ _ m o) in
     λ i. record { number = p i; ready = q i }
 

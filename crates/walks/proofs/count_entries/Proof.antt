@@ -9,8 +9,8 @@ use Rattle.listlaws.proofs.Orders.{apart}
 use Rattle.scan.proofs.Eachs.{decide, both, both_left, both_right}
 use native.Mathlib.Omega.{arith}
 use lib.ListN.{length}
-use Rattle.clock.specs.Dots.{dotsOf}
-use Rattle.limits.specs.Limits.{entryLimit}
+use Rattle.clock.specs.Dots.{dots_of}
+use Rattle.limits.specs.Limits.{entry_limit}
 use Rattle.walks.proofs.Loops.{Entering, enter-start, enter-fails, enter-on, enter-stops}
 use Rattle.walks.proofs.count_entries.Statement.{statement}
 use Rattle.walks.proofs.count_entries.Tie as tie
@@ -19,20 +19,20 @@ use Rattle.walks.proofs.count_entries.Tie as tie
 over : (own third n m : ℕ) → (ltb own third && ltb n m) ≡ false → n < m → third ≤ own
 over own third n m f h = decide (ltb own third) (λ t. apart (sym (both (ltb own third) (ltb n m) t (lt-ltb n m h)) ∙ f)) (λ u. ltb-false own third u)
 
-going : (own third n : ℕ) → (ltb own third && ltb n entryLimit) ≡ true → (own < third) × (n < entryLimit)
+going : (own third n : ℕ) → (ltb own third && ltb n entry_limit) ≡ true → (own < third) × (n < entry_limit)
 going own third n t = (
-  ltb-true own third (both_left (ltb own third) (ltb n entryLimit) t),
-  ltb-true n entryLimit (both_right (ltb own third) (ltb n entryLimit) t),
+  ltb-true own third (both_left (ltb own third) (ltb n entry_limit) t),
+  ltb-true n entry_limit (both_right (ltb own third) (ltb n entry_limit) t),
 )
 
 abbrev invariant-loop : tie.invariant-loop
 invariant-loop s clock third fourth fifth own₀ values₀ dots₀ low₀ n₀ own values dots low n =
-    ((own ≤ third) × ((values ≤ fourth) × ((dots ≤ fifth) × (n ≤ entryLimit))))
+    ((own ≤ third) × ((values ≤ fourth) × ((dots ≤ fifth) × (n ≤ entry_limit))))
     × (((third * 16 ≤ length s) × ((fourth * 16 ≤ length s) × (fifth * 16 ≤ length s)))
-    × Entering (dotsOf clock) s own₀ third fourth fifth own values dots n low)
+    × Entering (dots_of clock) s own₀ third fourth fifth own values dots n low)
 
 abbrev decreases-loop : tie.decreases-loop
-decreases-loop s clock third fourth fifth own₀ values₀ dots₀ low₀ n₀ own values dots low n = entryLimit - n
+decreases-loop s clock third fourth fifth own₀ values₀ dots₀ low₀ n₀ own values dots low n = entry_limit - n
 
 loop-holds : tie.Need-loop-init invariant-loop decreases-loop
 loop-holds c = ((search rules), (search rules, enter-start _ _ _ _ _ _))

@@ -6,16 +6,16 @@ use borrow.Author.Tests.{not-true, not-false}
 use native.Mathlib.Omega.{arith}
 use lib.ListN.{length, drop, length-take}
 use borrow.Author.Tests.{eq-eqb, ne_eqb}
-use Rattle.limits.specs.Limits.{waitingLimit}
+use Rattle.limits.specs.Limits.{waiting_limit}
 use Rattle.walks.proofs.Loops.{clock-between, Queueing, queue-start, queue-fails, queue-on, queue-stops, going, gone}
 use Rattle.walks.proofs.count_waiting.Statement.{statement}
 use Rattle.walks.proofs.count_waiting.Tie as tie
 
 abbrev invariant-loop : tie.invariant-loop
-invariant-loop s sixth at₀ last₀ n₀ at last n = ((at ≤ sixth) × (n ≤ waitingLimit)) × ((sixth * 16 ≤ length s) × Queueing s at₀ sixth at n last)
+invariant-loop s sixth at₀ last₀ n₀ at last n = ((at ≤ sixth) × (n ≤ waiting_limit)) × ((sixth * 16 ≤ length s) × Queueing s at₀ sixth at n last)
 
 abbrev decreases-loop : tie.decreases-loop
-decreases-loop s sixth at₀ last₀ n₀ at last n = waitingLimit - n
+decreases-loop s sixth at₀ last₀ n₀ at last n = waiting_limit - n
 
 loop-holds : tie.Need-loop-init invariant-loop decreases-loop
 loop-holds c = (search rules, (search rules, queue-start _ _ _ c.new.ensures))
@@ -30,7 +30,7 @@ clock-of-requires c κs =
 returns : tie.Need-returns invariant-loop decreases-loop
 returns c =
     let s = c.before.before.before.before.before.before in
-    let g = going s.loop.at s.before.before.before.args.l.sixth s.loop.n waitingLimit
+    let g = going s.loop.at s.before.before.before.args.l.sixth s.loop.n waiting_limit
     c.before.before.before.before.before.loop-test.true in
     let r = c.before.before.before.before.run-end.ensures in
     queue-fails _ _ _ s.loop.invariant.1.1 _ _ _ r.0 r.1.0 (c.before.before.clock-of.ensures
@@ -39,14 +39,14 @@ returns c =
 loop-less : tie.Need-loop-smaller invariant-loop decreases-loop
 loop-less c =
     let s = c.before.before.before.before.before.before in
-    let g = going s.loop.at s.before.before.before.args.l.sixth s.loop.n waitingLimit
+    let g = going s.loop.at s.before.before.before.args.l.sixth s.loop.n waiting_limit
     c.before.before.before.before.before.loop-test.true in
     omega (arith, g.1)
 
 loop-again : tie.Need-loop-preserved invariant-loop decreases-loop
 loop-again c =
     let s = c.before.before.before.before.before.before in
-    let g = going s.loop.at s.before.before.before.args.l.sixth s.loop.n waitingLimit
+    let g = going s.loop.at s.before.before.before.args.l.sixth s.loop.n waiting_limit
     c.before.before.before.before.before.loop-test.true in
     let r = c.before.before.before.before.run-end.ensures in (
       (r.1.0, omega (arith, g.1)),

@@ -5,7 +5,7 @@ use borrow.Author.Rules.{rules}
 use borrow.Author.Tests.{not-true, not-false}
 use native.Mathlib.Omega.{arith}
 use lib.ListN.{length, get_or}
-use Rattle.limits.specs.Limits.{waitingLimit}
+use Rattle.limits.specs.Limits.{waiting_limit}
 use Rattle.walks.proofs.Loops.{Listing, keys-start, keys-fail, keys-lack, keys_on, keys-stop}
 use Rattle.walks.proofs.Keys.{key-index, count_room}
 use lib.ListN.{length-set}
@@ -13,7 +13,7 @@ use Rattle.walks.proofs.keys_good.Statement.{statement}
 use Rattle.walks.proofs.keys_good.Tie as tie
 
 abbrev invariant-loop : tie.invariant-loop
-invariant-loop s at end n counts₀ low₀ i₀ counts low i = ((at ≤ i) × ((i ≤ end) × (length counts ≡ waitingLimit))) × Listing n s at end i low counts
+invariant-loop s at end n counts₀ low₀ i₀ counts low i = ((at ≤ i) × ((i ≤ end) × (length counts ≡ waiting_limit))) × Listing n s at end i low counts
 
 abbrev decreases-loop : tie.decreases-loop
 decreases-loop s at end n counts₀ low₀ i₀ counts low i = end - i

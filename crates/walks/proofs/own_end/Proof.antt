@@ -3,14 +3,14 @@ use Prim.Native.Nat.{◌+◌, ◌≤◌, ◌-◌}
 use borrow.Author.Rules.{rules}
 use borrow.Author.Tests.{not-true, not-false}
 use native.Mathlib.Omega.{arith}
-use Rattle.clock.specs.Dots.{dotsOf}
-use Rattle.walks.specs.Walk.{ownTest}
+use Rattle.clock.specs.Dots.{dots_of}
+use Rattle.walks.specs.Walk.{own_test}
 use Rattle.walks.proofs.Loops.{Running, run-start, run_on, run-fails, run-stops}
 use Rattle.walks.proofs.own_end.Statement.{statement}
 use Rattle.walks.proofs.own_end.Tie as tie
 
 abbrev invariant-loop : tie.invariant-loop
-invariant-loop s at end key clock top low₀ i₀ low i = (i ≤ top) × ((at + top ≤ end) × Running (ownTest (dotsOf clock) key) s at end i low)
+invariant-loop s at end key clock top low₀ i₀ low i = (i ≤ top) × ((at + top ≤ end) × Running (own_test (dots_of clock) key) s at end i low)
 
 abbrev decreases-loop : tie.decreases-loop
 decreases-loop s at end key clock top low₀ i₀ low i = top - i

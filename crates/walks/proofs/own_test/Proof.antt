@@ -1,11 +1,11 @@
 -- `own_test` meets its contract.
 use borrow.Author.Rules.{rules}
-use Rattle.walks.specs.Walk.{ownTest}
+use Rattle.walks.specs.Walk.{own_test}
 use Rattle.walks.proofs.own_test.Statement.{statement}
 use Rattle.walks.proofs.own_test.Tie as tie
 
 returns : tie.Need-returns
-unfolding ownTest
+unfolding own_test
 returns c = cc
 
 pub own-test-spec : {M : Type 1} → statement M

@@ -3,13 +3,13 @@ use Prim.Native.Nat.{◌+◌, ◌≤◌, ◌-◌}
 use borrow.Author.Rules.{rules}
 use borrow.Author.Tests.{not-true, not-false}
 use native.Mathlib.Omega.{arith}
-use Rattle.walks.specs.Walk.{dotTest}
+use Rattle.walks.specs.Walk.{dot_test}
 use Rattle.walks.proofs.Loops.{Running, run-start, run_on, run-fails, run-stops}
 use Rattle.walks.proofs.run_end.Statement.{statement}
 use Rattle.walks.proofs.run_end.Tie as tie
 
 abbrev invariant-loop : tie.invariant-loop
-invariant-loop s at end kind index key top low₀ i₀ low i = (i ≤ top) × ((at + top ≤ end) × Running (dotTest kind index key) s at end i low)
+invariant-loop s at end kind index key top low₀ i₀ low i = (i ≤ top) × ((at + top ≤ end) × Running (dot_test kind index key) s at end i low)
 
 abbrev decreases-loop : tie.decreases-loop
 decreases-loop s at end kind index key top low₀ i₀ low i = top - i

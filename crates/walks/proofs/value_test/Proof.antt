@@ -1,11 +1,11 @@
 -- `value_test` meets its contract.
 use borrow.Author.Rules.{rules}
-use Rattle.walks.specs.Walk.{valueTest}
+use Rattle.walks.specs.Walk.{value_test}
 use Rattle.walks.proofs.value_test.Statement.{statement}
 use Rattle.walks.proofs.value_test.Tie as tie
 
 returns : tie.Need-returns
-unfolding valueTest
+unfolding value_test
 returns c = search rules
 
 pub value-test-spec : {M : Type 1} → statement M

@@ -2,19 +2,19 @@
 use mathlib.Core.Path.{◌∙◌}
 use borrow.Author.Tests.{le-leb, lt-leb, lt-ltb, le-ltb}
 use Rattle.clock.proofs.Packs.{over-means, within-means, within-clock}
-use Rattle.asking.specs.Contexts.{addContext}
+use Rattle.asking.specs.Contexts.{add_context}
 use borrow.Author.Rules.{rules}
 use Rattle.asking.proofs.ReadCtx.derive_add_ctx.Statement.{statement}
 use Rattle.asking.proofs.ReadCtx.derive_add_ctx.Tie as tie
 
 returns : tie.Need-returns
-unfolding addContext
+unfolding add_context
 returns c =
     let g = c.before.before in
     c.refused.ensures ∙ rw (le-leb _ _ (rw g.get.ensures at c.before.if1.true))
 
 returns-2 : tie.Need-returns-2
-unfolding addContext
+unfolding add_context
 returns-2 c =
     let a = c.before.before in
     let g = a.before.before in
@@ -22,7 +22,7 @@ returns-2 c =
     c.refused2.ensures ∙ rw (lt-leb _ _ (rw g.get.ensures at a.before.if1.false), lt-ltb _ _ e)
 
 returns-3 : tie.Need-returns-3
-unfolding addContext
+unfolding add_context
 returns-3 c =
     let i = c.before in
     let a = i.before in

@@ -5,7 +5,7 @@ use Rattle.opimage.specs.declared.ReadOp.{ReadOp}
 use Rattle.map.specs.Judging.{judged}
 use Rattle.map.specs.Applying.{apply}
 use Rattle.map.proofs.Kept.{valid-apply}
-use Rattle.promises.specs.Deleted.{entryDots}
+use Rattle.promises.specs.Deleted.{entry_dots}
 use Rattle.promises.proofs.Ways.{first-uncounted, second-uncounted, nothing-counted, map-counted}
 use Rattle.promises.proofs.Deletes.{update-deletes}
 use Rattle.byvalue.proofs.Ways.{read-within, read-op-within, op-valid, judged-out, removal-fewer, removal-left}
@@ -32,7 +32,7 @@ apply-requires c κs =
     (read-within _ o.before.before.before.read-map.ensures, read-op-within _ o.read-op.ensures)
 
 fewer-requires : tie.Need-fewer-requires
-unfolding entryDots
+unfolding entry_dots
 fewer-requires c κs =
     let o = c.before.before.before.before.before.before in
     let w = read-within _ o.before.before.before.read-map.ensures in (
@@ -41,7 +41,7 @@ fewer-requires c κs =
     )
 
 returns-4 : tie.Need-returns-4
-unfolding entryDots
+unfolding entry_dots
 returns-4 c =
     let j = c.before in
     let o = j.before.before.before.before.before.before in

@@ -1,7 +1,7 @@
 -- `fewer` meets its contract: each way out is a law of the counting calls.
 use mathlib.Core.Path.{refl}
 use Rattle.answers.proofs.Lengths.{length-image}
-use Rattle.promises.specs.Deleted.{entryDots}
+use Rattle.promises.specs.Deleted.{entry_dots}
 use Rattle.promises.proofs.Ways.{own-uncounted, short-uncounted, own-counted}
 use borrow.Author.Rules.{rules}
 use native.Mathlib.Omega.{arith}
@@ -17,13 +17,13 @@ returns-2 c =
     λ n f. short-uncounted refl refl c.before.before.before.if1.false (omega arith)
 
 sub-result : tie.Need-overflow-sub-result
-unfolding entryDots
+unfolding entry_dots
 sub-result c =
     let i = c.before.before.before.before.before in
     omega (arith, c.count-dots2.ensures.0, c.before.count-dots.ensures.0, i.before.before.requires.1 i.if1.false)
 
 returns-3 : tie.Need-returns-3
-unfolding entryDots
+unfolding entry_dots
 returns-3 c =
     let l = c.before.before.before in
     let i = l.before.before in

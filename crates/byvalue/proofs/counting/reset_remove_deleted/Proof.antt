@@ -1,12 +1,12 @@
 -- `reset_remove_deleted` meets its contract: each way out is a law of `Ways`.
 use mathlib.Core.Path.{ap, ap₂, sym, ◌∙◌}
 use Rattle.maprecords.specs.declared.ReadMap.{ReadMap}
-use Rattle.clock.specs.Dots.{dotsOf}
+use Rattle.clock.specs.Dots.{dots_of}
 use Rattle.clockimage.specs.declared.ReadClock.{ReadClock}
 use Rattle.map.specs.Judging.{judged}
 use Rattle.map.specs.Resetting.{reset}
 use Rattle.map.proofs.Kept.{valid-reset}
-use Rattle.promises.specs.Deleted.{entryDots}
+use Rattle.promises.specs.Deleted.{entry_dots}
 use Rattle.promises.proofs.Ways.{first-uncounted, second-uncounted, map-counted}
 use Rattle.byvalue.proofs.Ways.{read-within, judged-out, reset-fewer, reset-left}
 use borrow.Author.Rules.{rules}
@@ -26,20 +26,20 @@ reset-remove-requires : tie.Need-reset-remove-requires
 reset-remove-requires c κs = read-within _ c.before.before.before.before.before.before.read-map.ensures
 
 fewer-requires : tie.Need-fewer-requires
-unfolding entryDots
+unfolding entry_dots
 fewer-requires c κs =
     let w = read-within _ c.before.before.before.before.before.before.before.read-map.ensures in
     (judged-out (valid-reset w.valid _) c.reset-remove.ensures, reset-fewer _ _ c.reset-remove.ensures)
 
 returns-3 : tie.Need-returns-3
-unfolding entryDots
+unfolding entry_dots
 returns-3 c =
     let j = c.before in
     let k = j.before.before.before.before in
     let m = k.before.before.before.read-map.ensures in
     map-counted _ _ (sym (ap (λ (r : ReadMap). r.number) m) ∙ k.before.if1.false)
     (sym (ap (λ (r : ReadClock). r.number) k.read-clock.ensures) ∙ j.before.before.if2.false)
-    (j.reset-remove.ensures ∙ ap₂ (λ (m : ReadMap) (k : ReadClock). judged (reset m.map (dotsOf k.clock))) m k.read-clock.ensures)
+    (j.reset-remove.ensures ∙ ap₂ (λ (m : ReadMap) (k : ReadClock). judged (reset m.map (dots_of k.clock))) m k.read-clock.ensures)
     (c.fewer.ensures _ (reset-left _ _ m k.read-clock.ensures j.reset-remove.ensures))
 
 pub reset-remove-deleted-spec : {M : Type 1} → statement M

@@ -3,11 +3,11 @@ use mathlib.Core.Path.{◌≡◌, ap, sym, ◌∙◌}
 use mathlib.Core.List.{map}
 use Prim.Native.Nat.{◌≤◌, ◌<◌, ◌-◌}
 use lib.ListN.{length}
-use Rattle.limits.specs.Limits.{entryLimit}
-use Rattle.entries.specs.Model.{entriesAs}
+use Rattle.limits.specs.Limits.{entry_limit}
+use Rattle.entries.specs.Model.{entries_as}
 use Rattle.entries.proofs.Packs.{entry-pushed}
-use Rattle.maprecords.specs.Reading.{numbersBelow}
-use Rattle.memory.specs.Memory.{entryHeldAt, entries_at}
+use Rattle.maprecords.specs.Reading.{numbers_below}
+use Rattle.memory.specs.Memory.{entry_held_at, entries_at}
 use Rattle.memory.proofs.Views.{length-of}
 use Rattle.delivery.proofs.Belows.{made_none, made-next}
 use Rattle.byvalue.proofs.Rooms.{entry-room}
@@ -17,36 +17,36 @@ use Rattle.byvalue.proofs.reading.entries_of.Statement.{statement}
 use Rattle.byvalue.proofs.reading.entries_of.Tie as tie
 
 abbrev invariant-loop : tie.invariant-loop
-invariant-loop mem n entries₀ j₀ entries j = (j ≤ n) × (entries ≡ entriesAs (map (entryHeldAt mem) (numbersBelow j)))
+invariant-loop mem n entries₀ j₀ entries j = (j ≤ n) × (entries ≡ entries_as (map (entry_held_at mem) (numbers_below j)))
 
 abbrev decreases-loop : tie.decreases-loop
 decreases-loop mem n entries₀ j₀ entries j = n - j
 
 loop-holds : tie.Need-loop-init invariant-loop decreases-loop
-loop-holds c = (omega arith, c.new.ensures ∙ ap entriesAs (sym (made_none _)))
+loop-holds c = (omega arith, c.new.ensures ∙ ap entries_as (sym (made_none _)))
 
 -- there is room for the entry
-few : (c : tie.After-entry-at invariant-loop decreases-loop) → let s = c.before.before in length (map (entryHeldAt s.before.before.before.args.mem.now)
-    (numbersBelow s.loop.j)) < entryLimit
+few : (c : tie.After-entry-at invariant-loop decreases-loop) → let s = c.before.before in length (map (entry_held_at s.before.before.before.args.mem.now)
+    (numbers_below s.loop.j)) < entry_limit
 few c =
     let s = c.before.before in
-    omega (arith, length-of (entryHeldAt s.before.before.before.args.mem.now) s.loop.j, s.before.before.count.ensures)
+    omega (arith, length-of (entry_held_at s.before.before.before.args.mem.now) s.loop.j, s.before.before.count.ensures)
 
-room : (c : tie.After-entry-at invariant-loop decreases-loop) → let s = c.before.before in (s.loop.entries.len < entryLimit)
-    × (length s.loop.entries.items ≡ entryLimit)
+room : (c : tie.After-entry-at invariant-loop decreases-loop) → let s = c.before.before in (s.loop.entries.len < entry_limit)
+    × (length s.loop.entries.items ≡ entry_limit)
 room c = entry-room _ c.before.before.loop.invariant.1 (few c)
 
 loop-again : tie.Need-loop-preserved invariant-loop decreases-loop
 loop-again c =
     let s = c.before.before in
-    (omega arith, made-next _ entriesAs s.loop.j c.entry_at.ensures (entry-pushed _ _ s.loop.invariant.1 (few c)))
+    (omega arith, made-next _ entries_as s.loop.j c.entry_at.ensures (entry-pushed _ _ s.loop.invariant.1 (few c)))
 
 returns : tie.Need-returns invariant-loop decreases-loop
 unfolding entries_at
 returns c =
     let s = c.before in
     let e = s.before.before.count.ensures in
-    s.loop.invariant.1 ∙ ap (λ m. entriesAs (map (entryHeldAt s.before.before.before.args.mem.now) (numbersBelow m))) (omega arith)
+    s.loop.invariant.1 ∙ ap (λ m. entries_as (map (entry_held_at s.before.before.before.args.mem.now) (numbers_below m))) (omega arith)
 
 pub entries-of-spec : {M : Type 1} → statement M
 entries-of-spec =

@@ -1,7 +1,7 @@
 -- `read_map` meets its contract: the reader takes the whole image, and what it then holds is taken out of it.
 use Prim.Native.Nat.{ℕ}
 use lib.ListN.{length-replicate}
-use Rattle.memory.specs.Memory.{readerRoom}
+use Rattle.memory.specs.Memory.{reader_room}
 use Rattle.mailbox.specs.Held.{Came}
 use Rattle.mailbox.proofs.Begins.{zeros-small}
 use Rattle.byvalue.proofs.Taken.{came-whole, refused-read, map_read}
@@ -12,7 +12,7 @@ use Rattle.byvalue.proofs.reading.read_map.Tie as tie
 came : (c : tie.After-take) → let a = c.before.before.before.before.before.args in Came a.bytes.now c.take.new.0
 came c =
     let m = c.before.before.before in
-    came-whole _ (λ i. (m.before.shared-slice-known.given i).fits) (length-replicate {A = ℕ} readerRoom 0) (zeros-small readerRoom)
+    came-whole _ (λ i. (m.before.shared-slice-known.given i).fits) (length-replicate {A = ℕ} reader_room 0) (zeros-small reader_room)
     c.before.before.begin.ensures.1 c.take.ensures.1
 
 returns : tie.Need-returns

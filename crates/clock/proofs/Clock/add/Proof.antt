@@ -2,7 +2,7 @@
 use mathlib.Core.Path.{ap}
 use mathlib.Core.List.{[]}
 use borrow.Author.Tests.{lt-ltb, le-ltb}
-use Rattle.clock.specs.Dots.{addDot}
+use Rattle.clock.specs.Dots.{add_dot}
 use Rattle.clock.proofs.Packs.{dots-of}
 use borrow.Author.Rules.{rules}
 use native.Mathlib.Omega.{arith}
@@ -13,7 +13,7 @@ push-requires : tie.Need-push-requires
 push-requires c κs = omega (arith, ap (λ k. k.len) c.before.before.before.new.ensures)
 
 returns : tie.Need-returns
-unfolding addDot
+unfolding add_dot
 returns c =
     let g = c.before.before.before.before in
     let news = c.before.push.ensures [] g.before.new.ensures in
@@ -21,7 +21,7 @@ returns c =
     rw (c.join.ensures, dots-of _ news, t)
 
 returns-2 : tie.Need-returns-2
-unfolding addDot
+unfolding add_dot
 returns-2 c =
     let g = c.before.before.before in
     let t = le-ltb _ _ (rw g.get.ensures at c.before.if1.false) in

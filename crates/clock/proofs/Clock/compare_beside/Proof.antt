@@ -6,7 +6,7 @@ use Prim.Native.Nat.{◌≤◌, ◌<◌, ◌-◌, ◌+◌}
 use lib.Dec.{leb}
 use lib.ListN.{length}
 use borrow.Author.Tests.{ltb-true, ltb-false}
-use Rattle.clock.specs.Dots.{dotsOf, outcome, order_of}
+use Rattle.clock.specs.Dots.{dots_of, outcome, order_of}
 use Rattle.clock.proofs.Walks.{Covering, covering-start, covering-past, covering-both, covering-missed, covering-end, covering-gone, both-gone}
 use borrow.Author.Rules.{rules}
 use native.Mathlib.Omega.{arith}
@@ -41,7 +41,7 @@ loop-less c = omega (arith, ltb-true)
 
 -- both places are in use
 level : (c : tie.After-y invariant-loop decreases-loop) → let s = c.before.before.before.before.before in
-    (s.loop.i < length (dotsOf s.before.before.before.args.t1)) × (s.loop.j < length (dotsOf s.before.before.before.args.t2))
+    (s.loop.i < length (dots_of s.before.before.before.args.t1)) × (s.loop.j < length (dots_of s.before.before.before.args.t2))
 level c =
     let s = c.before.before.before.before.before in
     let k : s.loop.j < s.before.size2.result = ltb-true _ _ c.before.before.before.if1.true in
@@ -93,7 +93,7 @@ loop-again-3 c =
 
 -- one of the two is used up
 left_over : (c : tie.Left-loop invariant-loop decreases-loop) → let s = c.before in
-    (length (dotsOf s.before.before.before.args.t1) ≤ s.loop.i) ⊎ (length (dotsOf s.before.before.before.args.t2) ≤ s.loop.j)
+    (length (dots_of s.before.before.before.args.t1) ≤ s.loop.i) ⊎ (length (dots_of s.before.before.before.args.t2) ≤ s.loop.j)
 left_over c =
     let s = c.before in
     ⊎_elim (λ w. inr (omega (arith, ltb-false s.loop.j s.before.size2.result w.1.left, s.before.size2.ensures)))

@@ -3,7 +3,7 @@ use Prim.Native.Nat.{◌≤◌, ◌-◌}
 use lib.Dec.{eqb}
 use borrow.Author.Tests.{eq-eqb, ne_eqb}
 use Rattle.listlaws.proofs.Passing.{Passing, passing-start, passing-here, passing-on, passing-end}
-use Rattle.clock.specs.Dots.{noDot, counterIn}
+use Rattle.clock.specs.Dots.{no_dot, counter_in}
 use borrow.Author.Rules.{rules}
 use native.Mathlib.Omega.{arith}
 use Rattle.clock.proofs.Clock.get.Statement.{statement}
@@ -19,14 +19,14 @@ loop-holds : tie.Need-loop-init invariant-loop decreases-loop
 loop-holds c = (search rules, passing-start)
 
 returns : tie.Need-returns invariant-loop decreases-loop
-unfolding counterIn
-returns c = passing-here noDot c.before.before.before.before.loop.invariant.1 (omega arith) (eq-eqb _ _ c.if1.true)
+unfolding counter_in
+returns c = passing-here no_dot c.before.before.before.before.loop.invariant.1 (omega arith) (eq-eqb _ _ c.if1.true)
 
 loop-again : tie.Need-loop-preserved invariant-loop decreases-loop
-loop-again c = (search rules, passing-on noDot c.before.before.before.before.loop.invariant.1 (omega arith) (ne_eqb _ _ c.if1.false))
+loop-again c = (search rules, passing-on no_dot c.before.before.before.before.loop.invariant.1 (omega arith) (ne_eqb _ _ c.if1.false))
 
 returns-2 : tie.Need-returns-2 invariant-loop decreases-loop
-unfolding counterIn
+unfolding counter_in
 returns-2 c = passing-end c.before.loop.invariant.1 (omega arith)
 
 pub get_spec : {M : Type 1} → statement M

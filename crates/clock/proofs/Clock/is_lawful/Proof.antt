@@ -8,8 +8,8 @@ use lib.Dec.{ltb}
 use Rattle.listlaws.specs.Rise.{rising}
 use Rattle.listlaws.proofs.Rising.{rising-stops, rising-goes, rising-end}
 use Rattle.clock.specs.declared.Dot.{Dot}
-use Rattle.clock.specs.Dots.{noDot, dotsOf}
-use Rattle.clock.specs.Walking.{isLawful}
+use Rattle.clock.specs.Dots.{no_dot, dots_of}
+use Rattle.clock.specs.Walking.{is_lawful}
 use borrow.Author.Rules.{rules}
 use native.Mathlib.Omega.{arith}
 use Rattle.clock.proofs.Clock.is_lawful.Statement.{statement}
@@ -19,7 +19,7 @@ abbrev from : ℕ → List Dot → Bool
 from low l = rising (λ d. d.actor) (λ d. ltb 0 d.counter) low l
 
 abbrev invariant-loop : tie.invariant-loop
-invariant-loop self n low₀ i₀ low i = (i ≤ n) × (from 0 (dotsOf self) ≡ from low (drop i (dotsOf self)))
+invariant-loop self n low₀ i₀ low i = (i ≤ n) × (from 0 (dots_of self) ≡ from low (drop i (dots_of self)))
 
 abbrev decreases-loop : tie.decreases-loop
 decreases-loop self n low₀ i₀ low i = n - i
@@ -28,11 +28,11 @@ loop-holds : tie.Need-loop-init invariant-loop decreases-loop
 loop-holds c = (omega arith, refl)
 
 returns : tie.Need-returns invariant-loop decreases-loop
-unfolding isLawful
+unfolding is_lawful
 returns c =
     let s = c.before.before.before.before.before in
     let a = s.before.before.args in
-    rising-stops (λ d. d.actor) (λ d. ltb 0 d.counter) a.t1.dots a.t1.len s.loop.i s.loop.low noDot (omega arith)
+    rising-stops (λ d. d.actor) (λ d. ltb 0 d.counter) a.t1.dots a.t1.len s.loop.i s.loop.low no_dot (omega arith)
     s.loop.invariant.1 c.if1.true
 
 loop-again : tie.Need-loop-preserved invariant-loop decreases-loop
@@ -40,16 +40,16 @@ loop-again c =
     let s = c.before.before.before.before.before in
     let a = s.before.before.args in (
       omega arith,
-      rising-goes (λ d. d.actor) (λ d. ltb 0 d.counter) a.t1.dots a.t1.len s.loop.i s.loop.low noDot (omega arith)
+      rising-goes (λ d. d.actor) (λ d. ltb 0 d.counter) a.t1.dots a.t1.len s.loop.i s.loop.low no_dot (omega arith)
           s.loop.invariant.1 c.if1.false,
     )
 
 returns-2 : tie.Need-returns-2 invariant-loop decreases-loop
-unfolding isLawful
+unfolding is_lawful
 returns-2 c =
     let s = c.before in
     let a = s.before.before.args in
-    sym (s.loop.invariant.1 ∙ rising-end (λ d. d.actor) (λ d. ltb 0 d.counter) (dotsOf a.t1) s.loop.i s.loop.low (omega arith))
+    sym (s.loop.invariant.1 ∙ rising-end (λ d. d.actor) (λ d. ltb 0 d.counter) (dots_of a.t1) s.loop.i s.loop.low (omega arith))
 
 pub is-lawful-spec : {M : Type 1} → statement M
 is-lawful-spec =

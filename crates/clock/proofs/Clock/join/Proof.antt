@@ -6,7 +6,7 @@ use lib.ListN.{length}
 use borrow.Author.Tests.{lt-ltb, le-ltb, ltb-true, ltb-false}
 use Rattle.listlaws.specs.Order.{by}
 use Rattle.listlaws.proofs.Weaving.{Weaving, weaving-start, weaving-first, weaving-second, weaving-both, weaving-end}
-use Rattle.clock.specs.Dots.{noDot, dotsOf, fitted, largerDot, joinDots}
+use Rattle.clock.specs.Dots.{no_dot, dots_of, fitted, larger_dot, join_dots}
 use borrow.Author.Rules.{rules}
 use native.Mathlib.Omega.{arith}
 use Rattle.clock.proofs.Clock.join.Statement.{statement}
@@ -14,7 +14,7 @@ use Rattle.clock.proofs.Clock.join.Tie as tie
 
 abbrev invariant-loop : tie.invariant-loop
 invariant-loop self other n m out₀ i₀ j₀ out i j =
-    (i ≤ n) × (j ≤ m) × Weaving fitted (by (λ d. d.actor)) (λ d. d) (λ d. d) largerDot self.dots self.len i other.dots other.len j out
+    (i ≤ n) × (j ≤ m) × Weaving fitted (by (λ d. d.actor)) (λ d. d) (λ d. d) larger_dot self.dots self.len i other.dots other.len j out
 
 abbrev decreases-loop : tie.decreases-loop
 decreases-loop self other n m out₀ i₀ j₀ out i j = (n - i) + (m - j)
@@ -27,8 +27,8 @@ element-copy-out-y c = omega (arith, ltb-true)
 
 -- both places are in use
 level : (c : tie.After-y invariant-loop decreases-loop) → let s = c.before.before.before.before in
-    (s.loop.i < length (dotsOf s.before.before.before.before.args.t1))
-    × (s.loop.j < length (dotsOf s.before.before.before.before.args.t2))
+    (s.loop.i < length (dots_of s.before.before.before.before.args.t1))
+    × (s.loop.j < length (dots_of s.before.before.before.before.args.t2))
 level c =
     let s = c.before.before.before.before in
     let k : s.loop.j < s.before.before.size2.result = ltb-true _ _ c.before.before.if1.true in
@@ -40,7 +40,7 @@ loop-again c =
     let s = y.before.before.before.before in (
       omega (arith, level y, s.before.before.before.size.ensures),
       search rules,
-      weaving-first noDot s.loop.invariant.2 (level y).0 (level y).1 (lt-ltb _ _ c.before.if2.true) c.push.ensures,
+      weaving-first no_dot s.loop.invariant.2 (level y).0 (level y).1 (lt-ltb _ _ c.before.if2.true) c.push.ensures,
     )
 
 loop-less : tie.Need-loop-smaller invariant-loop decreases-loop
@@ -59,7 +59,7 @@ loop-again-2 c =
     let s = y.before.before.before.before in (
       search rules,
       omega (arith, level y, s.before.before.size2.ensures),
-      weaving-second noDot s.loop.invariant.2 (level y).0 (level y).1 (le-ltb _ _ t.if2.false) (lt-ltb _ _ c.before.if3.true)
+      weaving-second no_dot s.loop.invariant.2 (level y).0 (level y).1 (le-ltb _ _ t.if2.false) (lt-ltb _ _ c.before.if3.true)
           c.push2.ensures,
     )
 
@@ -70,14 +70,14 @@ loop-again-3 c =
     let s = y.before.before.before.before in (
       omega (arith, level y, s.before.before.before.size.ensures),
       omega (arith, level y, s.before.before.size2.ensures),
-      weaving-both noDot s.loop.invariant.2 (level y).0 (level y).1 (le-ltb _ _ t.if2.false) (le-ltb _ _ c.before.before.if3.false)
+      weaving-both no_dot s.loop.invariant.2 (level y).0 (level y).1 (le-ltb _ _ t.if2.false) (le-ltb _ _ c.before.before.if3.false)
           (rw (← c.before.larger.ensures) c.push3.ensures),
     )
 
 -- one of the two is used up
 left_over : (c : tie.Left-loop invariant-loop decreases-loop) → let s = c.before in
-    (length (dotsOf s.before.before.before.before.args.t1) ≤ s.loop.i)
-    ⊎ (length (dotsOf s.before.before.before.before.args.t2) ≤ s.loop.j)
+    (length (dots_of s.before.before.before.before.args.t1) ≤ s.loop.i)
+    ⊎ (length (dots_of s.before.before.before.before.args.t2) ≤ s.loop.j)
 left_over c =
     let s = c.before in
     ⊎_elim (λ w. inr (omega (arith, ltb-false s.loop.j s.before.before.size2.result w.1.left, s.before.before.size2.ensures)))
@@ -85,7 +85,7 @@ left_over c =
     c.loop-test.branch
 
 returns : tie.Need-returns invariant-loop decreases-loop
-unfolding joinDots
+unfolding join_dots
 returns c =
     let s = c.before.before.before in
     let g = s.loop.invariant.2 in

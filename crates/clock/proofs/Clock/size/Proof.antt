@@ -4,15 +4,15 @@ use lib.ListN.{length, length-take}
 use Rattle.listlaws.proofs.Pads.{unmapped}
 use borrow.Author.Rules.{rules}
 use native.Mathlib.Omega.{arith}
-use Rattle.limits.specs.Limits.{dotLimit}
+use Rattle.limits.specs.Limits.{dot_limit}
 use Rattle.clock.proofs.Clock.size.Statement.{statement}
 use Rattle.clock.proofs.Clock.size.Tie as tie
 
 returns : tie.Need-returns
-returns c = let h : length c.before.args.self.dots ≡ dotLimit = search (rules, unmapped) in simp length-take (omega arith)
+returns c = let h : length c.before.args.self.dots ≡ dot_limit = search (rules, unmapped) in simp length-take (omega arith)
 
 returns-2 : tie.Need-returns-2
-returns-2 c = let h : length c.before.args.self.dots ≡ dotLimit = search (rules, unmapped) in simp length-take (omega arith)
+returns-2 c = let h : length c.before.args.self.dots ≡ dot_limit = search (rules, unmapped) in simp length-take (omega arith)
 
 pub size-spec : {M : Type 1} → statement M
 size-spec =

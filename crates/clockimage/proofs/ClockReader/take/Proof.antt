@@ -2,8 +2,8 @@
 use mathlib.Core.Path.{refl, ap, sym, ◌∙◌}
 use borrow.Author.Tests.{eq-eqb, eqb-true}
 use Rattle.scan.proofs.Scanning.{scan-before, none-under}
-use Rattle.clockimage.specs.Image.{isKind}
-use Rattle.clock.specs.Dots.{clockOf}
+use Rattle.clockimage.specs.Image.{is_kind}
+use Rattle.clock.specs.Dots.{clock_of}
 use Rattle.clockimage.proofs.Dots.{dots-more, dots-room}
 use Rattle.clockimage.proofs.Clocks.{is-first}
 use borrow.Author.Rules.{rules}
@@ -20,7 +20,7 @@ returns c l s =
           let first = is-first l _ z in
           c.clock-with.ensures _ (s.clock (s.scanned.number ∙ scan-before 1 1 l _ z))
           (λ _. dots-room 1 1 l _ z 1 first (λ b. omega arith) refl refl)
-          ∙ rw (eq-eqb _ 0 n) (sym (ap clockOf (dots-more (isKind 1) l _ (eq-eqb _ 1 first))));
+          ∙ rw (eq-eqb _ 0 n) (sym (ap clock_of (dots-more (is_kind 1) l _ (eq-eqb _ 1 first))));
     }
 
 pub take_spec : {M : Type 1} → statement M

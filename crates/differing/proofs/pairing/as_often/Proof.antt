@@ -10,10 +10,10 @@ use lib.Seq.{take-length}
 use borrow.Author.Tests.{eq-eqb, ne_eqb}
 use Rattle.listlaws.proofs.Passing.{Passing, passing-start, passing-here, passing-on, passing-end}
 use Rattle.register.specs.declared.Value.{Value}
-use Rattle.register.specs.Values.{noValue}
+use Rattle.register.specs.Values.{no_value}
 use Rattle.entries.specs.declared.Entry.{Entry}
-use Rattle.entries.specs.Model.{valuesIn}
-use Rattle.equality.specs.Equality.{timesIn, asOften}
+use Rattle.entries.specs.Model.{values_in}
+use Rattle.equality.specs.Equality.{times_in, as_often}
 use Rattle.entrywalk.specs.Walking.{LiesAt}
 use Rattle.entrywalk.proofs.Lying.{many-values}
 use borrow.Author.Rules.{rules}
@@ -22,7 +22,7 @@ use Rattle.differing.proofs.pairing.as_often.Tie as tie
 
 abbrev invariant-loop : tie.invariant-loop
 invariant-loop s x t y n i₀ i = (i ≤ n) × ((e f : Entry) → LiesAt s e x → LiesAt t f y
-    → Passing (λ v. not (eqb (timesIn (valuesIn e) v) (timesIn (valuesIn f) v))) (λ v. false) true (valuesIn e) (length (valuesIn e)) i)
+    → Passing (λ v. not (eqb (times_in (values_in e) v) (times_in (values_in f) v))) (λ v. false) true (values_in e) (length (values_in e)) i)
 
 abbrev decreases-loop : tie.decreases-loop
 decreases-loop s x t y n i₀ i = n - i
@@ -48,13 +48,13 @@ inside : (l : List Value) (i : ℕ) → i < length l → i < length (take (lengt
 inside l i h = rw (take-length l) h
 
 returns : tie.Need-returns invariant-loop decreases-loop
-unfolding asOften
+unfolding as_often
 returns c = λ e f h k.
     let t = c.before.before in
     let s = t.before.before in
-    let n : s.loop.i < length (valuesIn e) = omega (arith, many-values h) in
+    let n : s.loop.i < length (values_in e) = omega (arith, many-values h) in
     let differ : (t.times.result ≡ c.before.times2.result → ⊥) = c.if1.true in
-    rw (take-length (valuesIn e)) at (passing-here noValue (s.loop.invariant.1 e f h k) (inside (valuesIn e) s.loop.i n)
+    rw (take-length (values_in e)) at (passing-here no_value (s.loop.invariant.1 e f h k) (inside (values_in e) s.loop.i n)
     (ap not (ne_eqb _ _ (λ q. differ (t.times.ensures e e h n h ∙ q ∙ sym (c.before.times2.ensures e f h n k))))))
 
 loop-again : tie.Need-loop-preserved invariant-loop decreases-loop
@@ -63,15 +63,15 @@ loop-again c =
     let s = t.before.before in (
       omega arith,
       λ e f h k.
-          let n : s.loop.i < length (valuesIn e) = omega (arith, many-values h) in
-          passing-on noValue (s.loop.invariant.1 e f h k) (inside (valuesIn e) s.loop.i n)
+          let n : s.loop.i < length (values_in e) = omega (arith, many-values h) in
+          passing-on no_value (s.loop.invariant.1 e f h k) (inside (values_in e) s.loop.i n)
           (ap not (eq-eqb _ _ (sym (t.times.ensures e e h n h) ∙ c.if1.false ∙ c.before.times2.ensures e f h n k))),
     )
 
 returns-2 : tie.Need-returns-2 invariant-loop decreases-loop
-unfolding asOften
+unfolding as_often
 returns-2 c = λ e f h k.
-    rw (take-length (valuesIn e)) at (passing-end (c.before.loop.invariant.1 e f h k) (rw (take-length (valuesIn e)) (omega (arith, many-values h))))
+    rw (take-length (values_in e)) at (passing-end (c.before.loop.invariant.1 e f h k) (rw (take-length (values_in e)) (omega (arith, many-values h))))
 
 pub as-often-spec : {M : Type 1} → statement M
 as-often-spec =

@@ -8,10 +8,10 @@ use Rattle.listlaws.specs.Sift.{those}
 use Rattle.listlaws.proofs.Pads.{length-snoc}
 use Rattle.listlaws.proofs.Sifting.{Sifting, sifting-start, sifting-keep, sifting-drop, sifting-end}
 use Rattle.register.specs.declared.Value.{Value}
-use Rattle.register.specs.Values.{noValue}
+use Rattle.register.specs.Values.{no_value}
 use Rattle.entries.specs.declared.Entry.{Entry}
-use Rattle.entries.specs.Model.{valuesIn}
-use Rattle.equality.specs.Equality.{same_pair, timesIn}
+use Rattle.entries.specs.Model.{values_in}
+use Rattle.equality.specs.Equality.{same_pair, times_in}
 use Rattle.entrywalk.specs.Walking.{LiesAt}
 use Rattle.entrywalk.proofs.Lying.{many-values}
 use borrow.Author.Rules.{rules}
@@ -20,8 +20,8 @@ use Rattle.differing.proofs.pairing.times.Statement.{statement}
 use Rattle.differing.proofs.pairing.times.Tie as tie
 
 abbrev invariant-loop : tie.invariant-loop
-invariant-loop s x i t y m count₀ j₀ count j = (j ≤ m) × ((count ≤ j) × ((e f : Entry) → LiesAt s e x → i < length (valuesIn e) → LiesAt t f y
-    → Sifting length (same_pair (get_or (valuesIn e) i noValue)) (λ w. w) [] (valuesIn f) (length (valuesIn f)) j count))
+invariant-loop s x i t y m count₀ j₀ count j = (j ≤ m) × ((count ≤ j) × ((e f : Entry) → LiesAt s e x → i < length (values_in e) → LiesAt t f y
+    → Sifting length (same_pair (get_or (values_in e) i no_value)) (λ w. w) [] (values_in f) (length (values_in f)) j count))
 
 abbrev decreases-loop : tie.decreases-loop
 decreases-loop s x i t y m count₀ j₀ count j = m - j
@@ -48,8 +48,8 @@ loop-again c =
       (
         omega arith,
         λ e f h k g.
-            let n : s.loop.j < length (valuesIn f) = omega (arith, many-values g) in
-            sifting-keep noValue (s.loop.invariant.1.1 e f h k g) (inside (valuesIn f) s.loop.j n) refl
+            let n : s.loop.j < length (values_in f) = omega (arith, many-values g) in
+            sifting-keep no_value (s.loop.invariant.1.1 e f h k g) (inside (values_in f) s.loop.j n) refl
             (sym (c.before.same_at.ensures e f h k g n) ∙ c.if1.true) (λ l q. ap (λ z. z + 1) q ∙ sym (length-snoc l _)),
       ),
     )
@@ -61,19 +61,19 @@ loop-again-2 c =
       (
         omega arith,
         λ e f h k g.
-            let n : s.loop.j < length (valuesIn f) = omega (arith, many-values g) in
-            sifting-drop noValue (s.loop.invariant.1.1 e f h k g) (inside (valuesIn f) s.loop.j n) refl
+            let n : s.loop.j < length (values_in f) = omega (arith, many-values g) in
+            sifting-drop no_value (s.loop.invariant.1.1 e f h k g) (inside (values_in f) s.loop.j n) refl
             (sym (c.before.same_at.ensures e f h k g n) ∙ c.if1.false),
       ),
     )
 
 returns : tie.Need-returns invariant-loop decreases-loop
-unfolding timesIn
+unfolding times_in
 returns c = λ e f h k g.
     let s = c.before in
     let i = s.before.before.before.before.before.args.i in
-    sifting-end (s.loop.invariant.1.1 e f h k g) (rw (take-length (valuesIn f)) (omega (arith, many-values g)))
-    ∙ ap (λ z. length (those (same_pair (get_or (valuesIn e) i noValue)) z)) (take-length (valuesIn f))
+    sifting-end (s.loop.invariant.1.1 e f h k g) (rw (take-length (values_in f)) (omega (arith, many-values g)))
+    ∙ ap (λ z. length (those (same_pair (get_or (values_in e) i no_value)) z)) (take-length (values_in f))
 
 pub times-spec : {M : Type 1} → statement M
 times-spec =

@@ -8,10 +8,10 @@ use lib.ListN.{length}
 use borrow.Author.Tests.{ltb-false}
 use Rattle.listlaws.proofs.Orders.{apart}
 use Rattle.listlaws.proofs.Pads.{length-snoc}
-use Rattle.map.specs.Model.{entriesIn}
-use Rattle.maprecords.specs.Related.{readMap}
+use Rattle.map.specs.Model.{entries_in}
+use Rattle.maprecords.specs.Related.{read_map}
 use Rattle.differences.specs.declared.Difference.{Difference}
-use Rattle.differences.specs.Differences.{differencesOf}
+use Rattle.differences.specs.Differences.{differences_of}
 use Rattle.differing.specs.Walking.{Comes}
 use Rattle.differing.proofs.SoFar.{Telling, telling-start, telling-tells, telling-skips, telling-end}
 use borrow.Author.Rules.{rules}
@@ -20,7 +20,7 @@ use Rattle.differing.proofs.telling.count.Tie as tie
 
 abbrev invariant-loop : tie.invariant-loop
 invariant-loop s t l m third last x₀ y₀ n₀ x y n = (done : List Difference)
-    × Telling s t l m (differencesOf (entriesIn (readMap s).map) (entriesIn (readMap t).map)) x y done × (n ≡ length done)
+    × Telling s t l m (differences_of (entries_in (read_map s).map) (entries_in (read_map t).map)) x y done × (n ≡ length done)
 
 abbrev decreases-loop : tie.decreases-loop
 decreases-loop s t l m third last x₀ y₀ n₀ x y n = (l.third - x.own) + (m.third - y.own)

@@ -4,11 +4,11 @@ use Prim.Native.Nat.{◌*◌}
 use native.Mathlib.Omega.{arith}
 use mathlib.Core.List.{List}
 use lib.ListN.{length}
-use Rattle.map.specs.Model.{entriesIn}
-use Rattle.maprecords.specs.Related.{readMap}
+use Rattle.map.specs.Model.{entries_in}
+use Rattle.maprecords.specs.Related.{read_map}
 use Rattle.answers.proofs.Answers.{number-first, number-second, number_short, number-done, refuses, writes}
 use Rattle.differences.specs.declared.Difference.{Difference}
-use Rattle.differences.specs.Differences.{differencesOf, allTold}
+use Rattle.differences.specs.Differences.{differences_of, all_told}
 use Rattle.differences.proofs.Classes.{length-told}
 use borrow.Author.Rules.{rules}
 use Rattle.differing.proofs.telling.differences.Statement.{statement}
@@ -18,9 +18,9 @@ use Rattle.differing.proofs.telling.differences.Tie as tie
 abbrev report : tie.After-count → List Difference
 report n =
     let a = n.before.before.before.before.before.before.before.before.before.before.before.before.args in
-    differencesOf (entriesIn (readMap a.map.now).map) (entriesIn (readMap a.other.now).map)
+    differences_of (entries_in (read_map a.map.now).map) (entries_in (read_map a.other.now).map)
 
-long : (n : tie.After-count) → length (allTold (report n)) ≡ n.count.result * 5
+long : (n : tie.After-count) → length (all_told (report n)) ≡ n.count.result * 5
 long n = length-told (report n) ∙ ap (λ z. z * 5) (sym n.count.ensures.0)
 
 returns : tie.Need-returns

@@ -4,7 +4,7 @@ use mathlib.Core.Bool.{Bool, cond}
 use Prim.Native.Nat.{ℕ, ◌<◌}
 use native.Mathlib.Omega.{arith}
 use borrow.Author.Rules.{rules}
-use Rattle.entrywalk.specs.Walking.{beyondKeys}
+use Rattle.entrywalk.specs.Walking.{beyond_keys}
 use Rattle.entrywalk.proofs.Fronts.{front-first, front_above, some_key}
 use Rattle.differing.proofs.Coming.{comes-first, comes-second, comes-both}
 use Rattle.differing.proofs.telling.next.Statement.{statement}
@@ -60,7 +60,7 @@ returns c = λ es fs h k.
     let i = a.before in
     let f = i.before.before.head.ensures in
     let q = i.before.head2.ensures in
-    let low : i.before.before.head.result < beyondKeys = omega (arith, q.0, i.if1.true) in
+    let low : i.before.before.head.result < beyond_keys = omega (arith, q.0, i.if1.true) in
     let g = a.entry_at.ensures es h in
     let same = front-first h f low g.entry g.more g.parts in
     comes-first h k g (λ e j. omega (arith, same, front_above k q i.if1.true e j))
@@ -71,7 +71,7 @@ returns-2 c = λ es fs h k.
     let i = a.before in
     let f = i.before.before.before.head.ensures in
     let q = i.before.before.head2.ensures in
-    let low : i.before.before.head2.result < beyondKeys = omega (arith, f.0, i.if2.true) in
+    let low : i.before.before.head2.result < beyond_keys = omega (arith, f.0, i.if2.true) in
     let g = a.entry-at2.ensures fs k in
     let same = front-first k q low g.entry g.more g.parts in
     comes-second h k g (λ e j. omega (arith, same, front_above h f i.if2.true e j))

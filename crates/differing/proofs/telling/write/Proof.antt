@@ -7,11 +7,11 @@ use native.Mathlib.Omega.{arith}
 use lib.ListN.{length}
 use borrow.Author.Tests.{ltb-false}
 use Rattle.listlaws.proofs.Orders.{apart}
-use Rattle.map.specs.Model.{entriesIn}
+use Rattle.map.specs.Model.{entries_in}
 use Rattle.records.specs.Writing.{Wrote}
-use Rattle.maprecords.specs.Related.{readMap}
+use Rattle.maprecords.specs.Related.{read_map}
 use Rattle.differences.specs.declared.Difference.{Difference}
-use Rattle.differences.specs.Differences.{differencesOf, allTold}
+use Rattle.differences.specs.Differences.{differences_of, all_told}
 use Rattle.differing.specs.Walking.{Comes}
 use Rattle.differing.proofs.SoFar.{Telling, telling-start, telling-tells, telling-skips, told-room, told-all, told-start, told_more, told-on}
 use borrow.Author.Rules.{rules}
@@ -20,7 +20,7 @@ use Rattle.differing.proofs.telling.write.Tie as tie
 
 abbrev invariant-loop : tie.invariant-loop
 invariant-loop s t l m out₀ third last x₀ y₀ place₀ out x y place = (done : List Difference)
-    × Telling s t l m (differencesOf (entriesIn (readMap s).map) (entriesIn (readMap t).map)) x y done × Wrote 0 (allTold done) out₀ out place
+    × Telling s t l m (differences_of (entries_in (read_map s).map) (entries_in (read_map t).map)) x y done × Wrote 0 (all_told done) out₀ out place
 
 abbrev decreases-loop : tie.decreases-loop
 decreases-loop s t l m out₀ third last x₀ y₀ place₀ out x y place = (l.third - x.own) + (m.third - y.own)

@@ -4,8 +4,8 @@ use native.Mathlib.Omega.{arith}
 use borrow.Author.Rules.{rules}
 use Rattle.records.proofs.RoundTrips.{length-bytes}
 use Rattle.answers.proofs.Answers.{number_short, number-done, refuses, writes}
-use Rattle.direct.specs.Reading.{keyRecords}
-use Rattle.direct.proofs.Copied.{clockSpan, key-is, spans-inside, key-length}
+use Rattle.direct.specs.Reading.{key_records}
+use Rattle.direct.proofs.Copied.{clock_span, key-is, spans-inside, key-length}
 use Rattle.direct.proofs.reading.give_key.Statement.{statement}
 use Rattle.direct.proofs.reading.give_key.Tie as tie
 
@@ -18,7 +18,7 @@ returns c =
     (rw (key-is z.args.key z.requires e)
     (omega (
       arith,
-      length-bytes (keyRecords z.args.map.now (clockSpan z.args.l) k.spans-of.result),
+      length-bytes (key_records z.args.map.now (clock_span z.args.l) k.spans-of.result),
       key-length z.args.key z.requires e,
     )))) (omega arith))
 
@@ -49,7 +49,7 @@ returns-2 c =
       q3,
       q4,
       length-bytes
-          (keyRecords z.args.map.now (clockSpan z.args.l) k.spans-of.result),
+          (key_records z.args.map.now (clock_span z.args.l) k.spans-of.result),
       key-length z.args.key z.requires e,
     ))))
     (rw same c.before.before.copy_key.ensures)

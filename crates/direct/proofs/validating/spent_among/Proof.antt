@@ -3,19 +3,19 @@ use mathlib.Core.Path.{sym, ◌∙◌}
 use Prim.Native.Nat.{◌-◌}
 use native.Mathlib.Omega.{arith}
 use borrow.Author.Rules.{rules}
-use Rattle.clock.specs.Dots.{dotsOf}
+use Rattle.clock.specs.Dots.{dots_of}
 use Rattle.clock.proofs.Packs.{dots-of}
-use Rattle.entries.specs.Model.{dotsIn}
-use Rattle.map.specs.Model.{entriesIn}
-use Rattle.asking.specs.Asking.{spentUnder}
-use Rattle.maprecords.specs.Related.{readMap}
+use Rattle.entries.specs.Model.{dots_in}
+use Rattle.map.specs.Model.{entries_in}
+use Rattle.asking.specs.Asking.{spent_under}
+use Rattle.maprecords.specs.Related.{read_map}
 use Rattle.direct.proofs.Seeking.{Seeking, seek-start, seek-here, seek-on, seek-end}
 use Rattle.direct.proofs.validating.spent_among.Statement.{statement}
 use Rattle.direct.proofs.validating.spent_among.Tie as tie
 
 abbrev invariant-loop : tie.invariant-loop
 invariant-loop key ours other end at₀ at =
-    Seeking (λ f. spentUnder key (dotsOf ours) f.key (dotsIn f)) (entriesIn (readMap other).map) other end at
+    Seeking (λ f. spent_under key (dots_of ours) f.key (dots_in f)) (entries_in (read_map other).map) other end at
 
 abbrev decreases-loop : tie.decreases-loop
 decreases-loop key ours other end at₀ at = end - at

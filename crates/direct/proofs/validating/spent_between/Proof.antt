@@ -4,16 +4,16 @@ use Prim.Native.Nat.{◌-◌}
 use native.Mathlib.Omega.{arith}
 use borrow.Author.Rules.{rules}
 use Rattle.clock.proofs.Packs.{dots-of}
-use Rattle.map.specs.Model.{entriesIn}
-use Rattle.asking.specs.Asking.{spentBy, firstSpent, validateMerge}
-use Rattle.maprecords.specs.Related.{readMap}
+use Rattle.map.specs.Model.{entries_in}
+use Rattle.asking.specs.Asking.{spent_by, first_spent, validate_merge}
+use Rattle.maprecords.specs.Related.{read_map}
 use Rattle.direct.proofs.Seeking.{Seeking, seek-start, seek-here, seek-on, seek-end}
 use Rattle.direct.proofs.validating.spent_between.Statement.{statement}
 use Rattle.direct.proofs.validating.spent_between.Tie as tie
 
 abbrev invariant-loop : tie.invariant-loop
 invariant-loop map other theirs end at₀ at =
-    Seeking (λ e. firstSpent (spentBy e) (entriesIn (readMap other).map)) (entriesIn (readMap map).map) map end at
+    Seeking (λ e. first_spent (spent_by e) (entries_in (read_map other).map)) (entries_in (read_map map).map) map end at
 
 abbrev decreases-loop : tie.decreases-loop
 decreases-loop map other theirs end at₀ at = end - at
@@ -28,7 +28,7 @@ spent-among-requires : tie.Need-spent-among-requires invariant-loop decreases-lo
 spent-among-requires c κs = c.before.before.before.before.before.requires.1
 
 returns : tie.Need-returns invariant-loop decreases-loop
-unfolding validateMerge
+unfolding validate_merge
 returns c =
     let g = c.before.before.before.before.before.loop.invariant in
     let s = c.before.before.before.stop-at.ensures in
@@ -49,7 +49,7 @@ loop-again c =
     seek-on g s _ (c.before.before.spent-among.ensures ∙ rw (q.key, dots-of _ q.clock)) (sym c.before.twice.ensures ∙ c.if1.false)
 
 returns-2 : tie.Need-returns-2 invariant-loop decreases-loop
-unfolding validateMerge
+unfolding validate_merge
 returns-2 c = seek-end c.before.loop.invariant (omega arith)
 
 pub spent-between-spec : {M : Type 1} → statement M

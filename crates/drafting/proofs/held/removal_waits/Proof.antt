@@ -3,10 +3,10 @@ use mathlib.Core.Path.{◌≡◌, ap₂, ◌∙◌}
 use native.Mathlib.Omega.{arith}
 use Rattle.clock.specs.Dots.{order_of}
 use Rattle.removals.specs.declared.Removal.{Removal}
-use Rattle.removals.specs.Model.{underOf}
+use Rattle.removals.specs.Model.{under_of}
 use Rattle.removals.specs.Waits.{waits}
-use Rattle.map.specs.Model.{seenBy}
-use Rattle.maprecords.specs.Related.{readMap}
+use Rattle.map.specs.Model.{seen_by}
+use Rattle.maprecords.specs.Related.{read_map}
 use Rattle.drafting.specs.Drafted.{RemovalLies}
 use Rattle.drafting.proofs.Asked.{seen-run, under-room, under-run}
 use borrow.Author.Rules.{rules}
@@ -20,7 +20,7 @@ compare-runs-requires c κs =
 
 -- how the two clocks stand
 stands : (c : tie.After-compare-runs) (r : Removal) → let a = c.before.before.before.before.before.before.args in
-    RemovalLies a.op.now a.dots r → c.compare-runs.result ≡ order_of (seenBy (readMap a.map.now).map) (underOf r)
+    RemovalLies a.op.now a.dots r → c.compare-runs.result ≡ order_of (seen_by (read_map a.map.now).map) (under_of r)
 stands c r h = c.compare-runs.ensures ∙ ap₂ order_of (seen-run c.before.before.before.before.before.before.requires.0) (under-run h)
 
 returns : tie.Need-returns

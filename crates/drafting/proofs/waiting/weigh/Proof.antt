@@ -4,7 +4,7 @@ use lib.ListN.{length-append}
 use native.Mathlib.Omega.{arith}
 use borrow.Author.Rules.{rules}
 use borrow.Author.Tests.{ltb-false, lt-ltb, le-ltb}
-use Rattle.mapimage.specs.MapImage.{flatFrom, waitingDots, waitingKeys}
+use Rattle.mapimage.specs.MapImage.{flat_from, waiting_dots, waiting_keys}
 use Rattle.drafting.proofs.Waits.{few-dots, few-keys}
 use Rattle.drafting.proofs.waiting.weigh.Statement.{statement}
 use Rattle.drafting.proofs.waiting.weigh.Tie as tie
@@ -41,7 +41,7 @@ count-keys-requires f κs =
     let z = f.before.before.before.before.before.before.before.requires in
     let p = z.1 in
     let n = f.before.before.if3.false in
-    (p.first, p.second, z.0, p.inFirst, p.inSecond, p.made.moves n, ltb-false _ _ (sym p.made.over ∙ n))
+    (p.first, p.second, z.0, p.in_first, p.in_second, p.made.moves n, ltb-false _ _ (sym p.made.over ∙ n))
 
 returns-4 : tie.Need-returns-4
 returns-4 f =
@@ -50,7 +50,7 @@ returns-4 f =
     let n = c.before.before.before.if3.false in (
       λ l w e o p.
           let few = ltb-false _ _ (sym p.made.over ∙ n) in
-          let k = c.count-keys.ensures p.first p.second w p.inFirst p.inSecond (p.made.moves n) few p.valid.each in (
+          let k = c.count-keys.ensures p.first p.second w p.in_first p.in_second (p.made.moves n) few p.valid.each in (
             x.0 ∙ rw (
               le-ltb _ _ (rw e at c.before.before.before.before.before.if1.false),
               sym o
@@ -75,7 +75,7 @@ add-records f =
     let z = c.before.before.before.before.before.before.before.before.requires in
     let p = z.1 in
     let few = ltb-false _ _ (sym p.made.over ∙ n) in
-    let k = c.count-keys.ensures p.first p.second z.0 p.inFirst p.inSecond (p.made.moves n) few p.valid.each in
+    let k = c.count-keys.ensures p.first p.second z.0 p.in_first p.in_second (p.made.moves n) few p.valid.each in
     omega (
       arith,
       k.1,
@@ -91,17 +91,17 @@ returns-5 f =
     let z = c.before.before.before.before.before.before.before.before.requires in
     let p = z.1 in
     let few = ltb-false _ _ (sym p.made.over ∙ n) in
-    let k = c.count-keys.ensures p.first p.second z.0 p.inFirst p.inSecond (p.made.moves n) few p.valid.each in (
+    let k = c.count-keys.ensures p.first p.second z.0 p.in_first p.in_second (p.made.moves n) few p.valid.each in (
       λ l w e o p.
           let few = ltb-false _ _ (sym p.made.over ∙ n) in
-          let k = c.count-keys.ensures p.first p.second w p.inFirst p.inSecond (p.made.moves n) few p.valid.each in (
+          let k = c.count-keys.ensures p.first p.second w p.in_first p.in_second (p.made.moves n) few p.valid.each in (
             rw (
               le-ltb _ _ (rw e at c.before.before.before.before.before.if1.false),
               sym o ∙ c.before.before.before.before.if2.false,
               sym p.made.over ∙ n,
               sym k.0 ∙ f.before.before.if4.false,
             ),
-            λ z. omega (arith, k.1, f.before.count-dots.ensures _ _ _ _ _ p.made, length-append (flatFrom waitingDots 0 w) (waitingKeys w)),
+            λ z. omega (arith, k.1, f.before.count-dots.ensures _ _ _ _ _ p.made, length-append (flat_from waiting_dots 0 w) (waiting_keys w)),
           ),
       omega (
         arith,

@@ -2,8 +2,8 @@
 use mathlib.Core.Path.{refl}
 use borrow.Author.Rules.{rules}
 use Rattle.records.proofs.Writing.{write-start, write-room, write-on, write-last, last-room}
-use Rattle.mapimage.specs.MapImage.{flatFrom, waitingDots, waitingKeys}
-use Rattle.drafting.specs.Drafted.{waitingRecords}
+use Rattle.mapimage.specs.MapImage.{flat_from, waiting_dots, waiting_keys}
+use Rattle.drafting.specs.Drafted.{waiting_records}
 use Rattle.drafting.proofs.Waits.{few-waiting, not-over}
 use Rattle.drafting.proofs.waiting.write_waiting.Statement.{statement}
 use Rattle.drafting.proofs.waiting.write_waiting.Tie as tie
@@ -20,8 +20,8 @@ write-clocks-requires f κs =
         p.second,
         w,
         p.made,
-        (write-room (waitingRecords w) a.at a.out.now (flatFrom waitingDots 0 w)
-            (waitingKeys w) (write-start (waitingRecords w) a.at a.out.now z.2.1) refl).0,
+        (write-room (waiting_records w) a.at a.out.now (flat_from waiting_dots 0 w)
+            (waiting_keys w) (write-start (waiting_records w) a.at a.out.now z.2.1) refl).0,
       ),
     )
 
@@ -31,21 +31,21 @@ write-keys-requires f κs =
     let w = z.0 in
     let p = z.1 in
     let a = f.before.before.before.before.before.before.before.before.before.before.args in
-    let w0 = write-start (waitingRecords w) a.at a.out.now z.2.1 in
+    let w0 = write-start (waiting_records w) a.at a.out.now z.2.1 in
     let few = few-waiting w z.2.0 in
-    let w1 = write-on _ _ _ {now = waitingKeys w} (flatFrom waitingDots 0 w) w0 refl
-    (f.before.before.before.write-clocks.ensures _ _ w p.made (write-room _ _ _ (flatFrom waitingDots 0 w) (waitingKeys w) w0 refl).0) in
-    (p.first, p.second, w, p.inFirst, p.inSecond, p.made.moves (not-over p z.2.0), few, last-room _ _ _ _ w1)
+    let w1 = write-on _ _ _ {now = waiting_keys w} (flat_from waiting_dots 0 w) w0 refl
+    (f.before.before.before.write-clocks.ensures _ _ w p.made (write-room _ _ _ (flat_from waiting_dots 0 w) (waiting_keys w) w0 refl).0) in
+    (p.first, p.second, w, p.in_first, p.in_second, p.made.moves (not-over p z.2.0), few, last-room _ _ _ _ w1)
 
 returns : tie.Need-returns
 returns f w p n r =
     let a = f.before.before.before.before.before.before.before.before.before.before.before.before.before.args in
-    let w0 = write-start (waitingRecords w) a.at a.out.now r in
+    let w0 = write-start (waiting_records w) a.at a.out.now r in
     let few = few-waiting w n in
-    let w1 = write-on _ _ _ {now = waitingKeys w} (flatFrom waitingDots 0 w) w0 refl
+    let w1 = write-on _ _ _ {now = waiting_keys w} (flat_from waiting_dots 0 w) w0 refl
     (f.before.before.before.before.before.before.write-clocks.ensures _ _ w p.made
-    (write-room _ _ _ (flatFrom waitingDots 0 w) (waitingKeys w) w0 refl).0) in
-    write-last _ _ _ _ w1 (f.before.before.write-keys.ensures p.first p.second w p.inFirst p.inSecond
+    (write-room _ _ _ (flat_from waiting_dots 0 w) (waiting_keys w) w0 refl).0) in
+    write-last _ _ _ _ w1 (f.before.before.write-keys.ensures p.first p.second w p.in_first p.in_second
     (p.made.moves (not-over p n)) few (last-room _ _ _ _ w1))
 
 pub write-waiting-spec : {M : Type 1} → statement M

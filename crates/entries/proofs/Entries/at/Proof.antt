@@ -5,16 +5,16 @@ use Prim.Native.Nat.{◌≤◌, ◌-◌}
 use lib.Dec.{eqb}
 use borrow.Author.Tests.{eq-eqb, ne_eqb}
 use Rattle.listlaws.proofs.Passing.{Passing, passing-start, passing-here, passing-on, passing-end}
-use Rattle.entries.specs.Model.{entryAs}
+use Rattle.entries.specs.Model.{entry_as}
 use Rattle.entries.specs.Entries.{entry_at}
-use Rattle.entries.proofs.Packs.{noneRead}
+use Rattle.entries.proofs.Packs.{none_read}
 use borrow.Author.Rules.{rules}
 use native.Mathlib.Omega.{arith}
 use Rattle.entries.proofs.Entries.at.Statement.{statement}
 use Rattle.entries.proofs.Entries.at.Tie as tie
 
 abbrev invariant-loop : tie.invariant-loop
-invariant-loop key self n i₀ i = (i ≤ n) × Passing (λ e. eqb e.key key) (λ e. e) (entryAs key [] []) self.items self.len i
+invariant-loop key self n i₀ i = (i ≤ n) × Passing (λ e. eqb e.key key) (λ e. e) (entry_as key [] []) self.items self.len i
 
 abbrev decreases-loop : tie.decreases-loop
 decreases-loop key self n i₀ i = n - i
@@ -24,10 +24,10 @@ loop-holds c = (search rules, passing-start)
 
 returns : tie.Need-returns invariant-loop decreases-loop
 unfolding entry_at
-returns c = passing-here noneRead c.before.before.before.before.loop.invariant.1 (omega arith) (eq-eqb _ _ c.if1.true)
+returns c = passing-here none_read c.before.before.before.before.loop.invariant.1 (omega arith) (eq-eqb _ _ c.if1.true)
 
 loop-again : tie.Need-loop-preserved invariant-loop decreases-loop
-loop-again c = (search rules, passing-on noneRead c.before.before.before.before.loop.invariant.1 (omega arith) (ne_eqb _ _ c.if1.false))
+loop-again c = (search rules, passing-on none_read c.before.before.before.before.loop.invariant.1 (omega arith) (ne_eqb _ _ c.if1.false))
 
 returns-2 : tie.Need-returns-2 invariant-loop decreases-loop
 unfolding entry_at

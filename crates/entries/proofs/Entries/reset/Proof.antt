@@ -5,18 +5,18 @@ use mathlib.Core.List.{[]}
 use Prim.Native.Nat.{◌≤◌, ◌-◌, ◌<◌}
 use Rattle.listlaws.proofs.Sifts.{length-sift}
 use Rattle.listlaws.proofs.Sifting.{Sifting, sifting-start, sifting-keep, sifting-drop, sifting-room, sifting-end}
-use Rattle.clock.specs.Dots.{dotsOf}
-use Rattle.entries.specs.Model.{entriesOf, entriesAs}
-use Rattle.limits.specs.Limits.{entryLimit}
-use Rattle.entries.specs.Entries.{stays, cutEntry}
-use Rattle.entries.proofs.Packs.{noneRead, entry-pushed}
+use Rattle.clock.specs.Dots.{dots_of}
+use Rattle.entries.specs.Model.{entries_of, entries_as}
+use Rattle.limits.specs.Limits.{entry_limit}
+use Rattle.entries.specs.Entries.{stays, cut_entry}
+use Rattle.entries.proofs.Packs.{none_read, entry-pushed}
 use borrow.Author.Rules.{rules}
 use native.Mathlib.Omega.{arith}
 use Rattle.entries.proofs.Entries.reset.Statement.{statement}
 use Rattle.entries.proofs.Entries.reset.Tie as tie
 
 abbrev invariant-loop : tie.invariant-loop
-invariant-loop by self n out₀ i₀ out i = (i ≤ n) × Sifting entriesAs stays (cutEntry (dotsOf by)) [] self.items self.len i out
+invariant-loop by self n out₀ i₀ out i = (i ≤ n) × Sifting entries_as stays (cut_entry (dots_of by)) [] self.items self.len i out
 
 abbrev decreases-loop : tie.decreases-loop
 decreases-loop by self n out₀ i₀ out i = n - i
@@ -25,20 +25,20 @@ loop-holds : tie.Need-loop-init invariant-loop decreases-loop
 loop-holds c = (search rules, sifting-start c.new.ensures)
 
 -- there is room for one more
-room : (c : tie.Then1 invariant-loop decreases-loop) → c.before.before.before.before.before.loop.out.len < entryLimit
+room : (c : tie.Then1 invariant-loop decreases-loop) → c.before.before.before.before.before.loop.out.len < entry_limit
 room c =
     let s = c.before.before.before.before.before in
     let t = ap not (sym c.before.is-empty.ensures) ∙ c.if1.true in
-    let r = sifting-room noneRead s.loop.invariant.1 (omega arith) c.before.before.cut.ensures t in
+    let r = sifting-room none_read s.loop.invariant.1 (omega arith) c.before.before.cut.ensures t in
     let a = s.before.before.before.args in
-    omega (arith, ap (λ k. k.len) r.1, r.2, length-sift stays (cutEntry (dotsOf a.by)) (entriesOf a.t1))
+    omega (arith, ap (λ k. k.len) r.1, r.2, length-sift stays (cut_entry (dots_of a.by)) (entries_of a.t1))
 
 loop-again : tie.Need-loop-preserved invariant-loop decreases-loop
 loop-again c =
     let s = c.before.before.before.before.before in
     let t = ap not (sym c.before.is-empty.ensures) ∙ c.if1.true in (
       search rules,
-      sifting-keep noneRead s.loop.invariant.1 (omega arith) c.before.before.cut.ensures t
+      sifting-keep none_read s.loop.invariant.1 (omega arith) c.before.before.cut.ensures t
           (λ l e. entry-pushed l _ e (omega (arith, ap (λ k. k.len) e, room c))),
     )
 
@@ -46,7 +46,7 @@ loop-again-2 : tie.Need-loop-preserved-2 invariant-loop decreases-loop
 loop-again-2 c =
     let s = c.before.before.before.before.before in
     let t = ap not (sym c.before.is-empty.ensures) ∙ c.if1.false in
-    (search rules, sifting-drop noneRead s.loop.invariant.1 (omega arith) c.before.before.cut.ensures t)
+    (search rules, sifting-drop none_read s.loop.invariant.1 (omega arith) c.before.before.cut.ensures t)
 
 returns : tie.Need-returns invariant-loop decreases-loop
 returns c = sifting-end c.before.loop.invariant.1 (omega arith)

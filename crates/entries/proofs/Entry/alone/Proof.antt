@@ -3,7 +3,7 @@ use mathlib.Core.Path.{ap, sym, ◌∙◌}
 use mathlib.Core.Bool.{true}
 use Rattle.clock.proofs.Packs.{dots-of, cut_left}
 use Rattle.register.proofs.Packs.{wide-values}
-use Rattle.entries.specs.Entries.{cutAlone, alone}
+use Rattle.entries.specs.Entries.{cut_alone, alone}
 use Rattle.entries.proofs.Packs.{wide-as}
 use borrow.Author.Rules.{rules}
 use Rattle.entries.proofs.Entry.alone.Statement.{statement}
@@ -15,7 +15,7 @@ returns c =
     c.none.ensures ∙ rw (sym c.before.before.covers.ensures ∙ c.before.if1.true)
 
 returns-2 : tie.Need-returns-2
-unfolding alone cutAlone
+unfolding alone cut_alone
 returns-2 c =
     let w = c.before in
     let d = w.before.before in

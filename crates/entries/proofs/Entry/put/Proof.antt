@@ -1,14 +1,14 @@
 -- `Entry::put` meets its contract: the dot fits, so the clock is the grown one.
 use mathlib.Core.Path.{ap, sym, ◌∙◌}
 use Rattle.clock.proofs.Packs.{fits}
-use Rattle.entries.specs.Entries.{putEntry}
+use Rattle.entries.specs.Entries.{put_entry}
 use Rattle.entries.proofs.Packs.{wide-as}
 use borrow.Author.Rules.{rules}
 use Rattle.entries.proofs.Entry.put.Statement.{statement}
 use Rattle.entries.proofs.Entry.put.Tie as tie
 
 returns : tie.Need-returns
-unfolding putEntry
+unfolding put_entry
 returns c =
     let s = c.before.before in
     let k = ap (λ j. j.clock) (s.add.ensures ∙ fits _ s.before.requires) in

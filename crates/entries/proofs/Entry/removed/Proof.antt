@@ -1,16 +1,16 @@
 -- `Entry::removed` meets its contract.
 use mathlib.Core.Path.{sym, ◌∙◌}
-use Rattle.entries.specs.Entries.{removeFrom}
+use Rattle.entries.specs.Entries.{remove_from}
 use borrow.Author.Rules.{rules}
 use Rattle.entries.proofs.Entry.removed.Statement.{statement}
 use Rattle.entries.proofs.Entry.removed.Tie as tie
 
 returns : tie.Need-returns
-unfolding removeFrom
+unfolding remove_from
 returns c = c.cut.ensures ∙ rw (sym c.before.before.contains.ensures ∙ c.before.if1.true)
 
 returns-2 : tie.Need-returns-2
-unfolding removeFrom
+unfolding remove_from
 returns-2 c = rw (sym c.before.contains.ensures ∙ c.if1.false)
 
 pub removed-spec : {M : Type 1} → statement M

@@ -2,19 +2,19 @@
 use mathlib.Core.Path.{◌≡◌, ap, sym, ◌∙◌}
 use mathlib.Core.Bool.{true}
 use borrow.Author.Rules.{rules}
-use Rattle.clock.specs.Dots.{dotsOf, clockOf, fitted, is_empty}
+use Rattle.clock.specs.Dots.{dots_of, clock_of, fitted, is_empty}
 use Rattle.clock.proofs.Packs.{fits, dots-of, cut_left}
 use Rattle.register.proofs.Packs.{wide-values}
-use Rattle.entries.specs.Model.{dotsIn}
-use Rattle.entries.specs.Entries.{keepDots, mergeBoth, together}
+use Rattle.entries.specs.Model.{dots_in}
+use Rattle.entries.specs.Entries.{keep_dots, merge_both, together}
 use Rattle.entries.proofs.Packs.{wide-as}
 use Rattle.entries.proofs.Entry.together.Statement.{statement}
 use Rattle.entries.proofs.Entry.together.Tie as tie
 
 -- both joins, as one
 joined : (c : tie.After-join2) → let a = c.before.before.before.before.before.before.before in
-    c.join2.result ≡ fitted (keepDots (dotsOf a.args.ours) (dotsOf a.args.theirs) (dotsIn a.args.self) (dotsIn a.args.other))
-unfolding keepDots
+    c.join2.result ≡ fitted (keep_dots (dots_of a.args.ours) (dots_of a.args.theirs) (dots_in a.args.self) (dots_in a.args.other))
+unfolding keep_dots
 joined c =
     let j = c.before in
     let y = j.before.before in
@@ -27,8 +27,8 @@ joined c =
 
 -- what is kept, in a clock
 kept : (c : tie.After-join2) → let a = c.before.before.before.before.before.before.before in
-    c.join2.result.clock ≡ clockOf (keepDots (dotsOf a.args.ours) (dotsOf a.args.theirs) (dotsIn a.args.self)
-    (dotsIn a.args.other))
+    c.join2.result.clock ≡ clock_of (keep_dots (dots_of a.args.ours) (dots_of a.args.theirs) (dots_in a.args.self)
+    (dots_in a.args.other))
 kept c = ap (λ r. r.clock) (joined c ∙ fits _ c.before.before.before.before.before.before.before.requires.0)
 
 returns : tie.Need-returns
@@ -38,7 +38,7 @@ returns c =
     c.none.ensures ∙ rw (ap is_empty (sym (dots-of _ (kept e.before.before))) ∙ sym e.is-empty.ensures ∙ c.before.if1.true)
 
 returns-2 : tie.Need-returns-2
-unfolding together mergeBoth
+unfolding together merge_both
 returns-2 c =
     let m = c.before in
     let d = m.before.before in

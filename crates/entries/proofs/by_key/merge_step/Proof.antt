@@ -2,17 +2,17 @@
 use mathlib.Core.Path.{◌≡◌, refl}
 use mathlib.Core.Bool.{Bool, true, false, not, ◌&&◌, ◌||◌}
 use Rattle.listlaws.proofs.Orders.{apart}
-use Rattle.entries.specs.Steps.{mergeStep}
+use Rattle.entries.specs.Steps.{merge_step}
 use borrow.Author.Rules.{rules}
 use Rattle.entries.proofs.by_key.merge_step.Statement.{statement}
 use Rattle.entries.proofs.by_key.merge_step.Tie as tie
 
 returns : tie.Need-returns
-unfolding mergeStep
+unfolding merge_step
 returns c = rw (c.before.if1.true, c.alone.ensures)
 
 returns-2 : tie.Need-returns-2
-unfolding mergeStep
+unfolding merge_step
 returns-2 c = rw (c.before.before.before.before.if1.false, c.before.if2.true, c.alone2.ensures)
 
 -- where neither stands alone, both are there
@@ -27,7 +27,7 @@ together-requires c κs =
     c.before.before.before.before.before.before.requires b.0 b.1
 
 returns-3 : tie.Need-returns-3
-unfolding mergeStep
+unfolding merge_step
 returns-3 c = rw (c.before.before.before.before.if1.false, c.before.if2.false, c.together.ensures)
 
 pub merge-step-spec : {M : Type 1} → statement M

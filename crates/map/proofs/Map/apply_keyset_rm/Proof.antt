@@ -4,13 +4,13 @@ use mathlib.Core.Bool.{true, false}
 use mathlib.Core.List.Memᴰ
 use mathlib.Core.List.{[]}
 use borrow.Author.Tests.{lt-ltb, le-ltb, not-true, not-false}
-use Rattle.limits.specs.Limits.{waitingLimit}
-use Rattle.removals.specs.Counted.{joinedAs}
+use Rattle.limits.specs.Limits.{waiting_limit}
+use Rattle.removals.specs.Counted.{joined_as}
 use Rattle.removals.specs.Waits.{waits}
 use Rattle.removals.proofs.Packs.{waiting-from}
 use Rattle.removals.proofs.Joining.{joined-count, joined-long, joined-open}
-use Rattle.map.specs.Model.{seenBy, waitingIn}
-use Rattle.map.proofs.Kept.{heldAfter}
+use Rattle.map.specs.Model.{seen_by, waiting_in}
+use Rattle.map.proofs.Kept.{held_after}
 use Rattle.map.proofs.Accepts.{fits-means, not-over}
 use Rattle.map.proofs.Verdicts.{none-overlong}
 use Rattle.map.proofs.Outcomes.{remove-outcome}
@@ -20,7 +20,7 @@ use Rattle.map.proofs.Map.apply_keyset_rm.Statement.{statement}
 use Rattle.map.proofs.Map.apply_keyset_rm.Tie as tie
 
 returns : tie.Need-returns
-unfolding heldAfter
+unfolding held_after
 returns c =
     let w = c.before.before.before in
     let z = w.before.before.before in
@@ -36,8 +36,8 @@ returns c =
         waiting = (z.requires.0.valid.laid k).waiting;
       };
     })
-    ∙ sym (remove-outcome z.requires.0 z.requires.1 (waitingIn m) (rw t) false false (not-over waitingLimit (waitingIn m) f.number)
-    (none-overlong (waitingIn m) (λ r i. (f.waiting r i).keys)))
+    ∙ sym (remove-outcome z.requires.0 z.requires.1 (waiting_in m) (rw t) false false (not-over waiting_limit (waiting_in m) f.number)
+    (none-overlong (waiting_in m) (λ r i. (f.waiting r i).keys)))
 
 push-requires : tie.Need-push-requires
 push-requires c κs = omega (arith, ap (λ k. k.len) c.new.ensures)
@@ -52,8 +52,8 @@ join-requires c κs =
 
 -- what waits then
 held : (c : tie.After-join) → let z = c.before.before.before.before.before.before.before in
-    c.join.result ≡ joinedAs (heldAfter (seenBy z.args.self) (waitingIn z.args.self) z.args.r)
-unfolding heldAfter
+    c.join.result ≡ joined_as (held_after (seen_by z.args.self) (waiting_in z.args.self) z.args.r)
+unfolding held_after
 held c =
     let p = c.before in
     let i = p.before.before in

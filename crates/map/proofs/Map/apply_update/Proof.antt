@@ -8,19 +8,19 @@ use lib.ListN.{length}
 use Rattle.listlaws.specs.Order.{◌∈◌}
 use Rattle.listlaws.specs.Sift.{sift, those}
 use Rattle.listlaws.proofs.Sifts.{sift-append, sift-one}
-use Rattle.limits.specs.Limits.{dotLimit}
-use Rattle.clock.specs.Dots.{counterIn, addDot}
+use Rattle.limits.specs.Limits.{dot_limit}
+use Rattle.clock.specs.Dots.{counter_in, add_dot}
 use Rattle.clock.proofs.Packs.{over-means, within-means, within-clock, dots-of}
 use Rattle.entries.specs.declared.Entry.{Entry}
 use Rattle.entries.specs.Model.{LaidDown}
 use Rattle.entries.specs.Steps.{Finishes}
-use Rattle.removals.specs.Model.{waitingAs}
+use Rattle.removals.specs.Model.{waiting_as}
 use Rattle.removals.specs.Waits.{waits}
-use Rattle.entries.specs.Entries.{stays, run, aside, putEntry, entry_at, putEntries}
+use Rattle.entries.specs.Entries.{stays, run, aside, put_entry, entry_at, put_entries}
 use Rattle.entries.proofs.Runs.{run-laid}
 use Rattle.entries.proofs.Packs.{laid-put}
 use Rattle.entries.proofs.Finishing.{finish-open}
-use Rattle.map.specs.Model.{seenBy, entriesIn, waitingIn}
+use Rattle.map.specs.Model.{seen_by, entries_in, waiting_in}
 use Rattle.map.specs.Updating.{update}
 use Rattle.map.proofs.Verdicts.{judged-within}
 use Rattle.map.proofs.Outcomes.{update-outcome, put-fits}
@@ -38,7 +38,7 @@ returns c =
 
 -- the dot is new
 new : (c : tie.Else1) → let z = c.before.before.before.before in
-    counterIn (seenBy z.args.self) z.args.u.dot.actor < z.args.u.dot.counter
+    counter_in (seen_by z.args.self) z.args.u.dot.actor < z.args.u.dot.counter
 new c = rw c.before.before.get.ensures at c.if1.false
 
 returns-2 : tie.Need-returns-2
@@ -72,8 +72,8 @@ side-requires-2 c κs =
 
 -- the finished entries
 all : (c : tie.After-side2) → let z = c.before.before.before.before.before.before.before.before.before.before.before.before.before in
-    Finishes (sift stays (run (waitingIn z.args.self)) (putEntries z.args.u (entriesIn z.args.self))) c.side2.result
-unfolding putEntries
+    Finishes (sift stays (run (waiting_in z.args.self)) (put_entries z.args.u (entries_in z.args.self))) c.side2.result
+unfolding put_entries
 all c =
     let a = c.before in
     let r = a.before in
@@ -84,11 +84,11 @@ all c =
     let z = n.before.before.before.before.before.before.before in
     let m = z.args.self in
     let u = z.args.u in
-    let ws = waitingIn m in
-    let laid : (e : Entry) → e ∈ entriesIn m → LaidDown e = λ e i. (z.requires.0.valid.entries.each e i).laid in
-    let put = putEntry u (entry_at u.key (entriesIn m)) in
-    let before = those (aside true u.key) (entriesIn m) in
-    let behind = those (aside false u.key) (entriesIn m) in
+    let ws = waiting_in m in
+    let laid : (e : Entry) → e ∈ entries_in m → LaidDown e = λ e i. (z.requires.0.valid.entries.each e i).laid in
+    let put = put_entry u (entry_at u.key (entries_in m)) in
+    let before = those (aside true u.key) (entries_in m) in
+    let behind = those (aside false u.key) (entries_in m) in
     let parts : sift stays (run ws) (before ++ (put ∷ behind)) ≡ (sift stays (run ws) before ++ those stays (run ws put ∷ [])) ++ sift stays
     (run ws) behind =
     sift-append stays (run ws) before (put ∷ behind)
@@ -100,7 +100,7 @@ all c =
 
 -- the map clock has room for the dot
 room : (c : tie.After-side2) → let z = c.before.before.before.before.before.before.before.before.before.before.before.before.before in
-    length (addDot (seenBy z.args.self) z.args.u.dot) ≤ dotLimit
+    length (add_dot (seen_by z.args.self) z.args.u.dot) ≤ dot_limit
 room c = let i = c.before.before.before.before.before.before.before in within-means _ i.before.add.ensures i.if2.false
 
 returns-3 : tie.Need-returns-3
@@ -130,7 +130,7 @@ returns-5 c =
     let few = rw (all s).count at k.before.if3.false in
     let thin = sym (all s).wide ∙ k.if4.false in
     let clock = within-clock _ i.before.add.ensures i.if2.false in
-    let left = o.uncovered.ensures ∙ ap (λ d. waitingAs (those (waits d) (waitingIn z.args.self))) (dots-of _ clock) in
+    let left = o.uncovered.ensures ∙ ap (λ d. waiting_as (those (waits d) (waiting_in z.args.self))) (dots-of _ clock) in
     c.accepted.ensures
     ∙ (λ x. record { number = 0; map = record { clock = clock x; entries = finish-open (all s) few thin x; waiting = left x } })
     ∙ sym (update-outcome z.requires.0 z.requires.1 (new n) false false false (le-ltb _ _ (room s)) (le-ltb _ _ few) thin)

@@ -7,19 +7,19 @@ use lib.ListN.{length}
 use Rattle.listlaws.specs.Order.{◌∈◌}
 use Rattle.listlaws.specs.Sift.{those}
 use Rattle.listlaws.proofs.Those.{those-means}
-use Rattle.limits.specs.Limits.{dotLimit}
-use Rattle.clock.specs.Dots.{dotsOf, joinDots}
+use Rattle.limits.specs.Limits.{dot_limit}
+use Rattle.clock.specs.Dots.{dots_of, join_dots}
 use Rattle.clock.proofs.Packs.{over-means, within-means, within-clock, dots-of}
 use Rattle.removals.specs.declared.Removal.{Removal}
-use Rattle.removals.specs.Model.{listedIn, keysAs}
-use Rattle.removals.specs.Counted.{joinedAs}
-use Rattle.removals.specs.Waits.{waits, uniteAll}
+use Rattle.removals.specs.Model.{listed_in, keys_as}
+use Rattle.removals.specs.Counted.{joined_as}
+use Rattle.removals.specs.Waits.{waits, unite_all}
 use Rattle.removals.proofs.Packs.{waiting-from}
 use Rattle.entries.proofs.ClocksFit.{both-fit, keep-fits}
 use Rattle.entries.proofs.Finishing.{finish-open}
 use Rattle.removals.proofs.Joining.{joined-count, joined-long, joined-open}
 use Rattle.map.specs.declared.Map.{Map}
-use Rattle.map.specs.Model.{seenBy, waitingIn}
+use Rattle.map.specs.Model.{seen_by, waiting_in}
 use Rattle.map.specs.Valid.{Within}
 use Rattle.map.proofs.Outcomes.{merge-outcome}
 use borrow.Author.Rules.{rules}
@@ -35,7 +35,7 @@ returns c =
 
 -- the joined clock is within the limit
 room : (c : tie.Else1) → let z = c.before.before.before.before in
-    length (joinDots (seenBy z.args.self) (seenBy z.args.other)) ≤ dotLimit
+    length (join_dots (seen_by z.args.self) (seen_by z.args.other)) ≤ dot_limit
 room c = within-means _ c.before.join.ensures c.if1.false
 
 merge-requires : tie.Need-merge-requires
@@ -68,12 +68,12 @@ returns-3 c =
 
 -- the clock of the merged map
 clock : (c : tie.Else1) → let z = c.before.before.before.before in
-    dotsOf c.before.join.result.clock ≡ joinDots (seenBy z.args.self) (seenBy z.args.other)
+    dots_of c.before.join.result.clock ≡ join_dots (seen_by z.args.self) (seen_by z.args.other)
 clock c = dots-of _ (within-clock _ c.before.join.ensures c.if1.false)
 
 -- the keys of what waits are laid down
-laid : {m : Map} → Within m → (p : Removal → Bool) (r : Removal) → r ∈ those p (waitingIn m) → r.keys ≡ keysAs (listedIn r)
-laid {m} i p r k = ap (λ x. x.keys) (i.valid.waiting.each r (those-means p (waitingIn m) k).0).laid
+laid : {m : Map} → Within m → (p : Removal → Bool) (r : Removal) → r ∈ those p (waiting_in m) → r.keys ≡ keys_as (listed_in r)
+laid {m} i p r k = ap (λ x. x.keys) (i.valid.waiting.each r (those-means p (waiting_in m) k).0).laid
 
 join-requires-2 : tie.Need-join-requires-2
 join-requires-2 c κs =
@@ -86,8 +86,8 @@ join-requires-2 c κs =
 
 -- what waits still
 held : (c : tie.After-join2) → let z = c.before.before.before.before.before.before.before.before.before.before.before.before.before.before in
-    c.join2.result ≡ joinedAs (uniteAll (those (waits (joinDots (seenBy z.args.self) (seenBy z.args.other))) (waitingIn z.args.self))
-    (those (waits (joinDots (seenBy z.args.self) (seenBy z.args.other))) (waitingIn z.args.other)))
+    c.join2.result ≡ joined_as (unite_all (those (waits (join_dots (seen_by z.args.self) (seen_by z.args.other))) (waiting_in z.args.self))
+    (those (waits (join_dots (seen_by z.args.self) (seen_by z.args.other))) (waiting_in z.args.other)))
 held c =
     let v = c.before in
     let u = v.before in

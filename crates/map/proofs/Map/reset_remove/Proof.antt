@@ -3,13 +3,13 @@ use mathlib.Core.Path.{ap, sym, ◌∙◌}
 use mathlib.Core.Bool.{true, false}
 use Prim.Native.Nat.{◌≤◌}
 use lib.ListN.{length}
-use Rattle.clock.specs.Dots.{dotsOf}
+use Rattle.clock.specs.Dots.{dots_of}
 use Rattle.clock.proofs.Packs.{cut_left}
-use Rattle.limits.specs.Limits.{waitingLimit}
-use Rattle.removals.specs.Waits.{resetWaiting}
+use Rattle.limits.specs.Limits.{waiting_limit}
+use Rattle.removals.specs.Waits.{reset_waiting}
 use Rattle.removals.proofs.Resetting.{reset-short, reset-over}
 use Rattle.removals.proofs.Lengths.{reset-few}
-use Rattle.map.specs.Model.{waitingIn}
+use Rattle.map.specs.Model.{waiting_in}
 use Rattle.map.proofs.Accepts.{fits-means}
 use Rattle.map.proofs.Outcomes.{reset-outcome}
 use borrow.Author.Rules.{rules}
@@ -25,9 +25,9 @@ returns c =
     let l = c.before.before in
     let z = l.before.before.before.before in
     let m = z.args.self in
-    let w = resetWaiting (dotsOf z.args.by) (waitingIn m) in
-    let few : length w ≤ waitingLimit = omega (arith, reset-few (dotsOf z.args.by) (waitingIn m), (fits-means m z.requires.limits).number) in
-    c.refused.ensures ∙ sym (reset-outcome z.requires (dotsOf z.args.by) few true
+    let w = reset_waiting (dots_of z.args.by) (waiting_in m) in
+    let few : length w ≤ waiting_limit = omega (arith, reset-few (dots_of z.args.by) (waiting_in m), (fits-means m z.requires.limits).number) in
+    c.refused.ensures ∙ sym (reset-outcome z.requires (dots_of z.args.by) few true
     (sym (ap (λ h. h.over) l.reset2.ensures ∙ reset-over w) ∙ c.before.if1.true))
 
 returns-2 : tie.Need-returns-2
@@ -36,8 +36,8 @@ returns-2 c =
     let l = i.before in
     let z = l.before.before.before.before in
     let m = z.args.self in
-    let w = resetWaiting (dotsOf z.args.by) (waitingIn m) in
-    let few : length w ≤ waitingLimit = omega (arith, reset-few (dotsOf z.args.by) (waitingIn m), (fits-means m z.requires.limits).number) in
+    let w = reset_waiting (dots_of z.args.by) (waiting_in m) in
+    let few : length w ≤ waiting_limit = omega (arith, reset-few (dots_of z.args.by) (waiting_in m), (fits-means m z.requires.limits).number) in
     let short = sym (ap (λ h. h.over) l.reset2.ensures ∙ reset-over w) ∙ i.if1.false in
     let left = ap (λ h. h.waiting) (l.reset2.ensures ∙ reset-short w short) in
     c.accepted.ensures
@@ -50,7 +50,7 @@ returns-2 c =
         waiting = left k;
       };
     })
-    ∙ sym (reset-outcome z.requires (dotsOf z.args.by) few false short)
+    ∙ sym (reset-outcome z.requires (dots_of z.args.by) few false short)
 
 pub reset-remove-spec : {M : Type 1} → statement M
 reset-remove-spec =

@@ -3,8 +3,8 @@ use mathlib.Core.Path.{refl, sym, subst}
 use mathlib.Core.List.{[]}
 use native.Mathlib.Omega.{arith}
 use borrow.Author.Rules.{rules}
-use Rattle.clock.specs.Dots.{dotsOf}
-use Rattle.entries.specs.Model.{valuesIn}
+use Rattle.clock.specs.Dots.{dots_of}
+use Rattle.entries.specs.Model.{values_in}
 use Rattle.queued.specs.Queue.{Marked}
 use Rattle.sketch.specs.Drawn.{Draws}
 use Rattle.entrywalk.proofs.Lying.{runs_of}
@@ -40,8 +40,8 @@ returns c =
     let two = c.draw-values2.ensures.1 a.s.now
     a.t.now key d _ f u w refl one k q r (subst (λ i. Marked u i a.theirs) (sym same) m) (subst (λ i. Marked w i a.ours) (sym same) n) in
     subst (λ l. Draws a.s.now a.t.now key d l c.draw-values2.result)
-    (both_left w u (dotsOf a.c.gone) e f o.stands.result.ours o.stands.result.theirs same
-    (o.stands.ensures (valuesIn e) (valuesIn f) (runs_of h) (runs_of k))) two
+    (both_left w u (dots_of a.c.gone) e f o.stands.result.ours o.stands.result.theirs same
+    (o.stands.ensures (values_in e) (values_in f) (runs_of h) (runs_of k))) two
 
 pub draw-both-spec : {M : Type 1} → statement M
 draw-both-spec =

@@ -9,28 +9,28 @@ use borrow.Author.Rules.{rules}
 use borrow.Author.Tests.{ltb-false}
 use Rattle.listlaws.proofs.Orders.{apart}
 use Rattle.clock.specs.declared.Dot.{Dot}
-use Rattle.clock.specs.Dots.{dotsOf, is_empty}
+use Rattle.clock.specs.Dots.{dots_of, is_empty}
 use Rattle.clock.specs.Lawful.{Lawful}
 use Rattle.clock.proofs.Packs.{dots-of}
-use Rattle.limits.specs.Limits.{entryLimit}
+use Rattle.limits.specs.Limits.{entry_limit}
 use Rattle.map.specs.declared.Map.{Map}
-use Rattle.map.specs.Model.{seenBy, waitingIn}
-use Rattle.maprecords.specs.Related.{readMap}
-use Rattle.mapimage.specs.MapImage.{keyNumber}
+use Rattle.map.specs.Model.{seen_by, waiting_in}
+use Rattle.maprecords.specs.Related.{read_map}
+use Rattle.mapimage.specs.MapImage.{key_number}
 use Rattle.queued.specs.Queue.{Marked, Keyed}
-use Rattle.sketch.specs.Drawn.{clockApart}
+use Rattle.sketch.specs.Drawn.{clock_apart}
 use Rattle.sketch.proofs.Adding.{sketch-none, push-one, push-over}
 use Rattle.merging.specs.Coming.{MergeComes}
-use Rattle.merging.proofs.Merges.{Drawing, drawing-start, fit-both, cutKey, Drew, drew, grown-goes, grown-stays, drawing-on, drawing-end}
+use Rattle.merging.proofs.Merges.{Drawing, drawing-start, fit-both, cut_key, Drew, drew, grown-goes, grown-stays, drawing-on, drawing-end}
 use Rattle.merging.proofs.Merges.{comes-seen}
 use Rattle.leaving.proofs.Fates.{some_left, none_left}
 use Rattle.merging.proofs.drawing.draw_keys.Statement.{statement}
 use Rattle.merging.proofs.drawing.draw_keys.Tie as tie
 
 abbrev invariant-loop : tie.invariant-loop
-invariant-loop s t cs ds l m mine yours third last items₀ sums₀ f₀ g₀ x₀ y₀ items sums f g x y = Drawing (readMap s).map (readMap t).map s t l m
+invariant-loop s t cs ds l m mine yours third last items₀ sums₀ f₀ g₀ x₀ y₀ items sums f g x y = Drawing (read_map s).map (read_map t).map s t l m
     (record { items = items; sums = sums }) f g x y
-    × (length items ≡ entryLimit)
+    × (length items ≡ entry_limit)
 
 abbrev decreases-loop : tie.decreases-loop
 decreases-loop s t cs ds l m mine yours third last items₀ sums₀ f₀ g₀ x₀ y₀ items sums f g x y = (third - x.own) + (last - y.own)
@@ -50,8 +50,8 @@ next-requires c κs =
       c.if1.true,
       (
         (
-          subst (λ z. Lawful (dotsOf z)) (sym a.clock) a.lies.within.valid.clock,
-          subst (λ z. Lawful (dotsOf z)) (sym b.clock) b.lies.within.valid.clock,
+          subst (λ z. Lawful (dots_of z)) (sym a.clock) a.lies.within.valid.clock,
+          subst (λ z. Lawful (dots_of z)) (sym b.clock) b.lies.within.valid.clock,
         ),
         (d.es, d.fs, d.ours, d.theirs, fit-both d a.lies b.lies p.1.1.1),
       ),
@@ -60,13 +60,13 @@ next-requires c κs =
 -- what comes next
 came : (c : tie.After-next invariant-loop decreases-loop) → let w = c.before.before.before.before in
     let a = w.before.before.before.before.before.before.before.before.before.before.args in
-    MergeComes a.s.now a.t.now a.a.layout a.b.layout (seenBy (readMap a.s.now).map) (seenBy (readMap a.t.now).map)
+    MergeComes a.s.now a.t.now a.a.layout a.b.layout (seen_by (read_map a.s.now).map) (seen_by (read_map a.t.now).map)
     w.loop.x w.loop.y w.loop.invariant.0.es w.loop.invariant.0.fs c.next.result
 came c =
     let w = c.before.before.before.before in
     let d = w.loop.invariant.0 in
     let p = w.before.before.before.before.before.before.before.before.before.before.requires in
-    comes-seen (ap dotsOf p.0.0.clock) (ap dotsOf p.0.1.clock) (c.next.ensures d.es d.fs d.ours d.theirs)
+    comes-seen (ap dots_of p.0.0.clock) (ap dots_of p.0.1.clock) (c.next.ensures d.es d.fs d.ours d.theirs)
 
 listers-requires : tie.Need-listers-requires invariant-loop decreases-loop
 listers-requires c κs = let d = c.before.before.before.before.before.before.before.before.loop.invariant.0 in
@@ -130,10 +130,10 @@ module _ (c : tie.After-draw-key invariant-loop decreases-loop) where
   z = w.before.before.before.before.before.before.before.before.before.before
 
   abbrev m : Map
-  m = (readMap z.args.s.now).map
+  m = (read_map z.args.s.now).map
 
   abbrev n : Map
-  n = (readMap z.args.t.now).map
+  n = (read_map z.args.t.now).map
 
   abbrev key : ℕ
   key = k.next.result.x.key
@@ -141,28 +141,28 @@ module _ (c : tie.After-draw-key invariant-loop decreases-loop) where
   bound : w.loop.inv.0.low ≤ key
   bound = let d = w.loop.inv.0 in (came k).least d.low d.above d.over
 
-  ours : let r = i.before.listers.result in Marked (waitingIn m) key r.under
-      × Keyed z.args.s.now r.next z.args.a.layout.end (keyNumber 0 (key + 1)) (waitingIn m)
-  ours = i.before.listers.ensures.1 (keyNumber 0 w.loop.inv.0.low) (waitingIn m) w.loop.inv.0.listed (omega (arith, bound))
+  ours : let r = i.before.listers.result in Marked (waiting_in m) key r.under
+      × Keyed z.args.s.now r.next z.args.a.layout.end (key_number 0 (key + 1)) (waiting_in m)
+  ours = i.before.listers.ensures.1 (key_number 0 w.loop.inv.0.low) (waiting_in m) w.loop.inv.0.listed (omega (arith, bound))
 
-  theirs : let r = i.listers2.result in Marked (waitingIn n) key r.under
-      × Keyed z.args.t.now r.next z.args.b.layout.end (keyNumber 0 (key + 1)) (waitingIn n)
-  theirs = i.listers2.ensures.1 (keyNumber 0 w.loop.inv.0.low) (waitingIn n) w.loop.inv.0.others (omega (arith, bound))
+  theirs : let r = i.listers2.result in Marked (waiting_in n) key r.under
+      × Keyed z.args.t.now r.next z.args.b.layout.end (key_number 0 (key + 1)) (waiting_in n)
+  theirs = i.listers2.ensures.1 (key_number 0 w.loop.inv.0.low) (waiting_in n) w.loop.inv.0.others (omega (arith, bound))
 
   drawn : Drew w.loop.inv.0 (came k) key (came k).gone c.draw-key.result
   drawn =
       let r = came k in
       let p = z.pre in
-      drew w.loop.inv.0 r (c.draw-key.ensures r.keep r.ours r.theirs (waitingIn n) (waitingIn m) r.kept r.here r.there
+      drew w.loop.inv.0 r (c.draw-key.ensures r.keep r.ours r.theirs (waiting_in n) (waiting_in m) r.kept r.here r.there
       r.level p.1.0.1 p.1.0.0
-      (subst (λ x. Marked (waitingIn n) x i.listers2.result.under) r.here.key theirs.0)
-      (subst (λ x. Marked (waitingIn m) x i.before.listers.result.under) r.here.key ours.0))
+      (subst (λ x. Marked (waiting_in n) x i.listers2.result.under) r.here.key theirs.0)
+      (subst (λ x. Marked (waiting_in m) x i.before.listers.result.under) r.here.key ours.0))
 
-  abbrev drawnDots : List Dot
-  drawnDots = dotsOf (clockApart c.draw-key.result.own)
+  abbrev drawn_dots : List Dot
+  drawn_dots = dots_of (clock_apart c.draw-key.result.own)
 
-  left : is_empty (cutKey w.loop.inv.0 (came k)) ≡ is_empty drawnDots
-  left = ap is_empty (sym (dots-of (cutKey w.loop.inv.0 (came k)) drawn.0))
+  left : is_empty (cut_key w.loop.inv.0 (came k)) ≡ is_empty drawn_dots
+  left = ap is_empty (sym (dots-of (cut_key w.loop.inv.0 (came k)) drawn.0))
 
 loop-again : tie.Need-loop-preserved invariant-loop decreases-loop
 loop-again c =
@@ -170,7 +170,7 @@ loop-again c =
     let d = (w v).loop.invariant.0 in
     let long = (w v).loop.invariant.1 in
     let r = came (k v) in
-    let e = left v ∙ some_left (drawnDots v) c.before.before.before.size.ensures.0 c.before.before.if2.true in
+    let e = left v ∙ some_left (drawn_dots v) c.before.before.before.size.ensures.0 c.before.before.if2.true in
     let s = c.before.with.ensures in (
       drawing-on d r (ours v).1 (theirs v).1 (omega (arith, s.0))
           (grown-stays d r e (λ done g. push-one g ((drawn v).1 e) (s.1 _ _ _ _ _ _ g.sums ((drawn v).1 e)) s.0 long c.if3.true)),
@@ -182,7 +182,7 @@ loop-again-2 c =
     let v = c.before.before.before.before.before in
     let d = (w v).loop.invariant.0 in
     let r = came (k v) in
-    let e = left v ∙ some_left (drawnDots v) c.before.before.before.size.ensures.0 c.before.before.if2.true in
+    let e = left v ∙ some_left (drawn_dots v) c.before.before.before.size.ensures.0 c.before.before.if2.true in
     let s = c.before.with.ensures in (
       drawing-on d r (ours v).1 (theirs v).1 (omega (arith, s.0))
           (grown-stays d r e (λ done g. push-over g ((drawn v).1 e) (s.1 _ _ _ _ _ _ g.sums ((drawn v).1 e)) s.0 (omega arith))),
@@ -195,7 +195,7 @@ loop-again-3 c =
     let d = (w v).loop.invariant.0 in
     let r = came (k v) in (
       drawing-on d r (ours v).1 (theirs v).1 (omega arith) (grown-goes d r
-          (left v ∙ none_left (drawnDots v) c.before.size.ensures.0 c.if2.false)),
+          (left v ∙ none_left (drawn_dots v) c.before.size.ensures.0 c.if2.false)),
       (w v).loop.invariant.1,
     )
 

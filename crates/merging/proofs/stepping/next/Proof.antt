@@ -3,7 +3,7 @@ use mathlib.Core.Path.{◌≡◌}
 use Prim.Native.Nat.{◌<◌}
 use native.Mathlib.Omega.{arith}
 use borrow.Author.Rules.{rules}
-use Rattle.entrywalk.specs.Walking.{beyondKeys}
+use Rattle.entrywalk.specs.Walking.{beyond_keys}
 use Rattle.entrywalk.proofs.Fronts.{front-first, front_above, some_key, first-in}
 use Rattle.merging.proofs.Comings.{comes-ours, comes-theirs, comes-both}
 use Rattle.merging.proofs.stepping.next.Statement.{statement}
@@ -36,7 +36,7 @@ returns c = λ es fs h k.
     let i = a.before in
     let f = i.before.before.head.ensures in
     let q = i.before.head2.ensures in
-    let low : i.before.before.head.result < beyondKeys = omega (arith, q.0, i.if1.true) in
+    let low : i.before.before.head.result < beyond_keys = omega (arith, q.0, i.if1.true) in
     let g = a.alone.ensures es h in
     let same = front-first h f low g.steps.entry g.steps.more g.steps.parts in
     comes-ours _ _ _ _ _ _ _ _ es fs h k _ _ g i.before.before.before.before.before.requires.1.0.1
@@ -49,7 +49,7 @@ returns-2 c = λ es fs h k.
     let i = a.before in
     let f = i.before.before.before.head.ensures in
     let q = i.before.before.head2.ensures in
-    let low : i.before.before.head2.result < beyondKeys = omega (arith, f.0, i.if2.true) in
+    let low : i.before.before.head2.result < beyond_keys = omega (arith, f.0, i.if2.true) in
     let g = a.alone2.ensures fs k in
     let same = front-first k q low g.steps.entry g.steps.more g.steps.parts in
     comes-theirs _ _ _ _ _ _ _ _ es fs h k _ _ g i.before.before.before.before.before.before.requires.1.0.0

@@ -2,14 +2,14 @@
 use mathlib.Core.Path.{refl}
 use Rattle.listlaws.specs.Sift.{sift}
 use Rattle.listlaws.specs.Fold.{fold}
-use Rattle.opimage.specs.OpImage.{recordOf}
+use Rattle.opimage.specs.OpImage.{record_of}
 use Rattle.opimage.proofs.Packs.{no-counts}
 use borrow.Author.Rules.{rules}
 use Rattle.opimage.proofs.OpReader.new.Statement.{statement}
 use Rattle.opimage.proofs.OpReader.new.Tie as tie
 
 returns : tie.Need-returns
-unfolding sift fold recordOf
+unfolding sift fold record_of
 returns c = record {
   scanned = c.before.before.new.ensures 7 12;
   parts = λ _. record {

@@ -1,6 +1,6 @@
 -- `OpReader::verdict` meets its contract.
 use borrow.Author.Tests.{eq-eqb, ne_eqb}
-use Rattle.clockimage.specs.Image.{contentOf}
+use Rattle.clockimage.specs.Image.{content_of}
 use Rattle.opimage.proofs.Packs.{related-counts, one_of}
 use borrow.Author.Rules.{rules}
 use Rattle.opimage.proofs.OpReader.verdict.Statement.{statement}
@@ -33,7 +33,7 @@ returns-2 c l s =
         update = record {
           dot = record { actor = (p.head i).actor; counter = (p.head i).number };
           key = (p.head i).key;
-          put = record { clock = p.put i; value = contentOf (p.value i) };
+          put = record { clock = p.put i; value = content_of (p.value i) };
         };
       };
     })

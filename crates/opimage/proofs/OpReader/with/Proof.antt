@@ -3,9 +3,9 @@ use mathlib.Core.Path.{refl, ap, sym, ◌∙◌}
 use Prim.Native.Nat.{◌<◌}
 use lib.ListN.{length}
 use borrow.Author.Tests.{eqb-true}
-use Rattle.clock.specs.Dots.{clockOf}
-use Rattle.removals.specs.Model.{keysAs}
-use Rattle.clockimage.specs.Image.{isKind}
+use Rattle.clock.specs.Dots.{clock_of}
+use Rattle.removals.specs.Model.{keys_as}
+use Rattle.clockimage.specs.Image.{is_kind}
 use Rattle.clockimage.proofs.Dots.{dots-room, dots-snoc}
 use Rattle.opimage.proofs.Parts.{keys-snoc, record-snoc, counts-snoc, keys-room, kind-known}
 use borrow.Author.Rules.{rules}
@@ -42,10 +42,10 @@ returns c l p s =
         head = at_head.latest.ensures ∙ rw p.head (sym (record-snoc 10 l _));
         value = at_value.latest2.ensures ∙ rw p.value (sym (record-snoc 11 l _));
         under = at_under.clock-with.ensures _ p.under (λ t. dots-room 7 12 l _ z 8 (eqb-true _ 8 t) (λ b. omega arith) refl refl)
-            ∙ ap clockOf (sym (dots-snoc (isKind 8) l _));
-        keys = at-keys.keys_with.ensures _ p.keys ∙ ap keysAs (sym (keys-snoc (isKind 9) l _));
+            ∙ ap clock_of (sym (dots-snoc (is_kind 8) l _));
+        keys = at-keys.keys_with.ensures _ p.keys ∙ ap keys_as (sym (keys-snoc (is_kind 9) l _));
         put = c.clock-with2.ensures _ p.put (λ t. dots-room 7 12 l _ z 12 (eqb-true _ 12 t) (λ b. omega arith) refl refl)
-            ∙ ap clockOf (sym (dots-snoc (isKind 12) l _));
+            ∙ ap clock_of (sym (dots-snoc (is_kind 12) l _));
       };
     }
 

@@ -6,13 +6,13 @@ use mathlib.Core.List.{◌∷◌}
 use Prim.Native.Nat.{◌+◌, ◌/◌, ◌≤◌, ◌<◌, ◌-◌}
 use lib.ListN.{length, get_or}
 use borrow.Author.Tests.{ltb-true, ltb-false}
-use Rattle.limits.specs.Limits.{dotLimit}
-use Rattle.removals.specs.Waits.{clockBefore}
+use Rattle.limits.specs.Limits.{dot_limit}
+use Rattle.removals.specs.Waits.{clock_before}
 use Rattle.removals.proofs.ClockOrder.{before-actor, before-counter, before-rest}
-use Rattle.runs.specs.Run.{runDots}
+use Rattle.runs.specs.Run.{run_dots}
 use Rattle.marks.specs.Marks.{picked}
 use Rattle.marks.proofs.Dots.{length_run}
-use Rattle.planned.proofs.Comparing.{leftFrom, next-dot, compared}
+use Rattle.planned.proofs.Comparing.{left_from, next-dot, compared}
 use borrow.Author.Rules.{rules}
 use native.Mathlib.Omega.{arith}
 use Rattle.planned.proofs.left.left_before.Statement.{statement}
@@ -21,8 +21,8 @@ use Rattle.planned.proofs.left.left_before.Tie as tie
 abbrev invariant-loop : tie.invariant-loop
 invariant-loop x mine y yours n m i₀ j₀ i j =
     ((i ≤ n) × (j ≤ m)) × (((i < n → get_or mine i false ≡ true) × (j < m → get_or yours j false ≡ true))
-    × (clockBefore (picked mine (runDots x)) (picked yours (runDots y)) ≡ clockBefore (leftFrom x mine i) (leftFrom y yours j)))
-    × ((length mine ≡ dotLimit) × (length yours ≡ dotLimit))
+    × (clock_before (picked mine (run_dots x)) (picked yours (run_dots y)) ≡ clock_before (left_from x mine i) (left_from y yours j)))
+    × ((length mine ≡ dot_limit) × (length yours ≡ dot_limit))
 
 abbrev decreases-loop : tie.decreases-loop
 decreases-loop x mine y yours n m i₀ j₀ i j = n - i
@@ -31,7 +31,7 @@ loop-holds : tie.Need-loop-init invariant-loop decreases-loop
 loop-holds c =
     let a = c.before.next-left.ensures in
     let b = c.next-left2.ensures in
-    ((a.0.1, b.0.1), ((a.1.0, b.1.0), ap₂ clockBefore (a.1.1 _ (length_run _)) (b.1.1 _ (length_run _))), (search rules, search rules))
+    ((a.0.1, b.0.1), ((a.1.0, b.1.0), ap₂ clock_before (a.1.1 _ (length_run _)) (b.1.1 _ (length_run _))), (search rules, search rules))
 
 dot-at-requires-2 : tie.Need-dot-at-requires-2 invariant-loop decreases-loop
 dot-at-requires-2 c κs = omega (arith, ltb-true)
@@ -39,15 +39,15 @@ dot-at-requires-2 c κs = omega (arith, ltb-true)
 -- what is left begins with the two dots
 meet : (c : tie.After-dot-at2 invariant-loop decreases-loop) → let s = c.before.before.before.before in let a = s.before.before.before.before.before.args
     in
-    clockBefore (picked a.mine (runDots a.x.now)) (picked a.yours (runDots a.y.now))
-    ≡ clockBefore (c.before.dot_at.result ∷ leftFrom a.x.now a.mine (s.loop.i + 1))
-    (c.dot-at2.result ∷ leftFrom a.y.now a.yours (s.loop.j + 1))
+    clock_before (picked a.mine (run_dots a.x.now)) (picked a.yours (run_dots a.y.now))
+    ≡ clock_before (c.before.dot_at.result ∷ left_from a.x.now a.mine (s.loop.i + 1))
+    (c.dot-at2.result ∷ left_from a.y.now a.yours (s.loop.j + 1))
 meet c =
     let s = c.before.before.before.before in
     let g = s.loop.invariant in
     let k : s.loop.j < length s.before.before.before.before.before.args.y.now / 16 = ltb-true _ _ c.before.before.if1.true in
     let a = s.before.before.before.before.before.args in
-    g.1.1 ∙ ap₂ clockBefore (next-dot a.x.now a.mine s.loop.i (let n = g.2.0 in omega (arith, n))
+    g.1.1 ∙ ap₂ clock_before (next-dot a.x.now a.mine s.loop.i (let n = g.2.0 in omega (arith, n))
     c.before.before.before.loop-test.true (g.1.0.0 c.before.before.before.loop-test.true) c.before.dot_at.ensures)
     (next-dot a.y.now a.yours s.loop.j (let n = g.2.1 in omega (arith, n)) k (g.1.0.1 k) c.dot-at2.ensures)
 
@@ -67,7 +67,7 @@ loop-again c =
         (a.1.0, b.1.0),
         meet c.before.before.before.before.before.before.before.before
             ∙ before-rest _ _ _ _ c.before.before.before.before.before.if2.false c.before.before.if3.false
-            ∙ ap₂ clockBefore (a.1.1 _ (length_run _)) (b.1.1 _ (length_run _)),
+            ∙ ap₂ clock_before (a.1.1 _ (length_run _)) (b.1.1 _ (length_run _)),
       ),
       c.before.before.before.before.before.before.before.before.before.before.before.before.loop.invariant.2,
     )

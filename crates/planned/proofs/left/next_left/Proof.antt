@@ -4,7 +4,7 @@ use mathlib.Core.List.{List}
 use Prim.Native.Nat.{◌≤◌, ◌-◌}
 use lib.ListN.{length, drop}
 use Rattle.clock.specs.declared.Dot.{Dot}
-use Rattle.clock.specs.Dots.{noDot}
+use Rattle.clock.specs.Dots.{no_dot}
 use Rattle.marks.specs.Marks.{picked}
 use Rattle.marks.proofs.Picks.{picked-no}
 use borrow.Author.Rules.{rules}
@@ -30,7 +30,7 @@ loop-again c =
     let t = c.before.before in
     let g = t.loop.invariant in (
       (omega arith, omega arith),
-      λ l e. g.1 l e ∙ picked-no _ l t.loop.i noDot (omega arith) (omega arith) c.if1.false,
+      λ l e. g.1 l e ∙ picked-no _ l t.loop.i no_dot (omega arith) (omega arith) c.if1.false,
     )
 
 returns-2 : tie.Need-returns-2 invariant-loop decreases-loop

@@ -3,10 +3,10 @@ use mathlib.Core.Path.{refl}
 use mathlib.Core.List.{List, map}
 use Prim.Native.Nat.{◌≤◌, ◌-◌}
 use lib.ListN.{length-map}
-use Rattle.clock.specs.Dots.{dotsOf}
+use Rattle.clock.specs.Dots.{dots_of}
 use Rattle.removals.specs.declared.Removal.{Removal}
-use Rattle.removals.specs.Model.{underOf}
-use Rattle.removals.specs.Waits.{cutRemoval}
+use Rattle.removals.specs.Model.{under_of}
+use Rattle.removals.specs.Waits.{cut_removal}
 use Rattle.queued.specs.Queue.{Queued}
 use Rattle.planned.proofs.Lefts.{queue-places}
 use Rattle.planned.proofs.Gathering.{left-some, left-none, Gathers, gathers-start, gathers-on, gathers-not, gathers-end}
@@ -17,7 +17,7 @@ use Rattle.planned.proofs.seating.cut_all.Tie as tie
 
 abbrev invariant-loop : tie.invariant-loop
 invariant-loop s q by n all₀ i₀ all i =
-    ((i ≤ n) × (all.len ≤ i)) × ((w : List Removal) → Queued s q w → Gathers s (map underOf (map (cutRemoval (dotsOf by)) w)) i all)
+    ((i ≤ n) × (all.len ≤ i)) × ((w : List Removal) → Queued s q w → Gathers s (map under_of (map (cut_removal (dots_of by)) w)) i all)
 
 abbrev decreases-loop : tie.decreases-loop
 decreases-loop s q by n all₀ i₀ all i = n - i
@@ -62,9 +62,9 @@ loop-again c =
           let g = t.loop.invariant.1 w q in
           gathers-on g (omega (
             arith,
-            length-map w (cutRemoval (dotsOf t.before.before.before.before.args.by)),
+            length-map w (cut_removal (dots_of t.before.before.before.before.args.by)),
             length-map
-                (map (cutRemoval (dotsOf t.before.before.before.before.args.by)) w) underOf,
+                (map (cut_removal (dots_of t.before.before.before.before.args.by)) w) under_of,
           ))
           (left-some x (c.before.before.count.ensures.1 _ x.placed) c.before.if1.true) (c.add.ensures.1 g.done _ g.lined x),
     )
@@ -79,8 +79,8 @@ loop-again-2 c =
           let x = c.before.before.cut_at.ensures w q (omega arith) in
           gathers-not (t.loop.invariant.1 w q) (omega (
             arith,
-            length-map w (cutRemoval (dotsOf t.before.before.before.before.args.by)),
-            length-map (map (cutRemoval (dotsOf t.before.before.before.before.args.by)) w) underOf,
+            length-map w (cut_removal (dots_of t.before.before.before.before.args.by)),
+            length-map (map (cut_removal (dots_of t.before.before.before.before.args.by)) w) under_of,
           ))
           (left-none x (c.before.count.ensures.1 _ x.placed) (omega (arith, c.if1.false))),
     )
@@ -93,9 +93,9 @@ returns c =
     let k = c.loop-test.false in
     gathers-end (t.loop.invariant.1 w q) (omega (
       arith,
-      length-map w (cutRemoval (dotsOf t.before.before.before.before.args.by)),
+      length-map w (cut_removal (dots_of t.before.before.before.before.args.by)),
       length-map
-          (map (cutRemoval (dotsOf t.before.before.before.before.args.by)) w) underOf,
+          (map (cut_removal (dots_of t.before.before.before.before.args.by)) w) under_of,
     ))
 
 pub cut-all-spec : {M : Type 1} → statement M

@@ -3,7 +3,7 @@ use mathlib.Core.Path.{◌≡◌}
 use Prim.Native.Nat.{◌≤◌, ◌-◌}
 use lib.ListN.{length, get_or}
 use lib.Seq.{get_or-set_same}
-use Rattle.limits.specs.Limits.{waitingLimit}
+use Rattle.limits.specs.Limits.{waiting_limit}
 use Rattle.listlaws.proofs.Pads.{unmapped}
 use Rattle.planned.specs.Planned.{no_held}
 use Rattle.planned.proofs.Inserting.{Moved, moved-start, moved_on, moved-end}
@@ -38,7 +38,7 @@ returns c =
     let t = c.before in
     let p = t.before.requires in
     let k = c.loop-test.false in
-    let n : length t.before.args.t1.items ≡ waitingLimit = search (rules, unmapped) in (
+    let n : length t.before.args.t1.items ≡ waiting_limit = search (rules, unmapped) in (
       search rules,
       λ s l d h x. let e = h.count in
           moved-end h x (omega arith) (omega arith) e (omega arith)

@@ -4,11 +4,11 @@ use mathlib.Core.List.{List, map}
 use Prim.Native.Nat.{◌≤◌, ◌-◌}
 use lib.ListN.{length, length-map, length-set}
 use Rattle.clock.specs.declared.Dot.{Dot}
-use Rattle.clock.specs.Dots.{dotsOf}
+use Rattle.clock.specs.Dots.{dots_of}
 use Rattle.removals.specs.declared.Removal.{Removal}
-use Rattle.limits.specs.Limits.{waitingLimit}
-use Rattle.removals.specs.Model.{underOf}
-use Rattle.removals.specs.Waits.{cutRemoval}
+use Rattle.limits.specs.Limits.{waiting_limit}
+use Rattle.removals.specs.Model.{under_of}
+use Rattle.removals.specs.Waits.{cut_removal}
 use Rattle.queued.specs.Queue.{Queued}
 use Rattle.planned.specs.Left.{Lined}
 use Rattle.planned.proofs.Lefts.{queue-places}
@@ -21,8 +21,8 @@ use Rattle.planned.proofs.seating.seats.Tie as tie
 
 abbrev invariant-loop : tie.invariant-loop
 invariant-loop s q by all n out₀ i₀ out i =
-    ((i ≤ n) × (length out ≡ waitingLimit)) × ((w : List Removal) (l : List (List Dot)) → Queued s q w → Lined s all l
-    → Seated l (map underOf (map (cutRemoval (dotsOf by)) w)) i out)
+    ((i ≤ n) × (length out ≡ waiting_limit)) × ((w : List Removal) (l : List (List Dot)) → Queued s q w → Lined s all l
+    → Seated l (map under_of (map (cut_removal (dots_of by)) w)) i out)
 
 abbrev decreases-loop : tie.decreases-loop
 decreases-loop s q by all n out₀ i₀ out i = n - i
@@ -93,9 +93,9 @@ returns c =
     let k = c.loop-test.false in
     seated-end (t.loop.invariant.1 w l q h) (omega (
       arith,
-      length-map w (cutRemoval (dotsOf t.before.before.before.args.by)),
+      length-map w (cut_removal (dots_of t.before.before.before.args.by)),
       length-map
-          (map (cutRemoval (dotsOf t.before.before.before.args.by)) w) underOf,
+          (map (cut_removal (dots_of t.before.before.before.args.by)) w) under_of,
     ))
 
 pub seats-spec : {M : Type 1} → statement M

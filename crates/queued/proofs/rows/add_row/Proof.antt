@@ -3,17 +3,17 @@ use mathlib.Core.Path.{◌≡◌, refl}
 use Prim.Native.Nat.{◌≤◌, ◌-◌}
 use lib.ListN.{length, length-set}
 use native.Mathlib.Omega.{arith}
-use Rattle.limits.specs.Limits.{waitingLimit}
+use Rattle.limits.specs.Limits.{waiting_limit}
 use Rattle.queued.proofs.Counting.{Adding, add_start, add-not, add-one-more}
 use borrow.Author.Rules.{rules}
 use Rattle.queued.proofs.rows.add_row.Statement.{statement}
 use Rattle.queued.proofs.rows.add_row.Tie as tie
 
 abbrev invariant-loop : tie.invariant-loop
-invariant-loop under out₀ i₀ out i = ((i ≤ waitingLimit) × (length out ≡ waitingLimit)) × Adding under out₀ i out
+invariant-loop under out₀ i₀ out i = ((i ≤ waiting_limit) × (length out ≡ waiting_limit)) × Adding under out₀ i out
 
 abbrev decreases-loop : tie.decreases-loop
-decreases-loop under out₀ i₀ out i = waitingLimit - i
+decreases-loop under out₀ i₀ out i = waiting_limit - i
 
 loop-holds : tie.Need-loop-init invariant-loop decreases-loop
 loop-holds c = ((omega arith, search rules), add_start)

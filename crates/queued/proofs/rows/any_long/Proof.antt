@@ -6,21 +6,21 @@ use lib.ListN.{length, drop, get_or}
 use native.Mathlib.Omega.{arith}
 use Rattle.listlaws.specs.First.{some}
 use Rattle.removals.specs.declared.Removal.{Removal}
-use Rattle.limits.specs.Limits.{waitingLimit}
+use Rattle.limits.specs.Limits.{waiting_limit}
 use Rattle.removals.specs.Counted.{overlong}
-use Rattle.queued.specs.Rowed.{keysAt}
+use Rattle.queued.specs.Rowed.{keys_at}
 use Rattle.queued.proofs.Counting.{long-yes, long-no, long-end}
 use borrow.Author.Rules.{rules}
 use Rattle.queued.proofs.rows.any_long.Statement.{statement}
 use Rattle.queued.proofs.rows.any_long.Tie as tie
 
 abbrev invariant-loop : tie.invariant-loop
-invariant-loop counts i₀ i = ((i ≤ waitingLimit) × (length counts ≡ waitingLimit))
-    × ((result : List Removal) → ((p : ℕ) → p < waitingLimit → get_or counts p 0 ≡ length (keysAt result p))
+invariant-loop counts i₀ i = ((i ≤ waiting_limit) × (length counts ≡ waiting_limit))
+    × ((result : List Removal) → ((p : ℕ) → p < waiting_limit → get_or counts p 0 ≡ length (keys_at result p))
     → some overlong result ≡ some overlong (drop i result))
 
 abbrev decreases-loop : tie.decreases-loop
-decreases-loop counts i₀ i = waitingLimit - i
+decreases-loop counts i₀ i = waiting_limit - i
 
 loop-holds : tie.Need-loop-init invariant-loop decreases-loop
 loop-holds c = ((omega arith, search rules), λ result f. refl)

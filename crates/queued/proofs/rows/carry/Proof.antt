@@ -3,17 +3,17 @@ use mathlib.Core.Path.{◌≡◌}
 use Prim.Native.Nat.{◌≤◌, ◌-◌}
 use lib.ListN.{length, length-set}
 use native.Mathlib.Omega.{arith}
-use Rattle.limits.specs.Limits.{waitingLimit}
+use Rattle.limits.specs.Limits.{waiting_limit}
 use Rattle.queued.proofs.Rowing.{same_read, Carrying, carry-start, carry-not, carry-past, carry-set, carry-end}
 use borrow.Author.Rules.{rules}
 use Rattle.queued.proofs.rows.carry.Statement.{statement}
 use Rattle.queued.proofs.rows.carry.Tie as tie
 
 abbrev invariant-loop : tie.invariant-loop
-invariant-loop marks table out₀ i₀ out i = ((i ≤ waitingLimit) × (length out ≡ waitingLimit)) × Carrying out₀ marks table i out
+invariant-loop marks table out₀ i₀ out i = ((i ≤ waiting_limit) × (length out ≡ waiting_limit)) × Carrying out₀ marks table i out
 
 abbrev decreases-loop : tie.decreases-loop
-decreases-loop marks table out₀ i₀ out i = waitingLimit - i
+decreases-loop marks table out₀ i₀ out i = waiting_limit - i
 
 loop-holds : tie.Need-loop-init invariant-loop decreases-loop
 loop-holds c = ((omega arith, search rules), carry-start)
@@ -23,14 +23,14 @@ loop-again c =
     let t = c.before.before.before in (
       simp length-set (omega arith),
       carry-set t.loop.invariant.1 c.before.if1.true
-          (same_read t.before.args.t3 t.loop.i 0 waitingLimit (search rules)) (omega arith),
+          (same_read t.before.args.t3 t.loop.i 0 waiting_limit (search rules)) (omega arith),
     )
 
 loop-again-2 : tie.Need-loop-preserved-2 invariant-loop decreases-loop
 loop-again-2 c =
     let t = c.before.before.before in (
       omega arith,
-      carry-past t.loop.invariant.1 c.before.if1.true (same_read t.before.args.t3 t.loop.i 0 waitingLimit (search rules))
+      carry-past t.loop.invariant.1 c.before.if1.true (same_read t.before.args.t3 t.loop.i 0 waiting_limit (search rules))
           c.if2.false,
     )
 

@@ -4,7 +4,7 @@ use Prim.Native.Nat.{ℕ, ◌+◌, ◌*◌, ◌≤◌, ◌<◌, ◌-◌}
 use lib.ListN.{length, get_or, get_or-replicate}
 use native.Mathlib.Omega.{arith}
 use Rattle.removals.specs.declared.Removal.{Removal}
-use Rattle.limits.specs.Limits.{waitingLimit}
+use Rattle.limits.specs.Limits.{waiting_limit}
 use Rattle.queued.specs.Queue.{Keyed}
 use Rattle.queued.specs.Planned.{SoundRemovals, Moves}
 use Rattle.queued.proofs.Counting.{KeysCounting, count-start, count-on, count-end, each-end, tally-most}
@@ -15,8 +15,8 @@ use Rattle.queued.proofs.rows.count_keys.Tie as tie
 abbrev invariant-loop : tie.invariant-loop
 invariant-loop s from n ours t start m theirs total₀ counts₀ i₀ j₀ total counts i j =
     ((i ≤ n) × (n * 16 ≤ length s)) × (((j ≤ m) × (m * 16 ≤ length t))
-    × ((total ≤ (i + j) * waitingLimit) × (((p : ℕ) → p < waitingLimit → get_or counts p 0 ≤ i + j)
-    × ((w v result : List Removal) → Keyed s from n 0 w → Keyed t start m 0 v → Moves w v result ours theirs → length result ≤ waitingLimit
+    × ((total ≤ (i + j) * waiting_limit) × (((p : ℕ) → p < waiting_limit → get_or counts p 0 ≤ i + j)
+    × ((w v result : List Removal) → Keyed s from n 0 w → Keyed t start m 0 v → Moves w v result ours theirs → length result ≤ waiting_limit
     → SoundRemovals result → KeysCounting s n t m w v result i j total counts))))
 
 abbrev decreases-loop : tie.decreases-loop
@@ -31,7 +31,7 @@ loop-holds c =
         (
           omega arith,
           (
-            λ q h. omega (arith, get_or-replicate {A = ℕ} waitingLimit q 0 0 h),
+            λ q h. omega (arith, get_or-replicate {A = ℕ} waiting_limit q 0 0 h),
             λ w v result a b mv few sound. count-start a b,
           ),
         ),

@@ -3,19 +3,19 @@ use mathlib.Core.Path.{◌≡◌, ap, ◌∙◌}
 use Prim.Native.Nat.{ℕ, ◌+◌, ◌≤◌, ◌-◌}
 use lib.ListN.{length, drop}
 use native.Mathlib.Omega.{arith}
-use Rattle.limits.specs.Limits.{waitingLimit}
-use Rattle.queued.specs.Rowed.{rowRecords}
+use Rattle.limits.specs.Limits.{waiting_limit}
+use Rattle.queued.specs.Rowed.{row_records}
 use Rattle.queued.proofs.Rowing.{row-yes, row-no, row-end}
 use borrow.Author.Rules.{rules}
 use Rattle.queued.proofs.rows.count_row.Statement.{statement}
 use Rattle.queued.proofs.rows.count_row.Tie as tie
 
 abbrev invariant-loop : tie.invariant-loop
-invariant-loop under total₀ i₀ total i = ((i ≤ waitingLimit) × ((length under ≡ waitingLimit) × (total ≤ i)))
-    × ((key : ℕ) → length (rowRecords key 0 under) ≡ total + length (rowRecords key i (drop i under)))
+invariant-loop under total₀ i₀ total i = ((i ≤ waiting_limit) × ((length under ≡ waiting_limit) × (total ≤ i)))
+    × ((key : ℕ) → length (row_records key 0 under) ≡ total + length (row_records key i (drop i under)))
 
 abbrev decreases-loop : tie.decreases-loop
-decreases-loop under total₀ i₀ total i = waitingLimit - i
+decreases-loop under total₀ i₀ total i = waiting_limit - i
 
 loop-holds : tie.Need-loop-init invariant-loop decreases-loop
 loop-holds c = ((omega arith, (search rules, omega arith)), λ key. omega arith)

@@ -4,8 +4,8 @@ use Prim.Native.Nat.{◌+◌, ◌*◌, ◌≤◌, ◌-◌}
 use lib.ListN.{length}
 use native.Mathlib.Omega.{arith}
 use Rattle.removals.specs.declared.Removal.{Removal}
-use Rattle.limits.specs.Limits.{waitingLimit}
-use Rattle.mapimage.specs.MapImage.{waitingKeys}
+use Rattle.limits.specs.Limits.{waiting_limit}
+use Rattle.mapimage.specs.MapImage.{waiting_keys}
 use Rattle.queued.specs.Queue.{Keyed}
 use Rattle.queued.specs.Planned.{Moves}
 use Rattle.queued.proofs.Rowing.{KeysWriting, keys-start, keys_kept, keys-room, keys_on, keys-end}
@@ -16,8 +16,8 @@ use Rattle.queued.proofs.rows.write_keys.Tie as tie
 abbrev invariant-loop : tie.invariant-loop
 invariant-loop out₀ at s from n ours t start m theirs next₀ i₀ j₀ out next i j =
     ((i ≤ n) × (n * 16 ≤ length s)) × (((j ≤ m) × (m * 16 ≤ length t))
-    × ((w v result : List Removal) → Keyed s from n 0 w → Keyed t start m 0 v → Moves w v result ours theirs → length result ≤ waitingLimit
-    → at + length (waitingKeys result) * 16 ≤ length out₀ → KeysWriting s n t m w v result at out₀ i j out next))
+    × ((w v result : List Removal) → Keyed s from n 0 w → Keyed t start m 0 v → Moves w v result ours theirs → length result ≤ waiting_limit
+    → at + length (waiting_keys result) * 16 ≤ length out₀ → KeysWriting s n t m w v result at out₀ i j out next))
 
 abbrev decreases-loop : tie.decreases-loop
 decreases-loop out₀ at s from n ours t start m theirs next₀ i₀ j₀ out next i j = (n + m) - (i + j)

@@ -4,21 +4,21 @@ use mathlib.Core.List.{[], ◌∷◌}
 use Prim.Native.Nat.{◌≤◌, ◌-◌}
 use lib.ListN.{length, drop}
 use native.Mathlib.Omega.{arith}
-use Rattle.limits.specs.Limits.{waitingLimit}
+use Rattle.limits.specs.Limits.{waiting_limit}
 use Rattle.records.proofs.Writing.{Writing, write-start, write-room, write-on, write-end, wrote_one, write_kept}
-use Rattle.opimage.specs.OpImage.{keyRecord}
-use Rattle.queued.specs.Rowed.{rowRecords}
+use Rattle.opimage.specs.OpImage.{key_record}
+use Rattle.queued.specs.Rowed.{row_records}
 use Rattle.queued.proofs.Rowing.{row-yes, row-no, row-end}
 use borrow.Author.Rules.{rules}
 use Rattle.queued.proofs.rows.write_row.Statement.{statement}
 use Rattle.queued.proofs.rows.write_row.Tie as tie
 
 abbrev invariant-loop : tie.invariant-loop
-invariant-loop out₀ at key under next₀ i₀ out next i = ((i ≤ waitingLimit) × (length under ≡ waitingLimit))
-    × Writing (rowRecords key 0 under) (rowRecords key i (drop i under)) at out₀ out next
+invariant-loop out₀ at key under next₀ i₀ out next i = ((i ≤ waiting_limit) × (length under ≡ waiting_limit))
+    × Writing (row_records key 0 under) (row_records key i (drop i under)) at out₀ out next
 
 abbrev decreases-loop : tie.decreases-loop
-decreases-loop out₀ at key under next₀ i₀ out next i = waitingLimit - i
+decreases-loop out₀ at key under next₀ i₀ out next i = waiting_limit - i
 
 loop-holds : tie.Need-loop-init invariant-loop decreases-loop
 loop-holds c = ((omega arith, search rules), write-start _ _ _ c.before.requires)
@@ -28,7 +28,7 @@ write-record-requires c κs =
     let t = c.before.before.before in
     let a = t.before.before.args in
     let e = row-yes a.key a.t4 t.loop.i (omega arith) c.before.if1.true in
-    omega (arith, (write-room _ _ _ (keyRecord 6 t.loop.i a.key ∷ []) _ t.loop.invariant.1 e).0)
+    omega (arith, (write-room _ _ _ (key_record 6 t.loop.i a.key ∷ []) _ t.loop.invariant.1 e).0)
 
 loop-again : tie.Need-loop-preserved invariant-loop decreases-loop
 loop-again c =
@@ -36,7 +36,7 @@ loop-again c =
     let a = t.before.before.args in
     let e = row-yes a.key a.t4 t.loop.i (omega arith) c.before.before.before.before.if1.true in (
       omega arith,
-      write-on _ _ _ (keyRecord 6 t.loop.i a.key ∷ []) t.loop.invariant.1 e
+      write-on _ _ _ (key_record 6 t.loop.i a.key ∷ []) t.loop.invariant.1 e
           (wrote_one _ _ _ _ _ c.before.before.write-record.ensures),
     )
 

@@ -1,15 +1,15 @@
 -- `Contents::push` meets its contract: a store behind the last.
 use mathlib.Core.Path.{ap}
 use Rattle.listlaws.proofs.Pads.{push-pad, length-snoc}
-use Rattle.limits.specs.Limits.{valueLimit}
-use Rattle.register.specs.Values.{noContent}
+use Rattle.limits.specs.Limits.{value_limit}
+use Rattle.register.specs.Values.{no_content}
 use borrow.Author.Rules.{rules}
 use native.Mathlib.Omega.{arith}
 use Rattle.register.proofs.Contents.push.Statement.{statement}
 use Rattle.register.proofs.Contents.push.Tie as tie
 
 returns : tie.Need-returns
-returns c = λ l e. rw (e, push-pad noContent valueLimit l _ (omega (arith, ap (λ k. k.len) e)), length-snoc l _)
+returns c = λ l e. rw (e, push-pad no_content value_limit l _ (omega (arith, ap (λ k. k.len) e)), length-snoc l _)
 
 pub push_spec : {M : Type 1} → statement M
 push_spec =

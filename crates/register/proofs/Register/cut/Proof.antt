@@ -2,9 +2,9 @@
 use mathlib.Core.Path.{◌≡◌, ap, ◌∙◌}
 use lib.ListN.{length}
 use Rattle.listlaws.proofs.Pads.{unmapped, used}
-use Rattle.clock.specs.Dots.{dotsOf}
-use Rattle.limits.specs.Limits.{valueLimit}
-use Rattle.register.specs.Values.{values_of, cutValues}
+use Rattle.clock.specs.Dots.{dots_of}
+use Rattle.limits.specs.Limits.{value_limit}
+use Rattle.register.specs.Values.{values_of, cut_values}
 use Rattle.register.specs.InHand.{settled}
 use Rattle.register.proofs.Packs.{wide-values, fits, cut-length}
 use borrow.Author.Rules.{rules}
@@ -12,7 +12,7 @@ use native.Mathlib.Omega.{arith}
 use Rattle.register.proofs.Register.cut.Statement.{statement}
 use Rattle.register.proofs.Register.cut.Tie as tie
 
-room : (c : tie.Start) → length c.args.self.values ≡ valueLimit
+room : (c : tie.Start) → length c.args.self.values ≡ value_limit
 room c = search (rules, unmapped)
 
 returns : tie.Need-returns
@@ -23,8 +23,8 @@ returns c =
     let w = wide-values _ s.before.cut.ensures in
     let v = wide-values _ s.before.before.wide.ensures in
     ap (λ k. k.register)
-    (s.settle.ensures ∙ ap settled (w ∙ ap (cutValues (dotsOf a.by)) v)
-    ∙ fits _ (omega (arith, cut-length (dotsOf a.by) (values_of a.self), used a.self.len valueLimit a.self.values (room z))))
+    (s.settle.ensures ∙ ap settled (w ∙ ap (cut_values (dots_of a.by)) v)
+    ∙ fits _ (omega (arith, cut-length (dots_of a.by) (values_of a.self), used a.self.len value_limit a.self.values (room z))))
 
 pub cut_spec : {M : Type 1} → statement M
 cut_spec =

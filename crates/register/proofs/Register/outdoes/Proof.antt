@@ -4,7 +4,7 @@ use mathlib.Core.Bool.{true, false}
 use Prim.Native.Nat.{◌≤◌, ◌-◌}
 use Rattle.listlaws.proofs.Passing.{Passing, passing-start, passing-here, passing-on, passing-end}
 use Rattle.register.specs.Values.{yields, outdone}
-use Rattle.register.proofs.Packs.{noneRead}
+use Rattle.register.proofs.Packs.{none_read}
 use borrow.Author.Rules.{rules}
 use native.Mathlib.Omega.{arith}
 use Rattle.register.proofs.Register.outdoes.Statement.{statement}
@@ -21,12 +21,12 @@ loop-holds c = (search rules, passing-start)
 
 returns : tie.Need-returns invariant-loop decreases-loop
 unfolding outdone
-returns c = passing-here noneRead c.before.before.before.before.loop.invariant.1 (omega arith) (sym c.before.yields.ensures ∙ c.if1.true)
+returns c = passing-here none_read c.before.before.before.before.loop.invariant.1 (omega arith) (sym c.before.yields.ensures ∙ c.if1.true)
 
 loop-again : tie.Need-loop-preserved invariant-loop decreases-loop
 loop-again c = (
   search rules,
-  passing-on noneRead c.before.before.before.before.loop.invariant.1 (omega arith)
+  passing-on none_read c.before.before.before.before.loop.invariant.1 (omega arith)
       (sym c.before.yields.ensures ∙ c.if1.false),
 )
 

@@ -4,15 +4,15 @@ use lib.ListN.{length, length-take}
 use Rattle.listlaws.proofs.Pads.{unmapped}
 use borrow.Author.Rules.{rules}
 use native.Mathlib.Omega.{arith}
-use Rattle.limits.specs.Limits.{valueLimit}
+use Rattle.limits.specs.Limits.{value_limit}
 use Rattle.register.proofs.Register.size.Statement.{statement}
 use Rattle.register.proofs.Register.size.Tie as tie
 
 returns : tie.Need-returns
-returns c = let h : length c.before.args.self.values ≡ valueLimit = search (rules, unmapped) in simp length-take (omega arith)
+returns c = let h : length c.before.args.self.values ≡ value_limit = search (rules, unmapped) in simp length-take (omega arith)
 
 returns-2 : tie.Need-returns-2
-returns-2 c = let h : length c.before.args.self.values ≡ valueLimit = search (rules, unmapped) in simp length-take (omega arith)
+returns-2 c = let h : length c.before.args.self.values ≡ value_limit = search (rules, unmapped) in simp length-take (omega arith)
 
 pub size-spec : {M : Type 1} → statement M
 size-spec =

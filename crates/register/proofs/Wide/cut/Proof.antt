@@ -4,17 +4,17 @@ use mathlib.Core.Bool.{not}
 use mathlib.Core.List.{[]}
 use Prim.Native.Nat.{◌≤◌, ◌-◌, ◌<◌}
 use Rattle.listlaws.proofs.Sifting.{Sifting, sifting-start, sifting-keep, sifting-drop, sifting-room, sifting-end}
-use Rattle.clock.specs.Dots.{dotsOf}
-use Rattle.register.specs.InHand.{wideValues, wide_of, wideRoom}
-use Rattle.register.specs.Values.{alive, cutValue, cutValues}
-use Rattle.register.proofs.Packs.{noneRead, cut-length, wide-pushed}
+use Rattle.clock.specs.Dots.{dots_of}
+use Rattle.register.specs.InHand.{wide_values, wide_of, wide_room}
+use Rattle.register.specs.Values.{alive, cut_value, cut_values}
+use Rattle.register.proofs.Packs.{none_read, cut-length, wide-pushed}
 use borrow.Author.Rules.{rules}
 use native.Mathlib.Omega.{arith}
 use Rattle.register.proofs.Wide.cut.Statement.{statement}
 use Rattle.register.proofs.Wide.cut.Tie as tie
 
 abbrev invariant-loop : tie.invariant-loop
-invariant-loop by self n out₀ i₀ out i = (i ≤ n) × Sifting wide_of alive (cutValue (dotsOf by)) [] self.values self.len i out
+invariant-loop by self n out₀ i₀ out i = (i ≤ n) × Sifting wide_of alive (cut_value (dots_of by)) [] self.values self.len i out
 
 abbrev decreases-loop : tie.decreases-loop
 decreases-loop by self n out₀ i₀ out i = n - i
@@ -23,21 +23,21 @@ loop-holds : tie.Need-loop-init invariant-loop decreases-loop
 loop-holds c = (search rules, sifting-start c.new.ensures)
 
 -- there is room for one more
-room : (c : tie.Then1 invariant-loop decreases-loop) → c.before.before.before.before.before.loop.out.len < wideRoom
-unfolding cutValues
+room : (c : tie.Then1 invariant-loop decreases-loop) → c.before.before.before.before.before.loop.out.len < wide_room
+unfolding cut_values
 room c =
     let s = c.before.before.before.before.before in
     let t = ap not (sym c.before.is-empty.ensures) ∙ c.if1.true in
-    let r = sifting-room noneRead s.loop.invariant.1 (omega arith) c.before.before.cut.ensures t in
+    let r = sifting-room none_read s.loop.invariant.1 (omega arith) c.before.before.cut.ensures t in
     let a = s.before.before.before.args in
-    omega (arith, ap (λ k. k.len) r.1, r.2, cut-length (dotsOf a.by) (wideValues a.t1))
+    omega (arith, ap (λ k. k.len) r.1, r.2, cut-length (dots_of a.by) (wide_values a.t1))
 
 loop-again : tie.Need-loop-preserved invariant-loop decreases-loop
 loop-again c =
     let s = c.before.before.before.before.before in
     let t = ap not (sym c.before.is-empty.ensures) ∙ c.if1.true in (
       search rules,
-      sifting-keep noneRead s.loop.invariant.1 (omega arith) c.before.before.cut.ensures t
+      sifting-keep none_read s.loop.invariant.1 (omega arith) c.before.before.cut.ensures t
           (λ l e. wide-pushed l _ e (omega (arith, ap (λ k. k.len) e, room c))),
     )
 
@@ -45,10 +45,10 @@ loop-again-2 : tie.Need-loop-preserved-2 invariant-loop decreases-loop
 loop-again-2 c =
     let s = c.before.before.before.before.before in
     let t = ap not (sym c.before.is-empty.ensures) ∙ c.if1.false in
-    (search rules, sifting-drop noneRead s.loop.invariant.1 (omega arith) c.before.before.cut.ensures t)
+    (search rules, sifting-drop none_read s.loop.invariant.1 (omega arith) c.before.before.cut.ensures t)
 
 returns : tie.Need-returns invariant-loop decreases-loop
-unfolding cutValues
+unfolding cut_values
 returns c = sifting-end c.before.loop.invariant.1 (omega arith)
 
 pub cut_spec : {M : Type 1} → statement M

@@ -6,7 +6,7 @@ use Rattle.listlaws.proofs.Trailing.{Trailing, trailing-start, trailing-add, tra
 use Rattle.register.specs.declared.Value.{Value}
 use Rattle.register.specs.Values.{values_of}
 use Rattle.register.specs.InHand.{wide_of}
-use Rattle.register.proofs.Packs.{noneRead, wide-pushed}
+use Rattle.register.proofs.Packs.{none_read, wide-pushed}
 use borrow.Author.Rules.{rules}
 use native.Mathlib.Omega.{arith}
 use Rattle.register.proofs.Wide.trail.Statement.{statement}
@@ -28,7 +28,7 @@ loop-again c =
     let s = c.before.before in (
       search rules,
       search rules,
-      λ l e. trailing-add noneRead (s.loop.invariant.2 l e) (omega arith)
+      λ l e. trailing-add none_read (s.loop.invariant.2 l e) (omega arith)
           (λ m q. wide-pushed m _ q (omega (arith, ap (λ k. k.len) q, s.loop.invariant.1))),
     )
 

@@ -1,7 +1,7 @@
 -- `JoinedWaiting::add` meets its contract: the removal is stored where all fit.
 use mathlib.Core.Path.{ap}
 use Rattle.listlaws.proofs.Tally.{both-pass}
-use Rattle.limits.specs.Limits.{waitingLimit}
+use Rattle.limits.specs.Limits.{waiting_limit}
 use Rattle.removals.proofs.Joining.{joined-one, joined-none}
 use borrow.Author.Rules.{rules}
 use native.Mathlib.Omega.{arith}
@@ -12,7 +12,7 @@ push-requires : tie.Need-push-requires
 push-requires c κs =
     let i = c.before.before in
     let z = i.before.before.before in
-    let p = both-pass {n = z.args.self.count} {k = waitingLimit} z.args.self.long z.args.united.over i.if1.true in
+    let p = both-pass {n = z.args.self.count} {k = waiting_limit} z.args.self.long z.args.united.over i.if1.true in
     omega (arith, p.0, z.requires)
 
 returns : tie.Need-returns

@@ -3,14 +3,14 @@ use mathlib.Core.Path.{◌≡◌, refl, sym, ◌∙◌}
 use mathlib.Core.Bool.{false}
 use lib.ListN.{length}
 use Rattle.listlaws.proofs.Pads.{unmapped, used}
-use Rattle.limits.specs.Limits.{keyLimit}
-use Rattle.removals.specs.Model.{listedIn}
+use Rattle.limits.specs.Limits.{key_limit}
+use Rattle.removals.specs.Model.{listed_in}
 use Rattle.removals.proofs.KeyLimits.{keys-fit}
 use borrow.Author.Rules.{rules}
 use Rattle.removals.proofs.JoinedWaiting.keep.Statement.{statement}
 use Rattle.removals.proofs.JoinedWaiting.keep.Tie as tie
 
-room : (c : tie.Start) → length c.args.r.keys.items ≡ keyLimit
+room : (c : tie.Start) → length c.args.r.keys.items ≡ key_limit
 room c = search (rules, unmapped)
 
 returns : tie.Need-returns
@@ -20,7 +20,7 @@ returns c =
       c.add.ensures.0,
       λ l q laid.
           c.add.ensures.1 l r q refl laid ((λ i. record { over = false; keys = laid i })
-          ∙ sym (keys-fit (listedIn r) (used r.keys.len keyLimit r.keys.items (room z)))),
+          ∙ sym (keys-fit (listed_in r) (used r.keys.len key_limit r.keys.items (room z)))),
     )
 
 pub keep_spec : {M : Type 1} → statement M

@@ -7,9 +7,9 @@ use Rattle.listlaws.specs.Order.{◌∈◌}
 use Rattle.listlaws.proofs.Rests.{in_list}
 use Rattle.listlaws.proofs.Trailing.{Trailing, trailing-start, trailing-add, trailing-end}
 use Rattle.removals.specs.declared.Removal.{Removal}
-use Rattle.removals.specs.Model.{waitingOf}
-use Rattle.removals.specs.Counted.{KeysLaid, joinedAs}
-use Rattle.removals.proofs.Packs.{noRemovalRead}
+use Rattle.removals.specs.Model.{waiting_of}
+use Rattle.removals.specs.Counted.{KeysLaid, joined_as}
+use Rattle.removals.proofs.Packs.{no_removal_read}
 use borrow.Author.Rules.{rules}
 use native.Mathlib.Omega.{arith}
 use Rattle.removals.proofs.JoinedWaiting.trail.Statement.{statement}
@@ -18,8 +18,8 @@ use Rattle.removals.proofs.JoinedWaiting.trail.Tie as tie
 abbrev invariant-loop : tie.invariant-loop
 invariant-loop at from n out₀ i₀ out i =
     (out.count + (n - i) ≤ out₀.count + (n - at)) × (out.waiting.len ≤ out.count)
-    × ((l : List Removal) → ((r : Removal) → r ∈ waitingOf from → KeysLaid r) → out₀ ≡ joinedAs l
-    → Trailing joinedAs (λ r. r) (l ++ map (λ r. r) (drop at (waitingOf from))) from.items from.len i out)
+    × ((l : List Removal) → ((r : Removal) → r ∈ waiting_of from → KeysLaid r) → out₀ ≡ joined_as l
+    → Trailing joined_as (λ r. r) (l ++ map (λ r. r) (drop at (waiting_of from))) from.items from.len i out)
 
 abbrev decreases-loop : tie.decreases-loop
 decreases-loop at from n out₀ i₀ out i = n - i
@@ -31,12 +31,12 @@ loop-again : tie.Need-loop-preserved invariant-loop decreases-loop
 loop-again c =
     let s = c.before.before.before in
     let a = s.before.before.args in
-    let h : s.loop.i < length (waitingOf a.t2) = omega arith in (
+    let h : s.loop.i < length (waiting_of a.t2) = omega arith in (
       omega (arith, c.keep.ensures.0),
       omega (arith, c.keep.ensures.0),
       λ l laid e.
-          trailing-add noRemovalRead (s.loop.invariant.2 l laid e) h (λ m q. c.keep.ensures.1 m q
-          (laid _ (in_list a.t2.items a.t2.len s.loop.i noRemovalRead h))),
+          trailing-add no_removal_read (s.loop.invariant.2 l laid e) h (λ m q. c.keep.ensures.1 m q
+          (laid _ (in_list a.t2.items a.t2.len s.loop.i no_removal_read h))),
     )
 
 returns : tie.Need-returns invariant-loop decreases-loop

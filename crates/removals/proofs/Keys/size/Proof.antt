@@ -4,15 +4,15 @@ use lib.ListN.{length, length-take}
 use Rattle.listlaws.proofs.Pads.{unmapped}
 use borrow.Author.Rules.{rules}
 use native.Mathlib.Omega.{arith}
-use Rattle.limits.specs.Limits.{keyLimit}
+use Rattle.limits.specs.Limits.{key_limit}
 use Rattle.removals.proofs.Keys.size.Statement.{statement}
 use Rattle.removals.proofs.Keys.size.Tie as tie
 
 returns : tie.Need-returns
-returns c = let h : length c.before.args.self.items ≡ keyLimit = search (rules, unmapped) in simp length-take (omega arith)
+returns c = let h : length c.before.args.self.items ≡ key_limit = search (rules, unmapped) in simp length-take (omega arith)
 
 returns-2 : tie.Need-returns-2
-returns-2 c = let h : length c.before.args.self.items ≡ keyLimit = search (rules, unmapped) in simp length-take (omega arith)
+returns-2 c = let h : length c.before.args.self.items ≡ key_limit = search (rules, unmapped) in simp length-take (omega arith)
 
 pub size-spec : {M : Type 1} → statement M
 size-spec =

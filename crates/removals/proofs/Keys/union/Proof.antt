@@ -7,8 +7,8 @@ use borrow.Author.Tests.{lt-ltb, le-ltb, ltb-true, ltb-false}
 use Rattle.listlaws.specs.Order.{by}
 use Rattle.listlaws.proofs.Weaving.{Weaving, weaving-start, weaving-first, weaving-second, weaving-both, weaving-end}
 use Rattle.removals.specs.Model.{keys_of}
-use Rattle.removals.specs.Counted.{unitedAs}
-use Rattle.removals.specs.Waits.{unionKeys}
+use Rattle.removals.specs.Counted.{united_as}
+use Rattle.removals.specs.Waits.{union_keys}
 use borrow.Author.Rules.{rules}
 use native.Mathlib.Omega.{arith}
 use Rattle.removals.proofs.Keys.union.Statement.{statement}
@@ -16,7 +16,7 @@ use Rattle.removals.proofs.Keys.union.Tie as tie
 
 abbrev invariant-loop : tie.invariant-loop
 invariant-loop self other n m out₀ i₀ j₀ out i j =
-    (i ≤ n) × (j ≤ m) × Weaving unitedAs (by (λ k. k)) (λ k. k) (λ k. k) (λ x y. x) self.items self.len i other.items other.len j out
+    (i ≤ n) × (j ≤ m) × Weaving united_as (by (λ k. k)) (λ k. k) (λ k. k) (λ x y. x) self.items self.len i other.items other.len j out
 
 abbrev decreases-loop : tie.decreases-loop
 decreases-loop self other n m out₀ i₀ j₀ out i j = (n - i) + (m - j)
@@ -87,11 +87,11 @@ left_over c =
     c.loop-test.branch
 
 returns : tie.Need-returns invariant-loop decreases-loop
-unfolding unionKeys
+unfolding union_keys
 returns c =
     let s = c.before.before.before in
     let g = s.loop.invariant.2 in
-    c.trail2.ensures _ (c.before.trail.ensures _ g.growing.packed) ∙ ap unitedAs (sym (weaving-end g (left_over c.before.before)))
+    c.trail2.ensures _ (c.before.trail.ensures _ g.growing.packed) ∙ ap united_as (sym (weaving-end g (left_over c.before.before)))
 
 pub union-spec : {M : Type 1} → statement M
 union-spec =

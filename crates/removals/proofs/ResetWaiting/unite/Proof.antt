@@ -3,9 +3,9 @@ use mathlib.Core.Path.{◌≡◌, ap, sym, ◌∙◌}
 use mathlib.Core.List.Memᴰ
 use mathlib.Core.List.{List, []}
 use Rattle.removals.specs.declared.Removal.{Removal}
-use Rattle.removals.specs.Model.{waitingOf}
-use Rattle.removals.specs.Counted.{joinedAs, resetAs}
-use Rattle.removals.specs.Waits.{uniteInto}
+use Rattle.removals.specs.Model.{waiting_of}
+use Rattle.removals.specs.Counted.{joined_as, reset_as}
+use Rattle.removals.specs.Waits.{unite_into}
 use Rattle.removals.proofs.Packs.{waiting-from}
 use Rattle.removals.proofs.Resetting.{reset-long, reset-short, reset-over}
 use Rattle.removals.proofs.Lengths.{long-stays, unite-few}
@@ -30,8 +30,8 @@ join-requires c κs =
     (z.requires.1, λ r i. rw (Memᴰ.eq_of_singleton (rw e at i)) z.requires.2)
 
 -- what is joined, where nothing was too long
-joined : (c : tie.After-join) → let z = c.before.before.before.before in (l : List Removal) → z.args.self ≡ resetAs l
-    → (c.join.result ≡ joinedAs (uniteInto l z.args.r)) × (waitingOf z.args.self.waiting ≡ l)
+joined : (c : tie.After-join) → let z = c.before.before.before.before in (l : List Removal) → z.args.self ≡ reset_as l
+    → (c.join.result ≡ joined_as (unite_into l z.args.r)) × (waiting_of z.args.self.waiting ≡ l)
 joined c l q =
     let p = c.before in
     let i = p.before.before in

@@ -5,7 +5,7 @@ use Prim.Native.Nat.{ℕ, ◌-◌}
 use lib.ListN.{drop}
 use Rattle.listlaws.proofs.Trailing.{Trailing, trailing-start, trailing-add, trailing-end}
 use Rattle.removals.specs.Model.{keys_of}
-use Rattle.removals.specs.Counted.{unitedAs}
+use Rattle.removals.specs.Counted.{united_as}
 use borrow.Author.Rules.{rules}
 use native.Mathlib.Omega.{arith}
 use Rattle.removals.proofs.UnitedKeys.trail.Statement.{statement}
@@ -13,7 +13,7 @@ use Rattle.removals.proofs.UnitedKeys.trail.Tie as tie
 
 abbrev invariant-loop : tie.invariant-loop
 invariant-loop at from n out₀ i₀ out i =
-    (l : List ℕ) → out₀ ≡ unitedAs l → Trailing unitedAs (λ k. k) (l ++ map (λ k. k) (drop at (keys_of from))) from.items from.len i out
+    (l : List ℕ) → out₀ ≡ united_as l → Trailing united_as (λ k. k) (l ++ map (λ k. k) (drop at (keys_of from))) from.items from.len i out
 
 abbrev decreases-loop : tie.decreases-loop
 decreases-loop at from n out₀ i₀ out i = n - i

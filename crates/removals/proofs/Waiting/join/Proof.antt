@@ -6,11 +6,11 @@ use lib.ListN.{length, get_or}
 use borrow.Author.Tests.{ltb-true, ltb-false}
 use Rattle.listlaws.proofs.Rests.{in_list}
 use Rattle.listlaws.proofs.Weaving.{Weaving, weaving-start, weaving-first, weaving-second, weaving-both, weaving-end}
-use Rattle.limits.specs.Limits.{waitingLimit}
-use Rattle.removals.specs.Model.{listedIn, waitingOf}
-use Rattle.removals.specs.Counted.{joinedAs, Numbered}
-use Rattle.removals.specs.Waits.{removalBefore, unionKeys, unite, uniteAll}
-use Rattle.removals.proofs.Packs.{noRemovalRead, keys_from}
+use Rattle.limits.specs.Limits.{waiting_limit}
+use Rattle.removals.specs.Model.{listed_in, waiting_of}
+use Rattle.removals.specs.Counted.{joined_as, Numbered}
+use Rattle.removals.specs.Waits.{removal_before, union_keys, unite, unite_all}
+use Rattle.removals.proofs.Packs.{no_removal_read, keys_from}
 use borrow.Author.Rules.{rules}
 use native.Mathlib.Omega.{arith}
 use Rattle.removals.proofs.Waiting.join.Statement.{statement}
@@ -18,7 +18,7 @@ use Rattle.removals.proofs.Waiting.join.Tie as tie
 
 abbrev invariant-loop : tie.invariant-loop
 invariant-loop self other n m out₀ i₀ j₀ out i j =
-    (i ≤ n) × (j ≤ m) × Numbered out (i + j) × Weaving joinedAs removalBefore (λ r. r) (λ r. r) unite self.items self.len i other.items
+    (i ≤ n) × (j ≤ m) × Numbered out (i + j) × Weaving joined_as removal_before (λ r. r) (λ r. r) unite self.items self.len i other.items
     other.len j out
 
 abbrev decreases-loop : tie.decreases-loop
@@ -30,9 +30,9 @@ loop-holds c = (search rules, search rules, search rules, weaving-start c.new.en
 element-copy-out-y : tie.Need-element-copy-out-y invariant-loop decreases-loop
 element-copy-out-y c = omega (arith, ltb-true)
 
--- both places are in use, and few removals are joinedAs
+-- both places are in use, and few removals are joined_as
 level : (c : tie.After-y invariant-loop decreases-loop) → let s = c.before.before.before.before in let a = s.before.before.before.before.args in
-    (s.loop.i < length (waitingOf a.t1)) × (s.loop.j < length (waitingOf a.t2)) × Numbered s.loop.out (2 * waitingLimit)
+    (s.loop.i < length (waiting_of a.t1)) × (s.loop.j < length (waiting_of a.t2)) × Numbered s.loop.out (2 * waiting_limit)
 level c =
     let s = c.before.before.before.before in
     let k : s.loop.j < s.before.before.size2.result = ltb-true _ _ c.before.before.if1.true in (
@@ -71,8 +71,8 @@ loop-again c =
       omega (arith, level y, s.before.before.before.size.ensures),
       search rules,
       omega (arith, c.keep.ensures.0, s.loop.invariant),
-      weaving-first noRemovalRead s.loop.invariant.3 (level y).0 (level y).1 (sym i.before.clock-before.ensures ∙ i.if2.true)
-          (λ l q. c.keep.ensures.1 l q (z.requires.0 _ (in_list a.t1.items a.t1.len s.loop.i noRemovalRead (level y).0))),
+      weaving-first no_removal_read s.loop.invariant.3 (level y).0 (level y).1 (sym i.before.clock-before.ensures ∙ i.if2.true)
+          (λ l q. c.keep.ensures.1 l q (z.requires.0 _ (in_list a.t1.items a.t1.len s.loop.i no_removal_read (level y).0))),
     )
 
 loop-again-2 : tie.Need-loop-preserved-2 invariant-loop decreases-loop
@@ -86,9 +86,9 @@ loop-again-2 c =
       search rules,
       omega (arith, level y, s.before.before.size2.ensures),
       omega (arith, c.keep2.ensures.0, s.loop.invariant),
-      weaving-second noRemovalRead s.loop.invariant.3 (level y).0 (level y).1 (sym i.before.clock-before.ensures ∙ i.if2.false)
+      weaving-second no_removal_read s.loop.invariant.3 (level y).0 (level y).1 (sym i.before.clock-before.ensures ∙ i.if2.false)
           (sym k.before.clock-before2.ensures ∙ k.if3.true)
-          (λ l q. c.keep2.ensures.1 l q (z.requires.1 _ (in_list a.t2.items a.t2.len s.loop.j noRemovalRead (level y).1))),
+          (λ l q. c.keep2.ensures.1 l q (z.requires.1 _ (in_list a.t2.items a.t2.len s.loop.j no_removal_read (level y).1))),
     )
 
 loop-again-3 : tie.Need-loop-preserved-3 invariant-loop decreases-loop
@@ -99,12 +99,12 @@ loop-again-3 c =
     let y = i.before.before in
     let s = y.before.before.before.before in
     let a = s.before.before.before.before.args in
-    let e = keys_from (unionKeys (listedIn (get_or a.t1.items s.loop.i noRemovalRead))
-    (listedIn (get_or a.t2.items s.loop.j noRemovalRead))) refl in (
+    let e = keys_from (union_keys (listed_in (get_or a.t1.items s.loop.i no_removal_read))
+    (listed_in (get_or a.t2.items s.loop.j no_removal_read))) refl in (
       omega (arith, level y, s.before.before.before.size.ensures),
       omega (arith, level y, s.before.before.size2.ensures),
       omega (arith, c.add.ensures.0, s.loop.invariant),
-      weaving-both noRemovalRead s.loop.invariant.3 (level y).0 (level y).1 (sym i.before.clock-before.ensures ∙ i.if2.false)
+      weaving-both no_removal_read s.loop.invariant.3 (level y).0 (level y).1 (sym i.before.clock-before.ensures ∙ i.if2.false)
           (sym k.before.clock-before2.ensures ∙ k.if3.false)
           (λ l q. c.add.ensures.1 l _ q refl (rw e refl) (u.union.ensures ∙ rw e refl)),
     )
@@ -123,8 +123,8 @@ trail-requires-2 c κs = let s = c.before.before in omega (
 
 -- one of the two is used up
 left_over : (c : tie.Left-loop invariant-loop decreases-loop) → let s = c.before in
-    (length (waitingOf s.before.before.before.before.args.t1) ≤ s.loop.i)
-    ⊎ (length (waitingOf s.before.before.before.before.args.t2) ≤ s.loop.j)
+    (length (waiting_of s.before.before.before.before.args.t1) ≤ s.loop.i)
+    ⊎ (length (waiting_of s.before.before.before.before.args.t2) ≤ s.loop.j)
 left_over c =
     let s = c.before in
     ⊎_elim (λ w. inr (omega (arith, ltb-false s.loop.j s.before.before.size2.result w.1.left, s.before.before.size2.ensures)))
@@ -132,13 +132,13 @@ left_over c =
     c.loop-test.branch
 
 returns : tie.Need-returns invariant-loop decreases-loop
-unfolding uniteAll
+unfolding unite_all
 returns c =
     let s = c.before.before.before in
     let z = s.before.before.before.before in
     let g = s.loop.invariant.3 in
     c.trail2.ensures.1 _ z.requires.1 (c.before.trail.ensures.1 _ z.requires.0 g.growing.packed)
-    ∙ ap joinedAs (sym (weaving-end g (left_over c.before.before)))
+    ∙ ap joined_as (sym (weaving-end g (left_over c.before.before)))
 
 pub join-spec : {M : Type 1} → statement M
 join-spec =

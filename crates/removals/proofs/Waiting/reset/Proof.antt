@@ -4,16 +4,16 @@ use mathlib.Core.Bool.{not}
 use mathlib.Core.List.{[]}
 use Prim.Native.Nat.{◌≤◌, ◌-◌}
 use borrow.Author.Tests.{not-true}
-use Rattle.listlaws.specs.First.{firstIn}
+use Rattle.listlaws.specs.First.{first_in}
 use Rattle.listlaws.specs.Fold.{fold}
 use Rattle.listlaws.specs.Sift.{sift}
 use Rattle.listlaws.proofs.Rests.{in_list, drop-end}
-use Rattle.clock.specs.Dots.{dotsOf}
-use Rattle.removals.specs.Model.{waitingOf}
-use Rattle.removals.specs.Counted.{resetAs}
-use Rattle.removals.specs.Waits.{uniteInto, cutRemoval, remains, resetWaiting}
+use Rattle.clock.specs.Dots.{dots_of}
+use Rattle.removals.specs.Model.{waiting_of}
+use Rattle.removals.specs.Counted.{reset_as}
+use Rattle.removals.specs.Waits.{unite_into, cut_removal, remains, reset_waiting}
 use Rattle.removals.specs.Valid.{ValidRemoval}
-use Rattle.removals.proofs.Packs.{noRemovalRead}
+use Rattle.removals.proofs.Packs.{no_removal_read}
 use Rattle.removals.proofs.WaitingValid.{valid-cut-removal, valid-none, valid-one}
 use Rattle.removals.proofs.Resetting.{reset-short, stored-few, stored-in, Resetting, reset-next, reset-skip}
 use borrow.Author.Rules.{rules}
@@ -22,13 +22,13 @@ use Rattle.removals.proofs.Waiting.reset.Statement.{statement}
 use Rattle.removals.proofs.Waiting.reset.Tie as tie
 
 abbrev invariant-loop : tie.invariant-loop
-invariant-loop by self n out₀ i₀ out i = (i ≤ n) × Resetting (dotsOf by) self.items self.len i out
+invariant-loop by self n out₀ i₀ out i = (i ≤ n) × Resetting (dots_of by) self.items self.len i out
 
 abbrev decreases-loop : tie.decreases-loop
 decreases-loop by self n out₀ i₀ out i = n - i
 
 loop-holds : tie.Need-loop-init invariant-loop decreases-loop
-unfolding firstIn
+unfolding first_in
 loop-holds c = (
   search rules,
   record {
@@ -47,8 +47,8 @@ valid-left c =
     let s = c.before.before.before in
     let z = s.before.before.before in
     let a = z.args in
-    rw c.cut.ensures (valid-cut-removal (z.requires.each _ (in_list a.t1.items a.t1.len s.loop.i noRemovalRead (omega arith)))
-    (dotsOf a.by))
+    rw c.cut.ensures (valid-cut-removal (z.requires.each _ (in_list a.t1.items a.t1.len s.loop.i no_removal_read (omega arith)))
+    (dots_of a.by))
 
 unite-requires : tie.Need-unite-requires invariant-loop decreases-loop
 unite-requires c κs =
@@ -80,13 +80,13 @@ loop-again-2 c =
     (search rules, reset-skip s.loop.invariant.1 (omega arith) k.cut.ensures (ap not (sym c.before.is-empty.ensures) ∙ c.if1.false))
 
 returns : tie.Need-returns invariant-loop decreases-loop
-unfolding resetWaiting fold sift
+unfolding reset_waiting fold sift
 returns c =
     let s = c.before in
     let a = s.before.before.before.args in
     let u = s.loop.invariant.1 in
-    u.packed ∙ ap resetAs (sym (u.left ∙ ap (λ r. fold uniteInto u.state (sift remains (cutRemoval (dotsOf a.by)) r))
-    (drop-end (waitingOf a.t1) s.loop.i (omega arith))))
+    u.packed ∙ ap reset_as (sym (u.left ∙ ap (λ r. fold unite_into u.state (sift remains (cut_removal (dots_of a.by)) r))
+    (drop-end (waiting_of a.t1) s.loop.i (omega arith))))
 
 pub reset-spec : {M : Type 1} → statement M
 reset-spec =

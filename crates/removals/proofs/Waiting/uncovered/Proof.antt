@@ -4,18 +4,18 @@ use mathlib.Core.List.{[]}
 use Prim.Native.Nat.{◌≤◌, ◌-◌, ◌<◌}
 use Rattle.listlaws.proofs.Sifts.{length-sift}
 use Rattle.listlaws.proofs.Sifting.{Sifting, sifting-start, sifting-keep, sifting-drop, sifting-room, sifting-end}
-use Rattle.clock.specs.Dots.{dotsOf}
-use Rattle.removals.specs.Model.{waitingOf, waitingAs}
-use Rattle.limits.specs.Limits.{waitingLimit}
+use Rattle.clock.specs.Dots.{dots_of}
+use Rattle.removals.specs.Model.{waiting_of, waiting_as}
+use Rattle.limits.specs.Limits.{waiting_limit}
 use Rattle.removals.specs.Waits.{waits}
-use Rattle.removals.proofs.Packs.{noRemovalRead, removal-pushed}
+use Rattle.removals.proofs.Packs.{no_removal_read, removal-pushed}
 use borrow.Author.Rules.{rules}
 use native.Mathlib.Omega.{arith}
 use Rattle.removals.proofs.Waiting.uncovered.Statement.{statement}
 use Rattle.removals.proofs.Waiting.uncovered.Tie as tie
 
 abbrev invariant-loop : tie.invariant-loop
-invariant-loop seen self n out₀ i₀ out i = (i ≤ n) × Sifting waitingAs (waits (dotsOf seen)) (λ r. r) [] self.items self.len i out
+invariant-loop seen self n out₀ i₀ out i = (i ≤ n) × Sifting waiting_as (waits (dots_of seen)) (λ r. r) [] self.items self.len i out
 
 abbrev decreases-loop : tie.decreases-loop
 decreases-loop seen self n out₀ i₀ out i = n - i
@@ -24,20 +24,20 @@ loop-holds : tie.Need-loop-init invariant-loop decreases-loop
 loop-holds c = (search rules, sifting-start c.new.ensures)
 
 -- there is room for one more
-room : (c : tie.Then1 invariant-loop decreases-loop) → c.before.before.before.before.loop.out.len < waitingLimit
+room : (c : tie.Then1 invariant-loop decreases-loop) → c.before.before.before.before.loop.out.len < waiting_limit
 room c =
     let s = c.before.before.before.before in
     let t = sym c.before.waits.ensures ∙ c.if1.true in
-    let r = sifting-room noRemovalRead s.loop.invariant.1 (omega arith) refl t in
+    let r = sifting-room no_removal_read s.loop.invariant.1 (omega arith) refl t in
     let a = s.before.before.before.args in
-    omega (arith, ap (λ k. k.len) r.1, r.2, length-sift (waits (dotsOf a.seen)) (λ r. r) (waitingOf a.t1))
+    omega (arith, ap (λ k. k.len) r.1, r.2, length-sift (waits (dots_of a.seen)) (λ r. r) (waiting_of a.t1))
 
 loop-again : tie.Need-loop-preserved invariant-loop decreases-loop
 loop-again c =
     let s = c.before.before.before.before in
     let t = sym c.before.waits.ensures ∙ c.if1.true in (
       search rules,
-      sifting-keep noRemovalRead s.loop.invariant.1 (omega arith) refl t
+      sifting-keep no_removal_read s.loop.invariant.1 (omega arith) refl t
           (λ l e. removal-pushed l _ e (omega (arith, ap (λ k. k.len) e, room c))),
     )
 
@@ -45,7 +45,7 @@ loop-again-2 : tie.Need-loop-preserved-2 invariant-loop decreases-loop
 loop-again-2 c =
     let s = c.before.before.before.before in
     let t = sym c.before.waits.ensures ∙ c.if1.false in
-    (search rules, sifting-drop noRemovalRead s.loop.invariant.1 (omega arith) refl t)
+    (search rules, sifting-drop no_removal_read s.loop.invariant.1 (omega arith) refl t)
 
 returns : tie.Need-returns invariant-loop decreases-loop
 returns c = sifting-end c.before.loop.invariant.1 (omega arith)

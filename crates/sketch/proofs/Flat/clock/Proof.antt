@@ -4,23 +4,23 @@ use Prim.Native.Nat.{◌≤◌, ◌-◌}
 use lib.ListN.{length, take, length-set}
 use native.Mathlib.Omega.{arith}
 use borrow.Author.Rules.{rules}
-use Rattle.limits.specs.Limits.{dotLimit}
+use Rattle.limits.specs.Limits.{dot_limit}
 use Rattle.sketch.specs.Drawn.{beside}
 use Rattle.sketch.proofs.Flats.{length-beside, beside-more, taken-all}
 use Rattle.sketch.proofs.Flat.clock.Statement.{statement}
 use Rattle.sketch.proofs.Flat.clock.Tie as tie
 
 abbrev invariant-loop : tie.invariant-loop
-invariant-loop self dots₀ i₀ dots i = ((i ≤ dotLimit) × (length dots ≡ dotLimit)) × (take i dots ≡ take i (beside self.actors self.counters))
+invariant-loop self dots₀ i₀ dots i = ((i ≤ dot_limit) × (length dots ≡ dot_limit)) × (take i dots ≡ take i (beside self.actors self.counters))
 
 abbrev decreases-loop : tie.decreases-loop
-decreases-loop self dots₀ i₀ dots i = dotLimit - i
+decreases-loop self dots₀ i₀ dots i = dot_limit - i
 
 loop-holds : tie.Need-loop-init invariant-loop decreases-loop
 loop-holds c = ((omega arith, refl), refl)
 
 -- the room of its counters and actors
-wide : (c : tie.Start invariant-loop decreases-loop) → (length c.args.t1.actors ≡ dotLimit) × (length c.args.t1.counters ≡ dotLimit)
+wide : (c : tie.Start invariant-loop decreases-loop) → (length c.args.t1.actors ≡ dot_limit) × (length c.args.t1.counters ≡ dot_limit)
 wide c = (search rules, search rules)
 
 loop-again : tie.Need-loop-preserved invariant-loop decreases-loop

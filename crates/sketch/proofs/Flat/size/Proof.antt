@@ -3,7 +3,7 @@ use mathlib.Core.Path.{◌≡◌}
 use lib.ListN.{length, length-take}
 use borrow.Author.Rules.{rules}
 use native.Mathlib.Omega.{arith}
-use Rattle.limits.specs.Limits.{dotLimit}
+use Rattle.limits.specs.Limits.{dot_limit}
 use Rattle.sketch.specs.declared.Flat.{Flat}
 use Rattle.sketch.specs.Drawn.{beside}
 use Rattle.sketch.proofs.Flats.{length-beside}
@@ -11,7 +11,7 @@ use Rattle.sketch.proofs.Flat.size.Statement.{statement}
 use Rattle.sketch.proofs.Flat.size.Tie as tie
 
 -- the room of its dots
-room : (f : Flat) → length f.actors ≡ dotLimit → length f.counters ≡ dotLimit → length (beside f.actors f.counters) ≡ dotLimit
+room : (f : Flat) → length f.actors ≡ dot_limit → length f.counters ≡ dot_limit → length (beside f.actors f.counters) ≡ dot_limit
 room f a b = omega (arith, a, b, length-beside f.actors f.counters (omega (arith, a, b)))
 
 returns : tie.Need-returns

@@ -3,16 +3,16 @@ use mathlib.Core.Path.{◌≡◌}
 use lib.ListN.{length, length-take}
 use Rattle.listlaws.proofs.Pads.{unmapped}
 use borrow.Author.Rules.{rules}
-use Rattle.limits.specs.Limits.{entryLimit}
+use Rattle.limits.specs.Limits.{entry_limit}
 use native.Mathlib.Omega.{arith}
 use Rattle.sketch.proofs.Sketch.size.Statement.{statement}
 use Rattle.sketch.proofs.Sketch.size.Tie as tie
 
 returns : tie.Need-returns
-returns c = let h : length c.before.before.args.self.items ≡ entryLimit = search (rules, unmapped) in simp length-take (omega arith)
+returns c = let h : length c.before.before.args.self.items ≡ entry_limit = search (rules, unmapped) in simp length-take (omega arith)
 
 returns-2 : tie.Need-returns-2
-returns-2 c = let h : length c.before.before.args.self.items ≡ entryLimit = search (rules, unmapped) in simp length-take (omega arith)
+returns-2 c = let h : length c.before.before.args.self.items ≡ entry_limit = search (rules, unmapped) in simp length-take (omega arith)
 
 pub size-spec : {M : Type 1} → statement M
 size-spec =

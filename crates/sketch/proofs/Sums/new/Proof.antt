@@ -1,13 +1,13 @@
 -- `Sums::new` meets its contract.
 use mathlib.Core.Path.{refl}
 use native.Mathlib.Omega.{arith}
-use Rattle.listlaws.specs.First.{firstIn}
+use Rattle.listlaws.specs.First.{first_in}
 use Rattle.listlaws.specs.Fold.{total_of}
 use Rattle.sketch.proofs.Sums.new.Statement.{statement}
 use Rattle.sketch.proofs.Sums.new.Tie as tie
 
 returns : tie.Need-returns
-unfolding firstIn total_of
+unfolding first_in total_of
 returns c = (
   refl,
   record {

@@ -6,18 +6,18 @@ use lib.ListN.{length, drop, take, get_or}
 use native.Mathlib.Omega.{arith}
 use borrow.Author.Rules.{rules}
 use Rattle.listlaws.proofs.Rests.{in_list}
-use Rattle.limits.specs.Limits.{dotLimit}
+use Rattle.limits.specs.Limits.{dot_limit}
 use Rattle.listlaws.specs.Fold.{total_of}
 use Rattle.answers.proofs.Totals.{total-on, total-end}
-use Rattle.marks.specs.Marks.{marksSet}
-use Rattle.sketch.specs.Drawn.{sourceSize, sourcesOf, Ready}
-use Rattle.sketch.proofs.Sources.{noSourceRead}
+use Rattle.marks.specs.Marks.{marks_set}
+use Rattle.sketch.specs.Drawn.{source_size, sources_of, Ready}
+use Rattle.sketch.proofs.Sources.{no_source_read}
 use Rattle.sketch.proofs.counting.count_sources.Statement.{statement}
 use Rattle.sketch.proofs.counting.count_sources.Tie as tie
 
 abbrev invariant-loop : tie.invariant-loop
-invariant-loop e n total₀ i₀ total i = ((i ≤ n) × (total ≤ i * (1 + dotLimit)))
-    × ((s t : List ℕ) → Ready s t e → total + total_of sourceSize (drop i (sourcesOf e)) ≡ total_of sourceSize (sourcesOf e))
+invariant-loop e n total₀ i₀ total i = ((i ≤ n) × (total ≤ i * (1 + dot_limit)))
+    × ((s t : List ℕ) → Ready s t e → total + total_of source_size (drop i (sources_of e)) ≡ total_of source_size (sources_of e))
 
 abbrev decreases-loop : tie.decreases-loop
 decreases-loop e n total₀ i₀ total i = n - i
@@ -29,14 +29,14 @@ loop-again : tie.Need-loop-preserved invariant-loop decreases-loop
 loop-again c =
     let z = c.before.before.before.before.before in
     let a = z.before.before.args.t1 in
-    let k : z.loop.i < length (sourcesOf a) = omega arith in
+    let k : z.loop.i < length (sources_of a) = omega arith in
     let r = c.before.run_length.ensures in
     let n = c.count-marks.ensures in (
       (omega arith, omega (arith, z.loop.invariant.0, n.1, r.0)),
       λ s t h.
-          let p = h.each _ (in_list a.sources a.len z.loop.i noSourceRead k) in
-          let m = ap (λ j. marksSet (take j (get_or a.sources z.loop.i noSourceRead).marks)) (r.1 _ p) in
-          omega (arith, z.loop.invariant.1 s t h, total-on sourceSize a.sources a.len z.loop.i noSourceRead k, n.0, m),
+          let p = h.each _ (in_list a.sources a.len z.loop.i no_source_read k) in
+          let m = ap (λ j. marks_set (take j (get_or a.sources z.loop.i no_source_read).marks)) (r.1 _ p) in
+          omega (arith, z.loop.invariant.1 s t h, total-on source_size a.sources a.len z.loop.i no_source_read k, n.0, m),
     )
 
 returns : tie.Need-returns invariant-loop decreases-loop
@@ -46,7 +46,7 @@ returns c =
       λ x y h. omega (
         arith,
         s.loop.invariant.1 x y h,
-        total-end sourceSize (sourcesOf s.before.before.args.t1) s.loop.i (omega arith),
+        total-end source_size (sources_of s.before.before.args.t1) s.loop.i (omega arith),
       ),
     )
 

@@ -3,9 +3,9 @@ use mathlib.Core.Path.{ap, sym, ◌∙◌}
 use lib.ListN.{length, length-map}
 use native.Mathlib.Omega.{arith}
 use borrow.Author.Rules.{rules}
-use Rattle.clock.specs.Dots.{dotsOf}
-use Rattle.clockimage.specs.Image.{dotRecord, dotRecords}
-use Rattle.sketch.specs.Drawn.{clockApart}
+use Rattle.clock.specs.Dots.{dots_of}
+use Rattle.clockimage.specs.Image.{dot_record, dot_records}
+use Rattle.sketch.specs.Drawn.{clock_apart}
 use Rattle.sketch.proofs.Sources.{entry-dots, entry_more, wrote_as}
 use Rattle.sketch.proofs.writing.write_entry.Statement.{statement}
 use Rattle.sketch.proofs.writing.write_entry.Tie as tie
@@ -18,15 +18,15 @@ write-dots-requires c κs =
     omega (
       arith,
       ap length (entry-dots a.s.now a.t.now a.e a.kind c.before.before.before.if1.true),
-      length-map (dotsOf (clockApart a.e.own)) (dotRecord 2 0 a.e.key),
-      ap (λ k. length (dotsOf k)) c.before.clock.ensures,
+      length-map (dots_of (clock_apart a.e.own)) (dot_record 2 0 a.e.key),
+      ap (λ k. length (dots_of k)) c.before.clock.ensures,
     )
 
 returns : tie.Need-returns
 returns c =
     let a = c.before.before.before.before.before.before.before.before.before.before.args in
     wrote_as (entry-dots a.s.now a.t.now a.e a.kind c.before.before.before.before.before.before.if1.true
-    ∙ ap (λ k. dotRecords 2 0 a.e.key (dotsOf k)) (sym c.before.before.before.before.clock.ensures))
+    ∙ ap (λ k. dot_records 2 0 a.e.key (dots_of k)) (sym c.before.before.before.before.clock.ensures))
     c.before.before.write-dots.ensures
 
 write-sources-requires : tie.Need-write-sources-requires

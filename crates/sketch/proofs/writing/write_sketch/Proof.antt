@@ -7,13 +7,13 @@ use native.Mathlib.Omega.{arith}
 use borrow.Author.Rules.{rules}
 use Rattle.listlaws.proofs.Rests.{in_list}
 use Rattle.records.proofs.Writing.{Writing, write-start, write-room, write-on, write-end, last-room, write-last}
-use Rattle.clock.specs.Dots.{dotsOf}
-use Rattle.limits.specs.Limits.{entryLimit}
+use Rattle.clock.specs.Dots.{dots_of}
+use Rattle.limits.specs.Limits.{entry_limit}
 use Rattle.records.specs.declared.Record.{Record}
-use Rattle.clockimage.specs.Image.{dotRecord, dotRecords}
-use Rattle.mapimage.specs.MapImage.{entryRecords}
-use Rattle.sketch.specs.Drawn.{drawn, items_of, drawnAll, sectionsOf}
-use Rattle.sketch.proofs.Sources.{noSketchedRead, sections-end, leftFrom, section-start, section-on, section-end, Sectioned}
+use Rattle.clockimage.specs.Image.{dot_record, dot_records}
+use Rattle.mapimage.specs.MapImage.{entry_records}
+use Rattle.sketch.specs.Drawn.{drawn, items_of, drawn_all, sections_of}
+use Rattle.sketch.proofs.Sources.{no_sketched_read, sections-end, left_from, section-start, section-on, section-end, Sectioned}
 use Rattle.sketch.proofs.writing.write_sketch.Statement.{statement}
 use Rattle.sketch.proofs.writing.write_sketch.Tie as tie
 
@@ -22,15 +22,15 @@ invariant-loop s t out₀ sk n next₀ kind₀ i₀ out next kind i = ((2 ≤ ki
 
 -- a section has at most as many entries as a map
 abbrev decreases-loop : tie.decreases-loop
-decreases-loop s t out₀ sk n next₀ kind₀ i₀ out next kind i = (5 - kind) * (entryLimit + 1) + (n - i)
+decreases-loop s t out₀ sk n next₀ kind₀ i₀ out next kind i = (5 - kind) * (entry_limit + 1) + (n - i)
 
 -- the dots of the clock, and the sections behind them
 module _ (z : tie.Start invariant-loop decreases-loop) where
   abbrev dots : List Record
-  dots = dotRecords 1 0 0 (dotsOf z.args.clock)
+  dots = dot_records 1 0 0 (dots_of z.args.clock)
 
   abbrev sections : List Record
-  sections = sectionsOf (drawnAll z.args.s.now z.args.t.now z.args.t4)
+  sections = sections_of (drawn_all z.args.s.now z.args.t.now z.args.t4)
 
   start : Writing (dots ++ sections) (dots ++ sections) 0 z.args.out.now z.args.out.now 0
   start = let h = z.pre.1 in write-start _ 0 _ (omega arith)
@@ -38,7 +38,7 @@ module _ (z : tie.Start invariant-loop decreases-loop) where
 write-dots-requires : tie.Need-write-dots-requires invariant-loop decreases-loop
 write-dots-requires c κs =
     let z = c.before.before.before.before.before in
-    omega (arith, (write-room _ _ _ (dots z) _ (start z) refl).0, length-map (dotsOf z.args.clock) (dotRecord 1 0 0))
+    omega (arith, (write-room _ _ _ (dots z) _ (start z) refl).0, length-map (dots_of z.args.clock) (dot_record 1 0 0))
 
 -- what is left when they are written
 begun : (c : tie.After-slice-known2 invariant-loop decreases-loop) → let z = c.before.before.before.before.before.before.before.before in
@@ -69,9 +69,9 @@ write-entry-requires c κs =
     let a = z.args in
     let g = s.loop.invariant.1.1 in
     let k : s.loop.i < length (items_of a.t4) = omega (arith, s.before.before.before.before.before.size.ensures.0) in
-    let x = get_or a.t4.items s.loop.i noSketchedRead in (
-      z.requires.0.each x (in_list a.t4.items a.t4.sums.count s.loop.i noSketchedRead k),
-      (write-room _ _ _ (entryRecords s.loop.kind s.loop.i (drawn a.s.now a.t.now x)) _ g.wrote
+    let x = get_or a.t4.items s.loop.i no_sketched_read in (
+      z.requires.0.each x (in_list a.t4.items a.t4.sums.count s.loop.i no_sketched_read k),
+      (write-room _ _ _ (entry_records s.loop.kind s.loop.i (drawn a.s.now a.t.now x)) _ g.wrote
           (g.inside (omega arith) ∙ section-on a.s.now a.t.now a.t4 s.loop.kind s.loop.i k)).0,
     )
 
@@ -86,13 +86,13 @@ loop-again c =
       s.before.before.before.before.before.size.ensures.0,
       c.before.before.before.before.before.if1.true,
     ) in
-    let x = get_or a.t4.items s.loop.i noSketchedRead in (
+    let x = get_or a.t4.items s.loop.i no_sketched_read in (
       (omega arith, omega arith),
       (
         omega (arith, c.before.before.before.before.before.if1.true),
         record {
-          rest = leftFrom a.s.now a.t.now a.t4 s.loop.kind (s.loop.i + 1);
-          wrote = write-on _ _ _ (entryRecords s.loop.kind s.loop.i (drawn a.s.now a.t.now x)) g.wrote
+          rest = left_from a.s.now a.t.now a.t4 s.loop.kind (s.loop.i + 1);
+          wrote = write-on _ _ _ (entry_records s.loop.kind s.loop.i (drawn a.s.now a.t.now x)) g.wrote
               (g.inside on ∙ section-on a.s.now a.t.now a.t4 s.loop.kind s.loop.i k) c.before.before.write-entry.ensures;
           inside = λ h. refl;
           beyond = λ h. absurd (omega (arith, on));
@@ -106,7 +106,7 @@ loop-again-2 c =
     let a = s.before.before.before.before.before.before.before.before.before.args in
     let g = s.loop.invariant.1.1 in
     let on : s.loop.kind < 5 = c.before.loop-test.true in
-    let l = drawnAll a.s.now a.t.now a.t4 in
+    let l = drawn_all a.s.now a.t.now a.t4 in
     let e = g.inside on ∙ section-end a.s.now a.t.now a.t4 s.loop.kind s.loop.i
     (omega (arith, s.before.before.before.before.before.size.ensures.0, c.if1.false)) in (
       (omega arith, omega arith),

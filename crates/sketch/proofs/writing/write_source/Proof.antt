@@ -5,18 +5,18 @@ use lib.ListN.{length}
 use borrow.Author.Rules.{rules}
 use Rattle.records.specs.Records.{bytes_of}
 use Rattle.records.specs.Writing.{Wrote}
-use Rattle.mapimage.specs.MapImage.{valueRecords}
+use Rattle.mapimage.specs.MapImage.{value_records}
 use Rattle.sketch.specs.declared.Source.{Source}
-use Rattle.sketch.specs.Drawn.{valueNamed, Placed}
+use Rattle.sketch.specs.Drawn.{value_named, Placed}
 use Rattle.sketch.proofs.Sources.{in-second, in-first}
 use Rattle.sketch.proofs.writing.write_source.Statement.{statement}
 use Rattle.sketch.proofs.writing.write_source.Tie as tie
 
 abbrev Room : Source → ℕ → ℕ → ℕ → ℕ → ℕ → List ℕ → Type 0
-Room x kind key index at room s = Placed s x × (at + length (valueRecords kind key index (valueNamed s x)) * 16 ≤ room)
+Room x kind key index at room s = Placed s x × (at + length (value_records kind key index (value_named s x)) * 16 ≤ room)
 
 abbrev Done : Source → ℕ → ℕ → ℕ → ℕ → List ℕ → List ℕ → ℕ → List ℕ → Type 0
-Done x kind key index at entry exit next s = Wrote at (bytes_of (valueRecords kind key index (valueNamed s x))) entry exit next
+Done x kind key index at entry exit next s = Wrote at (bytes_of (value_records kind key index (value_named s x))) entry exit next
 
 write-in-requires : tie.Need-write-in-requires
 write-in-requires c κs =

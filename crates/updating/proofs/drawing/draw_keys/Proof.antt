@@ -9,26 +9,26 @@ use borrow.Author.Rules.{rules}
 use borrow.Author.Tests.{ltb-false}
 use Rattle.listlaws.proofs.Orders.{apart}
 use Rattle.clock.specs.declared.Dot.{Dot}
-use Rattle.clock.specs.Dots.{dotsOf, is_empty}
+use Rattle.clock.specs.Dots.{dots_of, is_empty}
 use Rattle.clock.proofs.Packs.{dots-of}
 use Rattle.map.specs.declared.Map.{Map}
-use Rattle.limits.specs.Limits.{entryLimit}
-use Rattle.map.specs.Model.{waitingIn}
-use Rattle.maprecords.specs.Related.{readMap}
-use Rattle.mapimage.specs.MapImage.{keyNumber}
+use Rattle.limits.specs.Limits.{entry_limit}
+use Rattle.map.specs.Model.{waiting_in}
+use Rattle.maprecords.specs.Related.{read_map}
+use Rattle.mapimage.specs.MapImage.{key_number}
 use Rattle.queued.specs.Queue.{Marked, Keyed}
-use Rattle.sketch.specs.Drawn.{clockApart}
+use Rattle.sketch.specs.Drawn.{clock_apart}
 use Rattle.sketch.proofs.Adding.{sketch-none, push-one, push-over}
 use Rattle.leaving.proofs.Fates.{some_left, none_left}
 use Rattle.updating.specs.Updated.{puts, UpdateComes, PutLies}
 use Rattle.updating.proofs.Lying.{put-lies}
-use Rattle.updating.proofs.Updates.{Drawing, drawing-start, fits_next, cutKey, Drew, drew, grown-goes, grown-stays, drawing-on, drawing-end}
+use Rattle.updating.proofs.Updates.{Drawing, drawing-start, fits_next, cut_key, Drew, drew, grown-goes, grown-stays, drawing-on, drawing-end}
 use Rattle.updating.proofs.drawing.draw_keys.Statement.{statement}
 use Rattle.updating.proofs.drawing.draw_keys.Tie as tie
 
 abbrev invariant-loop : tie.invariant-loop
-invariant-loop s l u op q first last dot third items₀ sums₀ f₀ x₀ done₀ items sums f x done = (length items ≡ entryLimit)
-    × Drawing (readMap s).map u s op l last (record { items = items; sums = sums }) f x done
+invariant-loop s l u op q first last dot third items₀ sums₀ f₀ x₀ done₀ items sums f x done = (length items ≡ entry_limit)
+    × Drawing (read_map s).map u s op l last (record { items = items; sums = sums }) f x done
 
 abbrev decreases-loop : tie.decreases-loop
 decreases-loop s l u op q first last dot third items₀ sums₀ f₀ x₀ done₀ items sums f x done = (third - x.own) + puts done
@@ -101,38 +101,38 @@ module _ (c : tie.After-draw-key invariant-loop decreases-loop) where
   z = w.before.before.before.before.before.before.before
 
   abbrev m : Map
-  m = (readMap z.args.s.now).map
+  m = (read_map z.args.s.now).map
 
   abbrev key : ℕ
   key = k.next.result.entry.key
 
-  ours : let r = i.listers.result in Marked (waitingIn m) key r.under
-      × Keyed z.args.s.now r.next z.args.last (keyNumber 0 (key + 1)) (waitingIn m)
+  ours : let r = i.listers.result in Marked (waiting_in m) key r.under
+      × Keyed z.args.s.now r.next z.args.last (key_number 0 (key + 1)) (waiting_in m)
   ours =
       let d = w.loop.inv.1 in
       let bound = (came k).least d.low d.above d.goal in
-      i.listers.ensures.1 (keyNumber 0 d.low) (waitingIn m) d.listed (omega (arith, bound))
+      i.listers.ensures.1 (key_number 0 d.low) (waiting_in m) d.listed (omega (arith, bound))
 
   drawn : Drew w.loop.inv.1 (came k) key c.draw-key.result
   drawn =
       let r = came k in
       let p = z.pre in
-      drew w.loop.inv.1 r (c.draw-key.ensures z.args.u r.entry (waitingIn m) refl (lain z) r.lies
+      drew w.loop.inv.1 r (c.draw-key.ensures z.args.u r.entry (waiting_in m) refl (lain z) r.lies
       (fits_next w.loop.inv.1 r p.0.0 p.1.1.0.1) p.0.1
-      (subst (λ x. Marked (waitingIn m) x i.listers.result.under) r.lies.key ours.0))
+      (subst (λ x. Marked (waiting_in m) x i.listers.result.under) r.lies.key ours.0))
 
-  abbrev drawnDots : List Dot
-  drawnDots = dotsOf (clockApart c.draw-key.result.own)
+  abbrev drawn_dots : List Dot
+  drawn_dots = dots_of (clock_apart c.draw-key.result.own)
 
-  left : is_empty (cutKey w.loop.inv.1 (came k)) ≡ is_empty drawnDots
-  left = ap is_empty (sym (dots-of (cutKey w.loop.inv.1 (came k)) drawn.0))
+  left : is_empty (cut_key w.loop.inv.1 (came k)) ≡ is_empty drawn_dots
+  left = ap is_empty (sym (dots-of (cut_key w.loop.inv.1 (came k)) drawn.0))
 
 loop-again : tie.Need-loop-preserved invariant-loop decreases-loop
 loop-again c =
     let v = c.before.before.before.before.before in
     let d = (w v).loop.invariant.1 in
     let r = came (k v) in
-    let e = left v ∙ some_left (drawnDots v) c.before.before.before.size.ensures.0 c.before.before.if2.true in
+    let e = left v ∙ some_left (drawn_dots v) c.before.before.before.size.ensures.0 c.before.before.if2.true in
     let s = c.before.with.ensures in (
       simp length-set (w v).loop.invariant.0,
       drawing-on d r (ours v).1 (omega (arith, s.0)) (grown-stays d r (z v).requires.1.0.0 e
@@ -144,7 +144,7 @@ loop-again-2 c =
     let v = c.before.before.before.before.before in
     let d = (w v).loop.invariant.1 in
     let r = came (k v) in
-    let e = left v ∙ some_left (drawnDots v) c.before.before.before.size.ensures.0 c.before.before.if2.true in
+    let e = left v ∙ some_left (drawn_dots v) c.before.before.before.size.ensures.0 c.before.before.if2.true in
     let s = c.before.with.ensures in (
       (w v).loop.invariant.0,
       drawing-on d r (ours v).1 (omega (arith, s.0)) (grown-stays d r (z v).requires.1.0.0 e
@@ -158,7 +158,7 @@ loop-again-3 c =
     let r = came (k v) in (
       (w v).loop.invariant.0,
       drawing-on d r (ours v).1 (omega arith)
-          (grown-goes d r (z v).requires.1.0.0 (left v ∙ none_left (drawnDots v) c.before.size.ensures.0 c.if2.false)),
+          (grown-goes d r (z v).requires.1.0.0 (left v ∙ none_left (drawn_dots v) c.before.size.ensures.0 c.if2.false)),
     )
 
 pub draw-keys-spec : {M : Type 1} → statement M

@@ -7,10 +7,10 @@ use Rattle.listlaws.specs.Sift.{sift}
 use Rattle.clock.proofs.Joins.{lawful-nil}
 use Rattle.clock.proofs.Packs.{dots-of}
 use Rattle.register.specs.Values.{alive}
-use Rattle.entries.specs.Model.{valuesIn}
+use Rattle.entries.specs.Model.{values_in}
 use Rattle.marks.specs.Marks.{picked}
 use Rattle.sketch.specs.Drawn.{Draws}
-use Rattle.leaving.specs.Left.{valueLeft}
+use Rattle.leaving.specs.Left.{value_left}
 use Rattle.updating.proofs.Values.{none-marked}
 use Rattle.updating.proofs.drawing.draw_standing.Statement.{statement}
 use Rattle.updating.proofs.drawing.draw_standing.Tie as tie
@@ -25,7 +25,7 @@ returns c =
     let z = c.before.before.before.before in
     let s = z.args.s.now in (
       omega (arith, c.draw-values.ensures.0, z.requires.0),
-      λ t key d e w g h q m. subst (λ x. Draws s t key d (sift alive (valueLeft w [] e.key x) (picked z.args.stand (valuesIn e)))
+      λ t key d e w g h q m. subst (λ x. Draws s t key d (sift alive (value_left w [] e.key x) (picked z.args.stand (values_in e)))
           c.draw-values.result) (dots-of [] c.before.before.new.ensures)
           (c.draw-values.ensures.1 s t key d [] e [] w refl g h (c.before.none.ensures s) q (none-marked e.key) m),
     )

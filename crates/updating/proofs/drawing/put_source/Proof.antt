@@ -2,9 +2,9 @@
 use mathlib.Core.Path.{refl, ap, sym, ◌∙◌}
 use native.Mathlib.Omega.{arith}
 use borrow.Author.Rules.{rules}
-use Rattle.limits.specs.Limits.{dotLimit}
-use Rattle.clock.specs.Dots.{clockOf}
-use Rattle.queued.specs.Queue.{cutsFor}
+use Rattle.limits.specs.Limits.{dot_limit}
+use Rattle.clock.specs.Dots.{clock_of}
+use Rattle.queued.specs.Queue.{cuts_for}
 use Rattle.marks.proofs.Picks.{picked_all}
 use Rattle.updating.proofs.Lying.{put-short, put-few}
 use Rattle.updating.proofs.Values.{left-none}
@@ -25,9 +25,9 @@ returns c =
       (refl, (omega arith, omega arith)),
       λ u w key h q m.
           let dots = c.cut-listed-marks.ensures w key q m
-          ∙ ap (cutsFor w key) (picked_all _ dotLimit (put-few h) ∙ h.dots ∙ sym (left-none key h.lawful)) in (
+          ∙ ap (cuts_for w key) (picked_all _ dot_limit (put-few h) ∙ h.dots ∙ sym (left-none key h.lawful)) in (
             record { order = omega arith; few = omega arith; run = omega arith; value = omega arith },
-            λ i. record { clock = clockOf (dots i); value = h.value i },
+            λ i. record { clock = clock_of (dots i); value = h.value i },
           ),
     )
 

@@ -5,7 +5,7 @@ use mathlib.Core.List.{[]}
 use native.Mathlib.Omega.{arith}
 use borrow.Author.Rules.{rules}
 use borrow.Author.Tests.{ltb-true}
-use Rattle.entries.specs.Model.{entryAs}
+use Rattle.entries.specs.Model.{entry_as}
 use Rattle.entrywalk.specs.Walking.{LiesAt}
 use Rattle.entrywalk.proofs.Fronts.{front-first, front_above}
 use Rattle.updating.proofs.Nexts.{comes-behind, comes-before, comes-on, comes-new, comes-told}
@@ -32,7 +32,7 @@ returns-2 c =
     let n = c.none-at.ensures in
     comes-told i.if1.false
     (comes-new u h _ (λ e j. omega (arith, k, front_above h c.before.before.head.ensures c.before.if2.true e j))
-    (subst (λ z. LiesAt a.s.now (entryAs z [] []) c.none-at.result) k (n.1 a.s.now)) n.0.1)
+    (subst (λ z. LiesAt a.s.now (entry_as z [] []) c.none-at.result) k (n.1 a.s.now)) n.0.1)
 
 entry-at-requires-2 : tie.Need-entry-at-requires-2
 entry-at-requires-2 c κs =
