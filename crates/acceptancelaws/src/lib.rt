@@ -1,1 +1,2 @@
 // Laws only: what the readers promise of an accepted image.
+#![tactic(auto)]

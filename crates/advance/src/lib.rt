@@ -1,4 +1,5 @@
 // The controller's own clock, advanced by one dot: by value.
+#![tactic(auto)]
 ghost use Rattle.std.specs.Prelude.{◌≡◌, ◌≤◌};
 ghost use Rattle.clock.specs.Dots.{dots_of};
 ghost use Rattle.advance.specs.Advancing.{rising_dots, lent_number, advanced_of};
@@ -7,7 +8,7 @@ use clock::{Clock, Dot};
 use limits::DOTS;
 
 // The word, whether the dot took effect, and the clock, which is the one given where it did not.
-#[derive(Drop)]
+#[derive(Clone, Copy)]
 pub struct Advanced {
     pub word: u64,
     pub grew: bool,

@@ -1,1 +1,2 @@
 // The order in which removals arrive does not matter: laws only, this crate has no code.
+#![tactic(auto)]

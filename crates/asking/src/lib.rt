@@ -1,5 +1,6 @@
 // What is asked of a map without changing it: the validations, making an operation, reading a key, the count.
 // The Rust's methods of a map are functions of a map here: an `impl` stands in its type's crate.
+#![tactic(auto)]
 ghost use Rattle.std.specs.Prelude.{◌≡◌, true, false, [], ◌∷◌, ◌≤◌, ◌<◌, ◌+◌, eqb, ltb};
 ghost use Rattle.asking.specs.declared.CmRDTValidation.TheVariants.{Fits, Missing};
 ghost use Rattle.clock.specs.Dots.{dots_of};
@@ -20,35 +21,35 @@ use register::{Content, Value};
 use removals::{Keys, Removal, Waiting};
 
 // What `validate_op` says: the update fits, or counters are missing before it.
-#[derive(Drop)]
+#[derive(Clone, Copy)]
 pub enum CmRDTValidation {
     Fits,
     Missing(u64, u64),
 }
 
 // What `validate_merge` says: no dot is spent twice, or this one is, under these keys.
-#[derive(Drop)]
+#[derive(Clone, Copy)]
 pub enum CvRDTValidation {
     Once,
     Twice(Dot, u32, u32),
 }
 
 // An operation made of a map, or why it can't be made, with a zero operation.
-#[derive(Drop)]
+#[derive(Clone, Copy)]
 pub struct Made {
     pub number: u8,
     pub op: Op,
 }
 
 // What a reader of a map carries along: the clock to add under, and the clock to remove under.
-#[derive(Drop)]
+#[derive(Clone, Copy)]
 pub struct ReadCtx {
     pub add_clock: Clock,
     pub rm_clock: Clock,
 }
 
 // What an update is made with: the next dot of an actor and the clock with it, or why it can't be made, with zeros.
-#[derive(Drop)]
+#[derive(Clone, Copy)]
 pub struct AddCtx {
     pub number: u8,
     pub clock: Clock,

@@ -1,4 +1,5 @@
 // A list of operations that another maker proposes: whether it brings our map to theirs, and which operation is refused.
+#![tactic(auto)]
 ghost use Rattle.std.specs.Prelude.{◌≡◌, ◌*◌, ◌^◌, ◌≤◌, length, take};
 ghost use Rattle.mapimage.specs.MapImage.{map_longest};
 ghost use Rattle.promises.specs.CatchUp.{outcome_of, same_bytes};
@@ -11,7 +12,7 @@ pub const LONGEST: usize = 28800;
 pub const OPERATIONS: usize = 32;
 
 // What the operations came to: the word and the place of a refusal, or 0, 0 and the length of the last image.
-#[derive(Drop)]
+#[derive(Clone, Copy)]
 pub struct Ran {
     pub word: u64,
     pub place: u64,
@@ -19,7 +20,7 @@ pub struct Ran {
 }
 
 // What both calls answer.
-#[derive(Drop)]
+#[derive(Clone, Copy)]
 pub struct Verdict {
     pub word: u64,
     pub place: u64,

@@ -1,1 +1,2 @@
 // Laws of the lists of operations that castribba_catch_up accepts.
+#![tactic(auto)]

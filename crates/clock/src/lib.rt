@@ -1,4 +1,6 @@
 // Dots and clocks: a counter for each actor, as a sorted array of dots with a count, by value.
+#![tactic(auto)]
+
 ghost use Rattle.std.specs.Prelude.{◌≡◌, true, List, [], ◌∷◌, ◌++◌, map, ◌≤◌, ◌<◌, length, drop};
 ghost use Rattle.clock.specs.declared.Dot.{Dot};
 ghost use Rattle.listlaws.specs.Sift.{those};
@@ -11,21 +13,21 @@ ghost use Rattle.clock.specs.Lawful.{Lawful};
 use limits::DOTS;
 
 #[repr(C)]
-#[derive(Drop)]
+#[derive(Clone, Copy)]
 pub struct Dot {
     pub actor: u16,
     pub counter: u64,
 }
 
 #[repr(C)]
-#[derive(Drop)]
+#[derive(Clone, Copy)]
 pub struct Clock {
     pub dots: [Dot; DOTS],
     pub len: usize,
 }
 
 // How two clocks stand to each other.
-#[derive(Drop)]
+#[derive(Clone, Copy)]
 pub enum Order {
     Equal,
     Greater,
@@ -34,14 +36,14 @@ pub enum Order {
 }
 
 // A clock that may have grown over the limit: then `over` is set, and the clock is empty.
-#[derive(Drop)]
+#[derive(Clone, Copy)]
 pub struct Joined {
     pub over: bool,
     pub clock: Clock,
 }
 
 // What a cut leaves of a clock, and how many dots it deleted.
-#[derive(Drop)]
+#[derive(Clone, Copy)]
 pub struct Cut {
     pub clock: Clock,
     pub deleted: usize,

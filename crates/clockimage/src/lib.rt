@@ -1,4 +1,5 @@
 // Images of clocks: read and written.
+#![tactic(auto)]
 ghost use Rattle.std.specs.Prelude.{◌≡◌, List, [], ◌∷◌, ◌++◌, true, cond, ◌+◌, ◌*◌, ◌≤◌, ◌<◌, length};
 ghost use Rattle.clock.specs.declared.Dot.{Dot};
 ghost use Rattle.limits.specs.Limits.{dot_limit};
@@ -19,14 +20,14 @@ use scan::Scan;
 pub const CLOCK_LONGEST: usize = DOTS * 16;
 
 // What an image was read as: a number of document 01, and the clock, which is empty where the number is not 0.
-#[derive(Drop)]
+#[derive(Clone, Copy)]
 pub struct ReadClock {
     pub number: u8,
     pub clock: Clock,
 }
 
 // A clock's image so far: it takes one record at a time, and is asked at the end.
-#[derive(Drop)]
+#[derive(Clone, Copy)]
 pub struct ClockReader {
     pub scan: Scan,
     pub clock: Clock,

@@ -1,4 +1,5 @@
 // Steps 2 to 4 of a salvage: a mark for each record of a damaged image, which says whether it stays, or the step at which it goes.
+#![tactic(auto)]
 ghost use Rattle.std.specs.Prelude.{◌≡◌, not, cond, ◌||◌, true, false, ◌*◌, ◌/◌, ◌≤◌, length, take};
 ghost use Rattle.listlaws.specs.First.{some};
 ghost use Rattle.records.specs.Kinds.{record_ok, before};
@@ -14,7 +15,7 @@ use scan::Scan;
 pub const CHANGED: u16 = 8;
 
 // A record that is looked for: of a kind, and under a key, under an index, or of an actor with this counter or more, where these are asked for.
-#[derive(Drop)]
+#[derive(Clone, Copy)]
 pub struct Wanted {
     pub kind: u8,
     pub keyed: bool,

@@ -1,4 +1,5 @@
 // What a reader of pieces is answered with at the end, from its lent memory, whatever stands in it.
+#![tactic(auto)]
 ghost use Rattle.std.specs.Prelude.{◌≡◌, true, ◌+◌, ◌*◌, ◌^◌, ◌≤◌, ◌<◌, min, ltb, length};
 ghost use Rattle.limits.specs.Limits.{dot_limit, entry_limit, waiting_limit};
 ghost use Rattle.clock.specs.Dots.{clock_of, counter_in, covers};

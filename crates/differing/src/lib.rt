@@ -1,4 +1,5 @@
 // What differs between two maps, told key by key from their images where they lie.
+#![tactic(auto)]
 pub mod pairing;
 pub mod telling;
 
@@ -6,7 +7,7 @@ use differences::Difference;
 use entrywalk::Cursor;
 
 // A key with its class, and where the next entries of both maps stand.
-#[derive(Drop)]
+#[derive(Clone, Copy)]
 pub struct Next {
     pub told: Difference,
     pub x: Cursor,

@@ -14,7 +14,7 @@ use planned::Plan;
 use walks::Span;
 
 // Which limit a draft breaks, and where it breaks none, how many records its waiting removals have.
-#[derive(Drop)]
+#[derive(Clone, Copy)]
 pub struct Weighed {
     pub number: u8,
     pub records: usize,

@@ -1,4 +1,5 @@
 // Entries by key: a clock and a register each; and the update of one; on arrays with a count, by value.
+#![tactic(auto)]
 mod by_key;
 mod finished;
 mod one_entry;
@@ -7,21 +8,21 @@ use clock::{Clock, Dot};
 use limits::ENTRIES;
 use register::{Register, Value, Wide};
 
-#[derive(Drop)]
+#[derive(Clone, Copy)]
 pub struct Entry {
     pub key: u32,
     pub clock: Clock,
     pub register: Register,
 }
 
-#[derive(Drop)]
+#[derive(Clone, Copy)]
 pub struct Entries {
     pub items: [Entry; ENTRIES],
     pub len: usize,
 }
 
 // An entry whose register may stand above its limit until it is laid down.
-#[derive(Drop)]
+#[derive(Clone, Copy)]
 pub struct WideEntry {
     pub key: u32,
     pub clock: Clock,
@@ -29,21 +30,21 @@ pub struct WideEntry {
 }
 
 // An entry laid down; where it has too many values, `over` is set, and its register is empty.
-#[derive(Drop)]
+#[derive(Clone, Copy)]
 pub struct LaidEntry {
     pub over: bool,
     pub entry: Entry,
 }
 
 // What is left of an entry in a merge: where `stays` is not set it goes, and the entry is empty.
-#[derive(Drop)]
+#[derive(Clone, Copy)]
 pub struct Survivor {
     pub stays: bool,
     pub entry: WideEntry,
 }
 
 // What is left of the next entry of a merge, and how many it takes of ours and of theirs.
-#[derive(Drop)]
+#[derive(Clone, Copy)]
 pub struct MergeStep {
     pub survivor: Survivor,
     pub ours: usize,
@@ -51,14 +52,14 @@ pub struct MergeStep {
 }
 
 // Finished entries: how many, whether one has too many values, and the entries where both are within the limits.
-#[derive(Drop)]
+#[derive(Clone, Copy)]
 pub struct FinishedEntries {
     pub count: usize,
     pub wide: bool,
     pub items: [Entry; ENTRIES],
 }
 
-#[derive(Drop)]
+#[derive(Clone, Copy)]
 pub struct Update {
     pub dot: Dot,
     pub key: u32,

@@ -1,4 +1,5 @@
 // The entries of an image where they lie: a walk from one to the next, and the clock of one.
+#![tactic(auto)]
 ghost use Rattle.std.specs.Prelude.{◌≡◌, List, [], ℕ, ◌*◌, ◌≤◌, ◌<◌, length};
 ghost use Rattle.clock.specs.Dots.{dots_of, clock_of, cut_dots};
 ghost use Rattle.clock.specs.Lawful.{Lawful};
@@ -20,7 +21,7 @@ use walks::{BEYOND_KEYS, BY_INDEX, BY_KEY, Layout, Span};
 pub const VALUE_STARTS: usize = VALUES + 1;
 
 // Where the next entry's dots, values and values' dots begin: numbers of records.
-#[derive(Drop)]
+#[derive(Clone, Copy)]
 pub struct Cursor {
     pub own: usize,
     pub value: usize,
@@ -28,7 +29,7 @@ pub struct Cursor {
 }
 
 // An entry where it lies: its key, its dots, its values, where each value's dots begin, and where the next entry stands.
-#[derive(Drop)]
+#[derive(Clone, Copy)]
 pub struct Lain {
     pub key: u32,
     pub dots: Span,

@@ -1,4 +1,5 @@
 // The floor of some peers' clocks: one peer after the other, by value.
+#![tactic(auto)]
 ghost use Rattle.std.specs.Prelude.{◌≡◌, min};
 ghost use Rattle.clock.specs.Dots.{dots_of, clock_of};
 ghost use Rattle.flooring.specs.Steps.{lowered_by, begun_of, next_of};
@@ -9,7 +10,7 @@ use clock::{Clock, Dot};
 pub const PEERS: usize = 64;
 
 // What a walk over some peers has in hand: its word, how many of them it reads, whether it has read one, and the floor of those.
-#[derive(Drop)]
+#[derive(Clone, Copy)]
 pub struct Floored {
     pub word: u64,
     pub many: usize,

@@ -1,4 +1,5 @@
 // What a merge keeps of the dots of two entries, and what it deletes.
+#![tactic(auto)]
 ghost use Rattle.std.specs.Prelude.{◌≡◌, cond, ◌+◌, ◌≤◌, ◌<◌, max, length, drop};
 ghost use Rattle.limits.specs.Limits.{dot_limit};
 ghost use Rattle.clock.specs.Dots.{dots_of, clock_of, cut_dots, join_dots};
@@ -9,14 +10,14 @@ ghost use Rattle.keeping.specs.Keeping.{kept_counter, sought, meeting};
 use clock::{Clock, Dot};
 
 // What a merge keeps of two clocks, and what it deletes.
-#[derive(Drop)]
+#[derive(Clone, Copy)]
 pub struct Kept {
     pub keep: Clock,
     pub gone: Clock,
 }
 
 // The first actor of two clocks from a place in each on: its counters, and the places behind it.
-#[derive(Drop)]
+#[derive(Clone, Copy)]
 pub struct Meeting {
     pub actor: u16,
     pub ours: u64,
@@ -26,7 +27,7 @@ pub struct Meeting {
 }
 
 // What a clock has for an actor from a place on, and the place behind the actor.
-#[derive(Drop)]
+#[derive(Clone, Copy)]
 pub struct Sought {
     pub counter: u64,
     pub next: usize,

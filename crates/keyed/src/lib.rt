@@ -1,4 +1,5 @@
 // A key's records where they lie, and the clock of its entry.
+#![tactic(auto)]
 ghost use Rattle.std.specs.Prelude.{◌≡◌, List, ℕ, ◌*◌, ◌≤◌, ◌<◌, length};
 ghost use Rattle.listlaws.specs.Order.{Ascending, by};
 ghost use Rattle.clock.specs.Dots.{clock_of};
@@ -16,7 +17,7 @@ use clock::Clock;
 use walks::{BY_KEY, Layout, Span};
 
 // The records of a key's entry: its dots, its values, and the values' dots.
-#[derive(Drop)]
+#[derive(Clone, Copy)]
 pub struct Spans {
     pub dots: Span,
     pub values: Span,
@@ -24,7 +25,7 @@ pub struct Spans {
 }
 
 // An entry on a walk along the dots of all: its key, its clock, and where the next one's begin.
-#[derive(Drop)]
+#[derive(Clone, Copy)]
 pub struct Stop {
     pub key: u32,
     pub clock: Clock,

@@ -1,4 +1,5 @@
 // A map's image recognised where it stands, and the places of its sections.
+#![tactic(auto)]
 ghost use Rattle.std.specs.Prelude.{◌≡◌, ◌+◌, ◌<◌};
 ghost use Rattle.records.specs.Records.{records_of};
 ghost use Rattle.maprecords.specs.Related.{read_map};
@@ -50,7 +51,7 @@ fn slow_number(s: &[u8]) -> u8
 }
 
 // A verdict on an image, the map clock, and where the rest stands.
-#[derive(Drop)]
+#[derive(Clone, Copy)]
 pub struct Laid {
     pub number: u8,
     pub entries: usize,

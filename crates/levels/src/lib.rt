@@ -1,1 +1,2 @@
 // Maps within maps: 01's rules at every level, and the laws that hold at each. Laws only, this crate has no code.
+#![tactic(auto)]

@@ -1,4 +1,5 @@
 // The limits of document 01: the most of each thing that a map, a clock, a register or a removal may hold.
+#![tactic(auto)]
 
 // Dots in any clock.
 pub const DOTS: usize = 8;

@@ -33,7 +33,7 @@ module _ {A B : Type 0} (keep : B → Bool) (change : A → B) where
       go false t f j = later (f j)
 
   -- the change of an element stands there if it passes
-  pub sift-holds : {l : List A} {x : A} → x ∈ l → keep (change x) ≡ true → change x ∈ sift keep change l
+  pub sift-holds : {x : A} {l : List A} → x ∈ l → keep (change x) ≡ true → change x ∈ sift keep change l
   unfolding sift
   sift-holds {x = x} (Memᴰ.head {x = y} e) t = rw (← e, t) (Memᴰ.head refl)
   sift-holds {x = x} (Memᴰ.tail {x = y} {xs = l} i) t = go (keep (change y)) (sift-holds i t)

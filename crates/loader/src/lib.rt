@@ -1,4 +1,5 @@
 // The boot loader's choice: for a bay, the smallest of the values that no other has overwritten, as a report of eleven bytes.
+#![tactic(auto)]
 ghost use Rattle.std.specs.Prelude.{◌≡◌, false, List, [], ◌∷◌, ◌++◌, ℕ, ◌*◌, ◌+◌, ◌≤◌, ◌<◌, length, get_or};
 ghost use Rattle.register.specs.declared.Value.{Value};
 ghost use Rattle.limits.specs.Limits.{value_limit};
@@ -27,7 +28,7 @@ pub const REPORT: usize = 11;
 pub const REPORTS: usize = BAYS as usize * REPORT;
 
 // How many values remained, whether they differ, whether there is one, and the one taken.
-#[derive(Drop)]
+#[derive(Clone, Copy)]
 pub struct Report {
     pub count: u8,
     pub differ: bool,

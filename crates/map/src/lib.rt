@@ -1,11 +1,12 @@
 // The map: a clock, entries by key, and removals that wait. The Rust's map.rs, on arrays with a count, by value.
+#![tactic(auto)]
 mod changes;
 
 use clock::Clock;
 use entries::{Entries, Update};
 use removals::{Removal, Waiting};
 
-#[derive(Drop)]
+#[derive(Clone, Copy)]
 pub struct Map {
     pub clock: Clock,
     pub entries: Entries,
@@ -13,7 +14,7 @@ pub struct Map {
 }
 
 // An operation: where `up` is set the update, else the removal; the other holds zeros.
-#[derive(Drop)]
+#[derive(Clone, Copy)]
 pub struct Op {
     pub up: bool,
     pub removal: Removal,
@@ -21,7 +22,7 @@ pub struct Op {
 }
 
 // The new map, or the number of the limit that it breaks, with an empty map.
-#[derive(Drop)]
+#[derive(Clone, Copy)]
 pub struct Judged {
     pub number: u8,
     pub map: Map,

@@ -1,4 +1,5 @@
 // Prints stored map images as mapdump prints them, each under its name: the files of data/ that args names.
+#![tactic(auto)]
 use libc::STDOUT_FILENO;
 
 fn print_file(path: &[u8]) {

@@ -1,4 +1,5 @@
 // The entries of a merge, drawn from two images where they lie.
+#![tactic(auto)]
 pub mod drawing;
 pub mod stepping;
 
@@ -6,7 +7,7 @@ use clock::Clock;
 use entrywalk::Lain;
 
 // An entry that one map has alone: what a merge keeps of its clock, and what it deletes.
-#[derive(Drop)]
+#[derive(Clone, Copy)]
 pub struct Alone {
     pub entry: Lain,
     pub keep: Clock,
@@ -14,7 +15,7 @@ pub struct Alone {
 }
 
 // What comes next: our entry and theirs, what a merge keeps of their clocks, and what it deletes.
-#[derive(Drop)]
+#[derive(Clone, Copy)]
 pub struct Coming {
     pub x: Lain,
     pub y: Lain,

@@ -1,1 +1,2 @@
 // Every map has one image: laws only, this crate has no code.
+#![tactic(auto)]

@@ -1,4 +1,5 @@
 // Images of operations: read and written.
+#![tactic(auto)]
 ghost use Rattle.std.specs.Prelude.{◌≡◌, true, cond, List, [], ◌∷◌, ◌++◌, map, ℕ, ◌+◌, ◌*◌, ◌≤◌, ◌<◌, min, length, get_or, set};
 ghost use Rattle.limits.specs.Limits.{key_limit};
 ghost use Rattle.removals.specs.Model.{keys_of, keys_as};
@@ -23,14 +24,14 @@ use scan::Scan;
 pub const OP_LONGEST: usize = (1 + DOTS + KEYS) * 16;
 
 // What an image was read as: a number of document 01, and the operation, which is the empty removal where the number is not 0.
-#[derive(Drop)]
+#[derive(Clone, Copy)]
 pub struct ReadOp {
     pub number: u8,
     pub op: Op,
 }
 
 // An operation's image so far: it takes one record at a time, and is asked at the end.
-#[derive(Drop)]
+#[derive(Clone, Copy)]
 pub struct OpReader {
     pub scan: Scan,
     // of each kind none, one, or 2 for many

@@ -1,4 +1,5 @@
 // The waiting removals of a result, planned from two images where they lie: no clock is taken out.
+#![tactic(auto)]
 ghost use Rattle.std.specs.Prelude.{◌≡◌, true, false, cond, ◌&&◌, ◌||◌, not, List, [], ℕ, ◌+◌, ◌*◌, ◌≤◌, ◌<◌, length};
 ghost use Rattle.listlaws.specs.Sift.{those};
 ghost use Rattle.clock.specs.Dots.{dots_of, is_empty, cut_dots};
@@ -25,7 +26,7 @@ use limits::{DOTS, WAITING};
 use queued::Queue;
 
 // A waiting removal of a result: in the first of two images or in the second, where its dots stand, and which are left.
-#[derive(Drop)]
+#[derive(Clone, Copy)]
 pub struct Held {
     pub second: bool,
     pub from: usize,
@@ -34,14 +35,14 @@ pub struct Held {
 }
 
 // Waiting removals in order.
-#[derive(Drop)]
+#[derive(Clone, Copy)]
 pub struct Ordered {
     pub items: [Held; WAITING],
     pub len: usize,
 }
 
 // Which of two lists' next removals is in turn, or both where their clocks are equal; whether it stays, and where it lies.
-#[derive(Drop)]
+#[derive(Clone, Copy)]
 pub struct Turn {
     pub first: bool,
     pub second: bool,
@@ -50,7 +51,7 @@ pub struct Turn {
 }
 
 // The waiting removals of a result, or that they are too many; and for each removal of two lists its new place, WAITING where it goes.
-#[derive(Drop)]
+#[derive(Clone, Copy)]
 pub struct Plan {
     pub over: bool,
     pub items: [Held; WAITING],

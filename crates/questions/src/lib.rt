@@ -1,4 +1,5 @@
 // The file of cases that replay makes: decimal numbers in a fixed order, and between them whatever helps a reader.
+#![tactic(auto)]
 use clock::{Clock, Dot};
 use limits::{DOTS, ENTRIES, KEYS, VALUES, WAITING};
 use records::{CLOCK_DOT, Record};
@@ -13,14 +14,14 @@ pub const RECORDS: usize = DOTS
 pub const BUFFER: usize = RECORDS * 16;
 
 // A number of the file, and the place behind it.
-#[derive(Drop)]
+#[derive(Clone, Copy)]
 pub struct Found {
     pub value: u64,
     pub at: usize,
 }
 
 // One call with its plain arguments, and the word that the oracle answers.
-#[derive(Drop)]
+#[derive(Clone, Copy)]
 pub struct Question {
     pub call: usize,
     // Whether its images follow; otherwise they are those of the case before.
@@ -37,7 +38,7 @@ pub struct Question {
 }
 
 // An image's length, and the place behind it.
-#[derive(Drop)]
+#[derive(Clone, Copy)]
 pub struct Extent {
     pub len: usize,
     pub at: usize,
@@ -96,7 +97,7 @@ pub fn read_question(file: &[u8], from: usize) -> Question {
 }
 
 // A record, and the place behind it.
-#[derive(Drop)]
+#[derive(Clone, Copy)]
 struct Placed {
     record: Record,
     at: usize,

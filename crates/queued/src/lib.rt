@@ -1,4 +1,5 @@
 // The waiting removals of an image where they lie: their clocks, and what those that list a key leave of a clock.
+#![tactic(auto)]
 ghost use Rattle.std.specs.Prelude.{◌≡◌, List, [], ℕ, ◌+◌, ◌*◌, ◌≤◌, ◌<◌, length, get_or};
 ghost use Rattle.clock.specs.declared.Dot.{Dot};
 ghost use Rattle.limits.specs.Limits.{dot_limit, waiting_limit};
@@ -25,21 +26,21 @@ use walks::{BY_INDEX, Layout};
 pub const QUEUE_STARTS: usize = WAITING + 1;
 
 // Where the dots of an image's waiting removals begin: numbers of records.
-#[derive(Drop)]
+#[derive(Clone, Copy)]
 pub struct Queue {
     pub starts: [usize; QUEUE_STARTS],
     pub len: usize,
 }
 
 // Which waiting removals list a key, and where the records of higher keys begin.
-#[derive(Drop)]
+#[derive(Clone, Copy)]
 pub struct Listing {
     pub under: [bool; WAITING],
     pub next: usize,
 }
 
 // A key of a result's waiting removals, which of them list it, and where the records of higher keys begin in two images.
-#[derive(Drop)]
+#[derive(Clone, Copy)]
 pub struct Row {
     pub key: u32,
     pub under: [bool; WAITING],
@@ -48,7 +49,7 @@ pub struct Row {
 }
 
 // Whether a removal has too many keys, and how many keys all removals have.
-#[derive(Drop)]
+#[derive(Clone, Copy)]
 pub struct KeyTotals {
     pub over: bool,
     pub total: usize,

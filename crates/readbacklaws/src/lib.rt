@@ -1,1 +1,2 @@
 // Every answer reads back as the very result: laws only, this crate has no code.
+#![tactic(auto)]

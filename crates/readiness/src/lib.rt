@@ -1,4 +1,5 @@
 // The guard that is asked before an update is applied, on a map's clock.
+#![tactic(auto)]
 ghost use Rattle.std.specs.Prelude.{◌≡◌, ◌<◌};
 ghost use Rattle.clock.specs.Dots.{dots_of};
 ghost use Rattle.readiness.specs.Ready.{needed, first_lacking, ready_under, ready_at};
@@ -9,7 +10,7 @@ use map::Op;
 
 // What the guard says: the operation may be applied, its update was not made by `update`, it was seen, or it must be held until an actor's
 // counter has come.
-#[derive(Drop)]
+#[derive(Clone, Copy)]
 pub enum Readiness {
     Next,
     Foreign,

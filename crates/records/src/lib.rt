@@ -1,11 +1,12 @@
 // Records of 16 bytes in a lent slice, and the twelve kinds of record.
+#![tactic(auto)]
 ghost use Rattle.std.specs.Prelude.{◌≡◌, ◌+◌, ◌*◌, ◌≤◌, ◌<◌, length};
 ghost use Rattle.records.specs.Bytes.{num_at, num_bytes, placed, flag_of};
 ghost use Rattle.records.specs.Records.{record_from, record_bytes};
 ghost use Rattle.records.specs.Writing.{Wrote};
 ghost use Rattle.records.specs.Kinds.{mask_of, field_ok, fields_ok, counter_ok, record_ok, actor_of, before};
 
-#[derive(Drop)]
+#[derive(Clone, Copy)]
 pub struct Record {
     pub kind: u8,
     pub index: u8,

@@ -1,4 +1,5 @@
 // Registers: concurrent values in order, each under a clock. The Rust's mvreg.rs, on arrays with a count, by value.
+#![tactic(auto)]
 ghost use Rattle.std.specs.Prelude.{◌≡◌, List, [], ◌∷◌, ◌++◌, map, ◌≤◌, ◌<◌, ◌+◌, length};
 ghost use Rattle.listlaws.specs.Sift.{those};
 ghost use Rattle.clock.specs.Dots.{dots_of, fitted};
@@ -16,47 +17,47 @@ use limits::VALUES;
 pub const WIDE: usize = 2 * VALUES;
 
 // What a value is: its number, and the origin code of who set it.
-#[derive(Drop)]
+#[derive(Clone, Copy)]
 pub struct Content {
     pub number: u64,
     pub origin: u16,
 }
 
-#[derive(Drop)]
+#[derive(Clone, Copy)]
 pub struct Value {
     pub clock: Clock,
     pub value: Content,
 }
 
-#[derive(Drop)]
+#[derive(Clone, Copy)]
 pub struct Register {
     pub values: [Value; VALUES],
     pub len: usize,
 }
 
 // A register in hand, which may stand above the limit until what follows has cut it.
-#[derive(Drop)]
+#[derive(Clone, Copy)]
 pub struct Wide {
     pub values: [Value; WIDE],
     pub len: usize,
 }
 
 // A register in hand laid down again: over the limit, `over` is set and the register is empty.
-#[derive(Drop)]
+#[derive(Clone, Copy)]
 pub struct Settled {
     pub over: bool,
     pub register: Register,
 }
 
 // What a register's reader gets: the values in order, under the clock that they have together.
-#[derive(Drop)]
+#[derive(Clone, Copy)]
 pub struct Read {
     pub joined: Joined,
     pub contents: Contents,
 }
 
 // Values without their clocks.
-#[derive(Drop)]
+#[derive(Clone, Copy)]
 pub struct Contents {
     pub items: [Content; VALUES],
     pub len: usize,

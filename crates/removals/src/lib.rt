@@ -1,4 +1,5 @@
 // Sets of keys, and removals of keys under a clock, which wait until a map's clock covers theirs; on arrays with a count, by value.
+#![tactic(auto)]
 mod by_clock;
 mod key_sets;
 
@@ -9,34 +10,34 @@ ghost use Rattle.removals.specs.Waits.{clock_before};
 use clock::Clock;
 use limits::{KEYS, WAITING};
 
-#[derive(Drop)]
+#[derive(Clone, Copy)]
 pub struct Keys {
     pub items: [u32; KEYS],
     pub len: usize,
 }
 
 // Two sets of keys as one, which may have grown over the limit: then `over` is set, and the set is empty.
-#[derive(Drop)]
+#[derive(Clone, Copy)]
 pub struct UnitedKeys {
     pub over: bool,
     pub keys: Keys,
 }
 
-#[derive(Drop)]
+#[derive(Clone, Copy)]
 pub struct Removal {
     pub clock: Clock,
     pub keys: Keys,
 }
 
 // Removals ascending by clock.
-#[derive(Drop)]
+#[derive(Clone, Copy)]
 pub struct Waiting {
     pub items: [Removal; WAITING],
     pub len: usize,
 }
 
 // Two lists of waiting removals as one: how many, whether one has too many keys, and the removals where both are within the limits.
-#[derive(Drop)]
+#[derive(Clone, Copy)]
 pub struct JoinedWaiting {
     pub count: usize,
     pub long: bool,
@@ -44,7 +45,7 @@ pub struct JoinedWaiting {
 }
 
 // What a reset leaves of waiting removals, or that one has too many keys: then `over` is set, and none is there.
-#[derive(Drop)]
+#[derive(Clone, Copy)]
 pub struct ResetWaiting {
     pub over: bool,
     pub waiting: Waiting,

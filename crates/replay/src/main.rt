@@ -1,5 +1,6 @@
 // Replays a sample of the oracle's answers: makes each call of the file on the file's images, those that change a map also in their plain
 // form, and counts the answers that differ from the file's.
+#![tactic(auto)]
 mod calls;
 
 use libc::STDIN_FILENO;

@@ -1,1 +1,2 @@
 // Laws only: what salvage gives back of a damaged image.
+#![tactic(auto)]

@@ -1,5 +1,6 @@
 // Mends a damaged map image from standard input: the mended image goes to standard output, and a line for each record that was removed
 // or changed to standard error.
+#![tactic(auto)]
 use libc::{STDERR_FILENO, STDIN_FILENO, STDOUT_FILENO};
 use mapimage::MAP_LONGEST;
 

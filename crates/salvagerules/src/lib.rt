@@ -1,1 +1,2 @@
 // Definitions only: salvage of a damaged image, step by step.
+#![tactic(auto)]

@@ -1,4 +1,5 @@
 // What the records of an image show one after the other, before any is given a meaning: bad order (1), an excess (2).
+#![tactic(auto)]
 ghost use Rattle.std.specs.Prelude.{◌≡◌, List, [], ◌∷◌, ◌++◌, cond, eqb, ℕ};
 ghost use Rattle.records.specs.declared.Record.{Record};
 ghost use Rattle.records.specs.Kinds.{waiting_key_kind};
@@ -46,7 +47,7 @@ const INNER: [u8; 13] = [
     0, DOTS as u8, DOTS as u8, 1, DOTS as u8, DOTS as u8, 1, 1, DOTS as u8, 1, 255, 1, DOTS as u8,
 ];
 
-#[derive(Drop)]
+#[derive(Clone, Copy)]
 pub struct Scan {
     pub number: u8,
     pub any: bool,

@@ -1,4 +1,5 @@
 // The entries of a result: where they lie in the images that they are drawn from, how many records they have, and their image.
+#![tactic(auto)]
 pub mod apart;
 pub mod counting;
 pub mod growing;
@@ -7,7 +8,7 @@ pub mod writing;
 use limits::{DOTS, ENTRIES, VALUES};
 
 // What is left of a value: in the first of two images or in the second, where its record and its dots stand, and which dots.
-#[derive(Drop)]
+#[derive(Clone, Copy)]
 pub struct Source {
     pub second: bool,
     pub value: u16,
@@ -17,7 +18,7 @@ pub struct Source {
 }
 
 // A clock with counters and actors apart: between dots in an array there are gaps, which every sketch would start and copy.
-#[derive(Drop)]
+#[derive(Clone, Copy)]
 pub struct Flat {
     pub counters: [u64; DOTS],
     pub actors: [u16; DOTS],
@@ -25,7 +26,7 @@ pub struct Flat {
 }
 
 // An entry of the result: `len` counts its values on past the room.
-#[derive(Drop)]
+#[derive(Clone, Copy)]
 pub struct Sketched {
     pub key: u32,
     pub own: Flat,
@@ -34,7 +35,7 @@ pub struct Sketched {
 }
 
 // What is counted of entries: how many, on past the room, whether one has too many values, and of those in the room the dots and all other records.
-#[derive(Drop)]
+#[derive(Clone, Copy)]
 pub struct Sums {
     pub count: usize,
     pub wide: bool,
@@ -43,7 +44,7 @@ pub struct Sums {
 }
 
 // The entries of the result.
-#[derive(Drop)]
+#[derive(Clone, Copy)]
 pub struct Sketch {
     pub items: [Sketched; ENTRIES],
     pub sums: Sums,

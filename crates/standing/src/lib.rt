@@ -1,4 +1,5 @@
 // Which values of a register stand, by the runs of their dots where they lie.
+#![tactic(auto)]
 ghost use Rattle.std.specs.Prelude.{◌≡◌, true, false, cond, List, [], ◌∷◌, ◌++◌};
 ghost use Rattle.listlaws.specs.Sift.{those};
 ghost use Rattle.clock.specs.Dots.{dots_of};
@@ -13,21 +14,21 @@ use clock::Order;
 use limits::VALUES;
 
 // Which of our values stand in a merge, and which of theirs.
-#[derive(Drop)]
+#[derive(Clone, Copy)]
 pub struct Standing {
     pub ours: [bool; VALUES],
     pub theirs: [bool; VALUES],
 }
 
 // How a value stands against others: whether it yields to one of them, and which of them are left.
-#[derive(Drop)]
+#[derive(Clone, Copy)]
 pub struct Stood {
     pub yields: bool,
     pub left: [bool; VALUES],
 }
 
 // Which values remain beside a put, and whether it yields to one of these.
-#[derive(Drop)]
+#[derive(Clone, Copy)]
 pub struct Outdone {
     pub remain: [bool; VALUES],
     pub yields: bool,

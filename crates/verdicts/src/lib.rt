@@ -1,4 +1,5 @@
 // Both validations and the guard over images, and the numbers that they and the count carry.
+#![tactic(auto)]
 ghost use Rattle.std.specs.Prelude.{◌≡◌};
 ghost use Rattle.asking.specs.Asking.{order_number, order_start, order_end, spent_number};
 ghost use Rattle.promises.specs.Calls.{spent_actor, spent_counter, spent_ours, spent_theirs};
@@ -10,21 +11,21 @@ use asking::{CmRDTValidation, CvRDTValidation};
 use readiness::Readiness;
 
 // What `validate_op` says of two images: where one is refused, its number alone.
-#[derive(Drop)]
+#[derive(Clone, Copy)]
 pub struct OpVerdict {
     pub number: u8,
     pub order: CmRDTValidation,
 }
 
 // What `validate_merge` says of two images.
-#[derive(Drop)]
+#[derive(Clone, Copy)]
 pub struct MergeVerdict {
     pub number: u8,
     pub spent: CvRDTValidation,
 }
 
 // What the guard says of two images.
-#[derive(Drop)]
+#[derive(Clone, Copy)]
 pub struct ReadyVerdict {
     pub number: u8,
     pub ready: Readiness,

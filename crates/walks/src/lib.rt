@@ -1,4 +1,5 @@
 // Walks along an image's records, section by section: how far a run of dots goes, the values of a key, the entries, what waits.
+#![tactic(auto)]
 ghost use Rattle.std.specs.Prelude.{◌≡◌, [], ℕ, ◌+◌, ◌*◌, ◌≤◌, ◌<◌, length, replicate};
 ghost use Rattle.limits.specs.Limits.{dot_limit, value_limit, entry_limit, waiting_limit};
 ghost use Rattle.clock.specs.Dots.{dots_of};
@@ -10,7 +11,7 @@ use limits::{DOTS, ENTRIES, KEYS, VALUES, WAITING};
 use records::{ENTRY_DOT, Record, VALUE, VALUE_DOT, WAITING_DOT, WAITING_KEY};
 
 // How many values of a key there are, and how many dots they have; not good where a value has none.
-#[derive(Drop)]
+#[derive(Clone, Copy)]
 pub struct Passed {
     pub good: bool,
     pub values: usize,
@@ -123,7 +124,7 @@ pub fn values_end(s: &[u8], at: usize, end: usize, dots: usize, last: usize, key
 }
 
 // Where the records of kinds 2 to 6 begin, and where all end: numbers of records.
-#[derive(Drop)]
+#[derive(Clone, Copy)]
 pub struct Layout {
     pub second: usize,
     pub third: usize,
@@ -248,7 +249,7 @@ pub fn field_of(field: u8, r: Record) -> u64
 }
 
 // From where to where some records stand: numbers of records.
-#[derive(Drop)]
+#[derive(Clone, Copy)]
 pub struct Span {
     pub from: usize,
     pub to: usize,
