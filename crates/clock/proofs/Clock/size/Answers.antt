@@ -1,0 +1,14 @@
+-- `Clock::size` meets its contract: the count, and the room where the count is larger.
+use mathlib.Core.Path.{◌≡◌}
+use lib.ListN.{length, length-take}
+use Rattle.listlaws.proofs.Pads.{unmapped}
+use borrow.Author.Rules.{rules}
+use native.Mathlib.Omega.{arith}
+use Rattle.limits.specs.Limits.{dot_limit}
+use Rattle.clock.proofs.Clock.size.Goals as goal
+
+pub returns-then-n-lt-DOTS : goal.returns-then-n-lt-DOTS
+returns-then-n-lt-DOTS c = let h : length c.args.self.dots ≡ dot_limit = search (rules, unmapped) in simp length-take (omega arith)
+
+pub returns-else-n-lt-DOTS : goal.returns-else-n-lt-DOTS
+returns-else-n-lt-DOTS c = let h : length c.args.self.dots ≡ dot_limit = search (rules, unmapped) in simp length-take (omega arith)

@@ -1,0 +1,36 @@
+-- `read_clock` meets its contract: every record is handed to the reader, which is then asked.
+use mathlib.Core.Path.{refl}
+use Prim.Native.Nat.{◌-◌}
+use borrow.Author.Tests.{lt-ltb, le-ltb, eq-eqb, ne_eqb}
+use Rattle.records.proofs.Feeding.{feed-start, feed-on, feed-end}
+use Rattle.clockimage.specs.ClockImage.{read_clock}
+use native.Mathlib.Omega.{arith}
+use Rattle.clockimage.proofs.read_clock.Goals as goal
+
+pub returns-then-len-gt-CLOCK_LONGEST : goal.returns-then-len-gt-CLOCK_LONGEST
+unfolding read_clock
+returns-then-len-gt-CLOCK_LONGEST c = rw (lt-ltb _ _ c.if-len-gt-CLOCK_LONGEST.true) c.refused.ensures
+
+pub returns-then-len-ne0 : goal.returns-then-len-ne0
+unfolding read_clock
+returns-then-len-ne0 c = rw (le-ltb _ _ c.if-len-gt-CLOCK_LONGEST.false, ne_eqb _ _ c.if-len-ne0.true) c.refused-then-len-ne0.ensures
+
+pub loop-i-init : goal.loop-i-init
+loop-i-init c = (refl, (omega arith, feed-start _ c.new-reader.ensures))
+
+pub loop-i-preserved : goal.loop-i-preserved
+loop-i-preserved c = (
+  refl,
+  (
+    omega arith,
+    feed-on _ c.loop-i.invariant.1.1 (omega arith)
+        (λ l f. rw (← c.read_record-r.ensures) (c.take-reader.ensures l f)),
+  ),
+)
+
+pub returns : goal.returns
+unfolding read_clock
+returns c =
+    let at-if2 = c.before.before.before.before in
+    let f = feed-end _ c.loop-i.invariant.1.1 (omega arith) in
+    rw (le-ltb _ _ at-if2.if-len-gt-CLOCK_LONGEST.false, eq-eqb _ _ at-if2.if-len-ne0.false, ← f.2) (c.verdict.ensures f.0 f.1)

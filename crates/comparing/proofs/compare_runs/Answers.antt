@@ -1,0 +1,255 @@
+-- `compare_runs` meets its contract: the loop walks both runs side by side, and keeps what each covers of the other.
+use mathlib.Core.Path.{◌≡◌, refl, ap, ap₂, sym, ◌∙◌, subst}
+use mathlib.Core.Bool.{Bool, true, false, ◌&&◌}
+use mathlib.Core.List.{List}
+use mathlib.Core.Logic.{◌⊎◌, ⊎_elim, inl, inr, ⊎_swap}
+use Prim.Native.Nat.{ℕ, ◌≤◌, ◌<◌, ◌-◌, ◌+◌, ◌/◌}
+use lib.Dec.{leb}
+use lib.ListN.{length, get_or}
+use lib.Seq.{take-length}
+use borrow.Author.Tests.{ltb-true, ltb-false, le-leb, lt-leb, not-true}
+use Rattle.clock.specs.declared.Dot.{Dot}
+use Rattle.clock.specs.declared.Order.TheVariants.{Concurrent}
+use Rattle.clock.specs.Dots.{no_dot, outcome, order_of, covers}
+use Rattle.clock.specs.Lawful.{Lawful}
+use Rattle.clock.proofs.Walks.{Covering, covering-start, covering-past, covering-both, covering-missed, covering-end, covering-gone}
+use Rattle.runs.specs.Run.{run_dots}
+use Rattle.marks.proofs.Dots.{run_at, length_run, all}
+use borrow.Author.Rules.{rules}
+use native.Mathlib.Omega.{arith}
+use mathlib.Core.Bool.{not}
+use Rattle.comparing.proofs.compare_runs.Goals.{After-dot_at-e, At-loop-i, Left-loop-i}
+use Rattle.comparing.proofs.compare_runs.Goals as goal
+
+whole : {l : List Dot} → Lawful l → Lawful (all l)
+whole {l} h = rw (take-length l) h
+
+covers-all : (a b : List Dot) → covers (all a) (all b) ≡ covers a b
+covers-all a b = rw (take-length a, take-length b)
+
+pub loop-i-init : goal.loop-i-init
+loop-i-init c =
+    let p = c.requires in
+    let a = (whole p.0).rising in
+    let b = (whole p.1).rising in
+    (search rules, search rules, covering-start a b, covering-start b a)
+
+-- both places are in use, and their dots were read
+record Level (c : After-dot_at-e) : Type 0 where
+  pub first : let s = c.before.before.before.before in s.loop-i.i < length (all (run_dots s.args.x.now))
+  pub second : let s = c.before.before.before.before in s.loop-i.j < length (all (run_dots s.args.y.now))
+  pub ours : let s = c.before.before.before.before in
+      get_or (run_dots s.args.x.now) s.loop-i.i no_dot ≡ c.dot_at-d.result
+  pub theirs : let s = c.before.before.before.before in
+      get_or (run_dots s.args.y.now) s.loop-i.j no_dot ≡ c.dot_at-e.result
+
+level : (c : After-dot_at-e) → Level c
+level c =
+    let s = c.before.before.before.before in
+    let x = s.args.x.now in
+    let y = s.args.y.now in
+    let k : s.loop-i.j < length y / 16 = ltb-true _ _ c.if-j-m.true in
+    record {
+      first = rw (take-length (run_dots x)) (omega (arith, length_run x));
+      second = rw (take-length (run_dots y)) (omega (arith, length_run y));
+      ours = run_at x s.loop-i.i (omega arith) ∙ sym c.dot_at-d.ensures;
+      theirs = run_at y s.loop-i.j k ∙ sym c.dot_at-e.ensures;
+    }
+
+-- a flag by another name
+flagged : {xs ys : List Dot} {n i m j : ℕ} {b c : Bool} → b ≡ c → Covering xs n i ys m j b → Covering xs n i ys m j c
+flagged {xs} {ys} {n} {i} {m} {j} e g = subst (λ f. Covering xs n i ys m j f) e g
+
+and_yes : (b : Bool) {c : Bool} → c ≡ true → (b && c) ≡ b
+and_yes true e = e
+and_yes false e = refl
+
+and_no : (b : Bool) {c : Bool} → c ≡ false → (b && c) ≡ false
+and_no true e = e
+and_no false e = refl
+
+-- neither covers the other
+apart-runs : (a b : List Dot) → covers (all a) (all b) ≡ false → covers (all b) (all a) ≡ false → Concurrent ≡ order_of a b
+unfolding order_of
+apart-runs a b p q = rw (← covers-all a b, ← covers-all b a, p, q)
+
+-- where the walk stands, and what it walks along
+module _ (c : After-dot_at-e) where
+  abbrev at : At-loop-i
+  at = c.before.before.before.before
+
+  abbrev ours : List Dot
+  ours = run_dots at.before.before.before.args.x.now
+
+  abbrev theirs : List Dot
+  theirs = run_dots at.before.before.before.args.y.now
+
+  in-second : at.loop.j < length at.before.before.before.args.y.now / 16
+  in-second = ltb-true _ _ c.if-j-m.true
+
+  -- an actor that only the first has
+  module _ (e : c.dot_at-d.result.actor < c.dot_at-e.result.actor) where
+    first-over : Covering ours (length ours) (at.loop.i + 1) theirs (length theirs) at.loop.j at.loop.over
+    first-over = let q = level c in covering-past at.loop.inv.2 q.first q.second (rw (q.ours, q.theirs) e)
+
+    first_under : Covering theirs (length theirs) at.loop.j ours (length ours) (at.loop.i + 1) false
+    first_under =
+        let q = level c in
+        covering-missed at.loop.inv.3 (whole at.before.before.before.pre.0) q.second q.first (rw (q.ours, q.theirs) e)
+
+  -- an actor that only the second has
+  module _ (e : c.dot_at-e.result.actor < c.dot_at-d.result.actor) where
+    second-over : Covering ours (length ours) at.loop.i theirs (length theirs) (at.loop.j + 1) false
+    second-over =
+        let q = level c in
+        covering-missed at.loop.inv.2 (whole at.before.before.before.pre.1) q.first q.second (rw (q.ours, q.theirs) e)
+
+    second-under : Covering theirs (length theirs) (at.loop.j + 1) ours (length ours) at.loop.i at.loop.under
+    second-under = let q = level c in covering-past at.loop.inv.3 q.second q.first (rw (q.ours, q.theirs) e)
+
+  -- an actor that both have
+  module _ (e : c.dot_at-d.result.actor ≡ c.dot_at-e.result.actor) where
+    both-over : Covering ours (length ours) (at.loop.i + 1) theirs (length theirs) (at.loop.j + 1)
+        (at.loop.over && leb c.dot_at-e.result.counter c.dot_at-d.result.counter)
+    both-over =
+        let q = level c in
+        flagged (ap₂ (λ d e. at.loop.over && leb e.counter d.counter) q.ours q.theirs)
+        (covering-both at.loop.inv.2 q.first q.second (rw (q.ours, q.theirs) e))
+
+    both_under : Covering theirs (length theirs) (at.loop.j + 1) ours (length ours) (at.loop.i + 1)
+        (at.loop.under && leb c.dot_at-d.result.counter c.dot_at-e.result.counter)
+    both_under =
+        let q = level c in
+        flagged (ap₂ (λ d e. at.loop.under && leb d.counter e.counter) q.ours q.theirs)
+        (covering-both at.loop.inv.3 q.second q.first (rw (q.ours, q.theirs) (sym e)))
+
+pub returns-then-not-over : goal.returns-then-not-over
+returns-then-not-over c =
+    let y = c.before.before.before.before in
+    apart-runs (ours y) (theirs y) (covering-gone (at y).loop.invariant.2 (not-true _ (ap not c.if-not-over.true)))
+    (covering-gone (first_under y c.if-d-e.true) refl)
+
+pub loop-i-preserved-then-d-e : goal.loop-i-preserved-then-d-e
+loop-i-preserved-then-d-e c = let y = c.before.before.before.before in let e = c.if-d-e.true in
+    (omega arith, search rules, first-over y e, first_under y e)
+
+pub returns-then-not-under : goal.returns-then-not-under
+returns-then-not-under c =
+    let y = c.before.before.before.before.before.before.before in
+    apart-runs (ours y) (theirs y) (covering-gone (second-over y c.if-e-d.true) refl)
+    (covering-gone (at y).loop.invariant.3 (not-true _ (ap not c.if-not-under.true)))
+
+pub loop-i-preserved-then-e-d : goal.loop-i-preserved-then-e-d
+loop-i-preserved-then-e-d c =
+    let y = c.before.before.before.before.before.before.before in
+    let e = c.if-e-d.true in
+    (search rules, omega (arith, in-second y), second-over y e, second-under y e)
+
+pub returns-then-not-under-2 : goal.returns-then-not-under-2
+returns-then-not-under-2 c =
+    let y = c.before.before.before.before.before.before.before.before.before.before in
+    let e : y.dot_at-d.result.actor ≡ y.dot_at-e.result.actor = omega
+    (arith, c.if-e-d.false, c.if-d-e.false) in
+    apart-runs (ours y) (theirs y) (covering-gone (both-over y e) (and_no (at y).loop.over (lt-leb _ _ c.if-d-e-2.true)))
+    (covering-gone (at y).loop.invariant.3 (not-true _ (ap not c.if-not-under-2.true)))
+
+pub loop-i-preserved-then-d-e-2 : goal.loop-i-preserved-then-d-e-2
+loop-i-preserved-then-d-e-2 c =
+    let y = c.before.before.before.before.before.before.before.before.before.before in
+    let e : y.dot_at-d.result.actor ≡ y.dot_at-e.result.actor = omega
+    (arith, c.if-e-d.false, c.if-d-e.false) in
+    let k = c.if-d-e-2.true in (
+      omega (arith, y.loop-i-test),
+      omega (arith, in-second y),
+      flagged (and_no (at y).loop.over (lt-leb _ _ k)) (both-over y e),
+      flagged (and_yes (at y).loop.under (le-leb y.dot_at-d.result.counter y.dot_at-e.result.counter (omega (arith, k))))
+          (both_under y e),
+    )
+
+pub returns-then-not-over-2 : goal.returns-then-not-over-2
+returns-then-not-over-2 c =
+    let y = c.before.before.before.before.before.before.before.before.before.before.before.before.before in
+    let e : y.dot_at-d.result.actor ≡ y.dot_at-e.result.actor = omega (
+      arith,
+      c.if-e-d.false,
+      c.if-d-e.false,
+    ) in
+    apart-runs (ours y) (theirs y) (covering-gone (at y).loop.invariant.2 (not-true _ (ap not c.if-not-over-2.true)))
+    (covering-gone (both_under y e) (and_no (at y).loop.under (lt-leb _ _ c.if-e-d-2.true)))
+
+pub loop-i-preserved-then-e-d-2 : goal.loop-i-preserved-then-e-d-2
+loop-i-preserved-then-e-d-2 c =
+    let y = c.before.before.before.before.before.before.before.before.before.before.before.before.before in
+    let e : y.dot_at-d.result.actor ≡ y.dot_at-e.result.actor = omega (
+      arith,
+      c.if-e-d.false,
+      c.if-d-e.false,
+    ) in
+    let k = c.if-e-d-2.true in (
+      omega (arith, y.loop-i-test),
+      omega (arith, in-second y),
+      flagged (and_yes (at y).loop.over (le-leb y.dot_at-e.result.counter y.dot_at-d.result.counter (omega (arith, k))))
+          (both-over y e),
+      flagged (and_no (at y).loop.under (lt-leb _ _ k)) (both_under y e),
+    )
+
+pub loop-i-preserved : goal.loop-i-preserved
+loop-i-preserved c =
+    let y = c.before.before.before.before.before.before.before.before.before.before.before.before in
+    let e : y.dot_at-d.result.actor ≡ y.dot_at-e.result.actor = omega (
+      arith,
+      c.if-e-d.false,
+      c.if-d-e.false,
+    ) in (
+      omega (arith, y.loop-i-test),
+      omega (arith, in-second y),
+      flagged (and_yes (at y).loop.over (le-leb _ _ c.if-d-e-2.false)) (both-over y e),
+      flagged (and_yes (at y).loop.under (le-leb _ _ c.if-e-d-2.false)) (both_under y e),
+    )
+
+-- one of the two is used up
+left_over : (c : Left-loop-i) → let s = c.before in
+    (length (all (run_dots s.args.x.now)) ≤ s.loop-i.i) ⊎
+    (length (all (run_dots s.args.y.now)) ≤ s.loop-i.j)
+left_over c =
+    let s = c.before in
+    let x = s.args.x.now in
+    let y = s.args.y.now in
+    ⊎_elim (λ w. inr (rw (take-length (run_dots y)) (omega (arith, ltb-false s.loop-i.j (length y / 16) w.1.left, length_run y))))
+    (λ w. inl (rw (take-length (run_dots x)) (omega (arith, w.left, length_run x))))
+    c.loop-i-test.branch
+
+long : (s : List ℕ) → length s / 16 ≡ length (all (run_dots s))
+long s = rw (take-length (run_dots s)) (sym (length_run s))
+
+pub returns : goal.returns
+unfolding order_of
+returns c =
+    let s = c.before.before in
+    let p = s.requires in
+    let x = s.args.x.now in
+    let y = s.args.y.now in
+    let e = left_over c.before in
+    c.outcome.ensures
+    ∙ ap₂ outcome
+    (ap (λ k. s.loop-i.over && leb k s.loop-i.j) (long y) ∙ covering-end s.loop-i.invariant.2 (whole p.1) e ∙ covers-all (run_dots x) (run_dots y))
+    (ap (λ k. s.loop-i.under && leb k s.loop-i.i) (long x) ∙ covering-end s.loop-i.invariant.3 (whole p.0) (⊎_swap e) ∙ covers-all (run_dots y)
+    (run_dots x))
+
+pub dot_at-e-requires : goal.dot_at-e-requires
+dot_at-e-requires c = omega (arith, ltb-true)
+
+pub loop-i-smaller-then-d-e : goal.loop-i-smaller-then-d-e
+loop-i-smaller-then-d-e c = omega (arith, ltb-true)
+
+pub loop-i-smaller-then-e-d : goal.loop-i-smaller-then-e-d
+loop-i-smaller-then-e-d c = omega (arith, ltb-true)
+
+pub loop-i-smaller-then-d-e-2 : goal.loop-i-smaller-then-d-e-2
+loop-i-smaller-then-d-e-2 c = omega (arith, ltb-true)
+
+pub loop-i-smaller-then-e-d-2 : goal.loop-i-smaller-then-e-d-2
+loop-i-smaller-then-e-d-2 c = omega (arith, ltb-true)
+
+pub loop-i-smaller : goal.loop-i-smaller
+loop-i-smaller c = omega (arith, ltb-true)

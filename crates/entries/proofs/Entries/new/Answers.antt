@@ -1,0 +1,7 @@
+-- `Entries::new` meets its contract.
+use Rattle.listlaws.specs.Pad.{pad}
+use Rattle.entries.proofs.Entries.new.Goals as goal
+
+pub returns : goal.returns
+unfolding pad
+returns c = rw c.new-none.ensures

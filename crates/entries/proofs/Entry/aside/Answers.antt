@@ -1,0 +1,8 @@
+-- `Entry::aside` meets its contract.
+use Rattle.entries.proofs.Entry.aside.Goals as goal
+
+pub returns-then-below : goal.returns-then-below
+returns-then-below c = rw c.if-below.true
+
+pub returns-else-below : goal.returns-else-below
+returns-else-below c = rw c.if-below.false

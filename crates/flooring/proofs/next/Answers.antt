@@ -1,0 +1,30 @@
+-- `next` meets its contract: each way out is a branch of `next_of`.
+use mathlib.Core.Path.{refl}
+use borrow.Author.Tests.{eq-eqb, ne_eqb}
+use Rattle.flooring.specs.Steps.{next_of}
+use Rattle.flooring.proofs.next.Goals as goal
+
+pub returns-then-f-ne0 : goal.returns-then-f-ne0
+unfolding next_of
+returns-then-f-ne0 c = rw (ne_eqb _ 0 c.if-f-ne0.true) refl
+
+pub returns-then-number-ne0 : goal.returns-then-number-ne0
+unfolding next_of
+returns-then-number-ne0 c =
+    let s = c.before in
+    let n = s.lent_number-number.ensures.0 in
+    rw (c.word.ensures, eq-eqb _ 0 s.if-f-ne0.false, ← n, ne_eqb _ 0 s.if-number-ne0.true) refl
+
+pub returns-then-f : goal.returns-then-f
+unfolding next_of
+returns-then-f c =
+    let s = c.before.before in
+    let n = s.lent_number-number.ensures.0 in
+    rw (c.lower-low.ensures, eq-eqb _ 0 s.if-f-ne0.false, ← n, eq-eqb _ 0 s.if-number-ne0.false, c.if-f.true) refl
+
+pub returns : goal.returns
+unfolding next_of
+returns c =
+    let s = c.before.before in
+    let n = s.lent_number-number.ensures.0 in
+    rw (c.lower-first.ensures, eq-eqb _ 0 s.if-f-ne0.false, ← n, eq-eqb _ 0 s.if-number-ne0.false, c.if-f.false) refl

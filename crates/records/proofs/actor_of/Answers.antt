@@ -1,0 +1,8 @@
+-- `actor_of` meets its contract.
+use Rattle.records.proofs.actor_of.Goals as goal
+
+pub returns-then-r : goal.returns-then-r
+returns-then-r c = rw c.if-r.true
+
+pub returns-else-r : goal.returns-else-r
+returns-else-r c = rw c.if-r.false

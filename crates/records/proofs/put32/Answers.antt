@@ -1,0 +1,9 @@
+-- `put32` meets its contract.
+use mathlib.Core.Path.{refl}
+use native.Mathlib.Omega.{arith}
+use Rattle.records.proofs.Placing.{placed_on}
+use Rattle.records.proofs.put32.Goals as goal
+
+pub returns : goal.returns
+returns c =
+    placed_on _ _ _ _ _ c.put16.ensures c.put16-2.ensures refl (omega arith)

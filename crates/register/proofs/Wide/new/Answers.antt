@@ -1,0 +1,7 @@
+-- `Wide::new` meets its contract.
+use Rattle.listlaws.specs.Pad.{pad}
+use Rattle.register.proofs.Wide.new.Goals as goal
+
+pub returns : goal.returns
+unfolding pad
+returns c = rw c.new-none.ensures

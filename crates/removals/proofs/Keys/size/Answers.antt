@@ -1,0 +1,14 @@
+-- `Keys::size` meets its contract: the count, and the room where the count is larger.
+use mathlib.Core.Path.{◌≡◌}
+use lib.ListN.{length, length-take}
+use Rattle.listlaws.proofs.Pads.{unmapped}
+use borrow.Author.Rules.{rules}
+use native.Mathlib.Omega.{arith}
+use Rattle.limits.specs.Limits.{key_limit}
+use Rattle.removals.proofs.Keys.size.Goals as goal
+
+pub returns-then-n-lt-KEYS : goal.returns-then-n-lt-KEYS
+returns-then-n-lt-KEYS c = let h : length c.args.self.items ≡ key_limit = search (rules, unmapped) in simp length-take (omega arith)
+
+pub returns-else-n-lt-KEYS : goal.returns-else-n-lt-KEYS
+returns-else-n-lt-KEYS c = let h : length c.args.self.items ≡ key_limit = search (rules, unmapped) in simp length-take (omega arith)

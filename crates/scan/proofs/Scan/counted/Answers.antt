@@ -1,0 +1,9 @@
+-- `Scan::counted` meets its contract.
+use borrow.Author.Tests.{eq-eqb, ne_eqb}
+use Rattle.scan.proofs.Scan.counted.Goals as goal
+
+pub returns-then-self-eq0 : goal.returns-then-self-eq0
+returns-then-self-eq0 c = rw (eq-eqb _ _ c.if-self-eq0.true, ← c.tallied.ensures) c.judged.ensures
+
+pub returns : goal.returns
+returns c = rw (ne_eqb _ _ c.if-self-eq0.false)

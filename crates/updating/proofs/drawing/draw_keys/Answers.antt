@@ -1,0 +1,153 @@
+-- `draw_keys` meets its contract: the loop draws the next key, and the next, until neither an entry nor the put is left.
+use mathlib.Core.Path.{◌≡◌, refl, ap, sym, subst, ◌∙◌}
+use mathlib.Core.Bool.{Bool, true, false, not, ◌||◌}
+use mathlib.Core.List.{List}
+use Prim.Native.Nat.{ℕ, ◌+◌, ◌-◌}
+use lib.ListN.{length-set}
+use native.Mathlib.Omega.{arith}
+use borrow.Author.Tests.{ltb-false}
+use Rattle.listlaws.proofs.Orders.{apart}
+use Rattle.clock.specs.declared.Dot.{Dot}
+use Rattle.clock.specs.Dots.{dots_of, is_empty}
+use Rattle.clock.proofs.Packs.{dots-of}
+use Rattle.map.specs.declared.Map.{Map}
+use Rattle.map.specs.Model.{waiting_in}
+use Rattle.maprecords.specs.Related.{read_map}
+use Rattle.mapimage.specs.MapImage.{key_number}
+use Rattle.queued.specs.Queue.{Marked, Keyed}
+use Rattle.sketch.specs.Drawn.{clock_apart}
+use Rattle.sketch.proofs.Adding.{sketch-none, push-one, push-over}
+use Rattle.leaving.proofs.Fates.{some_left, none_left}
+use Rattle.updating.specs.Updated.{UpdateComes, PutLies}
+use Rattle.updating.proofs.Lying.{put-lies}
+use Rattle.updating.proofs.Updates.{drawing-start, fits_next, cut_key, Drew, drew, grown-goes, grown-stays, drawing-on, drawing-end}
+use Rattle.updating.proofs.drawing.draw_keys.Goals.{After-draw_key-k, After-listers-listing, After-next-c, At-loop-x, Start}
+use Rattle.updating.proofs.drawing.draw_keys.Goals as goal
+
+pub loop-x-init : goal.loop-x-init
+loop-x-init c =
+    let p = c.requires in
+    (refl, drawing-start _ p.0.0 p.1.1.1.1.1 c.new-sums.ensures.0 (sketch-none c.new-sums.ensures.0 c.new-sums.ensures.1))
+
+pub next-c-requires : goal.next-c-requires
+next-c-requires c = let d = c.loop-x.invariant.1 in (c.loop-x-test.true, (d.es, d.ahead))
+
+-- what comes next
+came : (c : After-next-c) → let w = c.before.before.before in
+    let a = w.args in
+    UpdateComes a.s.now a.l a.u w.loop-x.x w.loop-x.done w.loop-x.invariant.1.es c.next-c.result
+came c = let d = c.loop-x.invariant.1 in c.next-c.ensures _ d.es refl d.ahead
+
+pub listers-listing-requires : goal.listers-listing-requires
+listers-listing-requires c = let d = c.loop-x.invariant.1 in (d.listed.order, d.listed.within)
+
+-- where the put lies
+lain : (z : Start) → PutLies z.args.op.now z.args.u
+lain z = put-lies _ z.requires.1.0.0 z.requires.1.0.1
+
+pub draw_key-k-requires : goal.draw_key-k-requires
+draw_key-k-requires c =
+    let k = c.before.before.before.before in
+    let r = came k in
+    let z = k.before.before.before.before.before.before.before.before.before.before in
+    (((r.entry, r.lies), (z.requires.1.1.1.0, (_, z.requires.0.1))), (_, lain z))
+
+pub with-more-requires : goal.with-more-requires
+with-more-requires c =
+    let d = c.loop-x.invariant.1 in
+    (omega (arith, d.few, (came c.before.before.before.before.before.before.before.before).fewer), (_, d.grown.holds.sums))
+
+pub loop-x-smaller-then-n-lt-ENTRIES : goal.loop-x-smaller-then-n-lt-ENTRIES
+loop-x-smaller-then-n-lt-ENTRIES c = (came c.before.before.before.before.before.before.before.before.before.before).less
+
+pub loop-x-smaller-else-n-lt-ENTRIES : goal.loop-x-smaller-else-n-lt-ENTRIES
+loop-x-smaller-else-n-lt-ENTRIES c = (came c.before.before.before.before.before.before.before.before.before.before).less
+
+pub loop-x-smaller : goal.loop-x-smaller
+loop-x-smaller c = (came c.before.before.before.before.before.before.before.before).less
+
+-- both are used up
+neither : (a b : Bool) → (a || not b) ≡ false → (a ≡ false) × (b ≡ true)
+neither true b t = apart t
+neither false true t = (refl, refl)
+neither false false t = apart t
+
+pub returns : goal.returns
+returns c =
+    let o = neither _ _ c.loop-x-test.false in
+    drawing-end c.loop-x.invariant.1 (ltb-false _ _ o.0) o.1
+
+-- what was drawn of the key that came, and where the keys behind it lie
+module _ (c : After-draw_key-k) where
+  abbrev i : After-listers-listing
+  i = c.before.before
+
+  abbrev k : After-next-c
+  k = i.before.before.before
+
+  abbrev w : At-loop-x
+  w = k.before.before.before
+
+  abbrev z : Start
+  z = w.before.before.before.before.before.before.before
+
+  abbrev m : Map
+  m = (read_map z.args.s.now).map
+
+  abbrev key : ℕ
+  key = k.next.result.entry.key
+
+  ours : let r = i.listers.result in Marked (waiting_in m) key r.under
+      × Keyed z.args.s.now r.next z.args.last (key_number 0 (key + 1)) (waiting_in m)
+  ours =
+      let d = w.loop.inv.1 in
+      let bound = (came k).least d.low d.above d.goal in
+      i.listers.ensures.1 (key_number 0 d.low) (waiting_in m) d.listed (omega (arith, bound))
+
+  drawn : Drew w.loop.inv.1 (came k) key c.draw_key-k.result
+  drawn =
+      let r = came k in
+      let p = z.pre in
+      drew w.loop.inv.1 r (c.draw_key-k.ensures z.args.u r.entry (waiting_in m) refl (lain z) r.lies
+      (fits_next w.loop.inv.1 r p.0.0 p.1.1.0.1) p.0.1
+      (subst (λ x. Marked (waiting_in m) x i.listers.result.under) r.lies.key ours.0))
+
+  abbrev drawn_dots : List Dot
+  drawn_dots = dots_of (clock_apart c.draw_key-k.result.own)
+
+  left : is_empty (cut_key w.loop.inv.1 (came k)) ≡ is_empty drawn_dots
+  left = ap is_empty (sym (dots-of (cut_key w.loop.inv.1 (came k)) drawn.0))
+
+pub loop-x-preserved-then-n-lt-ENTRIES : goal.loop-x-preserved-then-n-lt-ENTRIES
+loop-x-preserved-then-n-lt-ENTRIES c =
+    let v = c.before.before.before.before.before in
+    let d = (w v).loop.invariant.1 in
+    let r = came (k v) in
+    let e = left v ∙ some_left (drawn_dots v) c.size.ensures.0 c.if-size-ne0.true in
+    let s = c.with-more.ensures in (
+      simp length-set (w v).loop.invariant.0,
+      drawing-on d r (ours v).1 (omega (arith, s.0)) (grown-stays d r (z v).requires.1.0.0 e
+          (λ done g. push-one g ((drawn v).1 e) (s.1 _ _ _ _ _ _ g.sums ((drawn v).1 e)) s.0 (w v).loop.invariant.0 c.if-n-lt-ENTRIES.true)),
+    )
+
+pub loop-x-preserved-else-n-lt-ENTRIES : goal.loop-x-preserved-else-n-lt-ENTRIES
+loop-x-preserved-else-n-lt-ENTRIES c =
+    let v = c.before.before.before.before.before in
+    let d = (w v).loop.invariant.1 in
+    let r = came (k v) in
+    let e = left v ∙ some_left (drawn_dots v) c.size.ensures.0 c.if-size-ne0.true in
+    let s = c.with-more.ensures in (
+      (w v).loop.invariant.0,
+      drawing-on d r (ours v).1 (omega (arith, s.0)) (grown-stays d r (z v).requires.1.0.0 e
+          (λ done g. push-over g ((drawn v).1 e) (s.1 _ _ _ _ _ _ g.sums ((drawn v).1 e)) s.0 (omega arith))),
+    )
+
+pub loop-x-preserved : goal.loop-x-preserved
+loop-x-preserved c =
+    let v = c.before.before.before in
+    let d = (w v).loop.invariant.1 in
+    let r = came (k v) in (
+      (w v).loop.invariant.0,
+      drawing-on d r (ours v).1 (omega arith)
+          (grown-goes d r (z v).requires.1.0.0 (left v ∙ none_left (drawn_dots v) c.size.ensures.0 c.if-size-ne0.false)),
+    )
