@@ -1,0 +1,6 @@
+-- `is_lead` meets its contract.
+use native.Mathlib.Omega.{arith}
+use Rattle.mending.proofs.is_lead.Goals as goal
+
+pub overflow_cast-result : goal.overflow_cast-result
+overflow_cast-result c = omega (arith, c.shared_slice_known-1.given c.args.i)

@@ -1,0 +1,11 @@
+-- `step_of` meets its contract.
+use mathlib.Core.Path.{refl}
+use native.Mathlib.Omega.{arith}
+use borrow.Author.Tests.{lt-ltb, le-ltb}
+use Rattle.salvage.proofs.step_of.Goals as goal
+
+pub returns-then-mark-lt-CHANGED : goal.returns-then-mark-lt-CHANGED
+returns-then-mark-lt-CHANGED c = rw (lt-ltb c.args.mark 8 c.if-mark-lt-CHANGED.true) refl
+
+pub returns-else-mark-lt-CHANGED : goal.returns-else-mark-lt-CHANGED
+returns-else-mark-lt-CHANGED c = rw (le-ltb c.args.mark 8 (omega (arith, c.if-mark-lt-CHANGED.false))) refl
