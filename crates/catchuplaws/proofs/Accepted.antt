@@ -27,7 +27,7 @@ use Rattle.promises.specs.Calls.{apply_answer}
 use Rattle.promises.specs.CatchUp.{operation_limit, operations_of, apply_number, Outcome, outcome_from, outcome_of, same_bytes, many_number, elsewhere_number}
 use Rattle.promises.specs.CatchUp.{catch_up_answer}
 use Rattle.promises.proofs.Cuts.{cut-nothing}
-use Rattle.promises.proofs.Outcomes.{outcome-on, outcome-stop, outcome-end, same_bytes, bytes_same}
+use Rattle.promises.proofs.Outcomes.{outcome-on, outcome-stop, outcome-end, same_bytes_lem, bytes_same}
 use Rattle.anyorderlaws.specs.Calls.{Done, image_after, AllDone, none, more, end, MapImage, OpImages, RemovalImages}
 use Rattle.anyorderlaws.proofs.Composed.{passed-join}
 use Rattle.anyorderlaws.proofs.AnyOrder.{in-any-order}
@@ -103,7 +103,7 @@ accepts-holds : (map other list : List ℕ) → BringsTo map other list → Acce
 accepts-holds map other list b =
     let r = run_holds 0 b.done in
     let there : same_bytes (outcome_of map list).image other ≡ true
-    = ap (λ (x : Outcome). same_bytes x.image other) r ∙ ap (λ s. same_bytes s other) b.ends ∙ same_bytes other in
+    = ap (λ (x : Outcome). same_bytes x.image other) r ∙ ap (λ s. same_bytes s other) b.ends ∙ same_bytes_lem other in
     bare (catch_up_answer map other list) 0
     (number-done (catch_up_answer map other list) [] b.ours b.theirs
     (all-zero (many_number list) (outcome_of map list).number (elsewhere_number (outcome_of map list).image other)

@@ -174,11 +174,11 @@ other_key f g n key es h r i q =
     let l = h w.source (place_in w.stands) in
     omega arith
 
-pub first_key : (key : ℕ) (ds : List Dot) (rest : List Record) → is_empty ds ≡ false
+pub first_key_lem : (key : ℕ) (ds : List Dot) (rest : List Record) → is_empty ds ≡ false
     → (first_key (dot_records 2 0 key ds ++ rest) ≡ key) × (is_none (dot_records 2 0 key ds ++ rest) ≡ false)
 unfolding is_empty
-first_key key [] rest z = apart z
-first_key key (d ∷ ds) rest z = (refl, ne_eqb (length (dot_records 2 0 key (d ∷ ds) ++ rest)) 0 (λ e. omega arith))
+first_key_lem key [] rest z = apart z
+first_key_lem key (d ∷ ds) rest z = (refl, ne_eqb (length (dot_records 2 0 key (d ∷ ds) ++ rest)) 0 (λ e. omega arith))
 
 pub some-length : (ds : List Dot) → is_empty ds ≡ false → 0 < length ds
 unfolding is_empty
@@ -206,7 +206,7 @@ module _ (c : List Dot) where
       let rest2 = flat_from (entry_records 2) (n + 1) es in
       let rest3 = flat_from (entry_records 3) (n + 1) es in
       let rest4 = flat_from (entry_records 4) (n + 1) es in
-      let (fk, nn) = first_key key (dots_in e) rest2 own.some in
+      let (fk, nn) = first_key_lem key (dots_in e) rest2 own.some in
       let q = own_of c key (dots_in e) rest2 own.clock own.covered fit.dots
       (other_key (entry_records 2) (record-key 2) (n + 1) key es later) in
       let w = values-count key value_limit 0 0 (values_in e) rest3 rest4 (λ u i. record { valid = own.values u i; few = fit.each u i }) fit.count

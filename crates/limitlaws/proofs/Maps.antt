@@ -5,7 +5,7 @@ use Rattle.map.specs.declared.Map.{Map}
 use Rattle.records.specs.Records.{records_of}
 use Rattle.records.proofs.RoundTrips.{length-bytes}
 use Rattle.scan.specs.Limits.{Limits}
-use Rattle.scan.proofs.Builds.{formed-of, within_by}
+use Rattle.scan.proofs.Builds.{formed-of, within_by_lem}
 use Rattle.mapimage.specs.MapImage.{map_records, map_image}
 use Rattle.maprecords.specs.Reading.{map_in}
 use Rattle.oneimagelaws.proofs.Sizes.{image-under}
@@ -29,7 +29,7 @@ module _ {t : Limits} {m : Map} (p : UnderLimits t m) where
         short = image-under h t p.entries p.waiting;
         whole = omega (arith, length-bytes (map_records m));
         formed = rw same-records (formed-of 1 6 (map_records m) (records-ascend h) (records-ok h));
-        few = rw same-records (within_by t (map_records m) (records-among h t p.entries p.waiting));
+        few = rw same-records (within_by_lem t (map_records m) (records-among h t p.entries p.waiting));
         fit = rw same-records (records-related h);
       }
 

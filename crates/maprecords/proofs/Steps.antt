@@ -46,7 +46,7 @@ entries-new l r z k f =
     (map_same (entry_in l) (entry_in (l ++ (r ∷ []))) (entry_keys l)
     (λ x i. entry_other l r x (λ e. apart (sym (some_holds (λ y. eqb y r.key) i (eq-eqb x r.key (sym e))) ∙ f))))
     (dot-entry l r k ∙ ap₂ (λ d v. entry_as r.key (d ++ (dot_of r ∷ [])) v) (ap (map dot_of) (those-none (under_key 2 r.key) l no-dot))
-    (ap (places_from (value_in l r.key) 0) (those-none (under_key 3 r.key) l no_value))))
+    (ap (places_from (value_in l r.key) 0) (those-none (under_key 3 r.key) l no_value_lem))))
   where
     no-dot : (x : Record) → x ∈ l → under_key 2 r.key x ≡ false
     no-dot x i =
@@ -55,8 +55,8 @@ entries-new l r z k f =
         ∙ ap (λ q. some (λ y. eqb y q) (entry_keys l)) (eqb-true x.key r.key (both_right (is_kind 2 x) (eqb x.key r.key) t)) ∙ f))
         (λ n. n)
 
-    no_value : (x : Record) → x ∈ l → under_key 3 r.key x ≡ false
-    no_value x i = let h = kinds-ascend l r z x i in rw (ne_eqb x.kind 3 (λ e. omega arith))
+    no_value_lem : (x : Record) → x ∈ l → under_key 3 r.key x ≡ false
+    no_value_lem x i = let h = kinds-ascend l r z x i in rw (ne_eqb x.kind 3 (λ e. omega arith))
 
 module _ (l : List Record) (r : Record) where
   abbrev all : List Record

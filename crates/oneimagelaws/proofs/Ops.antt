@@ -17,7 +17,7 @@ use Rattle.scan.proofs.Eachs.{decide, both_left, both_right}
 use Rattle.clockimage.specs.Image.{is_kind, dot_of, content_of}
 use Rattle.clockimage.proofs.RoundTrip.{accepted}
 use Rattle.opimage.specs.OpImage.{op_longest, op_image, how_many, removes, updates, op_related, op_in, refused_op, judged_op, read_op}
-use Rattle.oneimagelaws.proofs.OpsRewritten.{none_left, no_record, op-accepted}
+use Rattle.oneimagelaws.proofs.OpsRewritten.{none_left, no_record_lem, op-accepted}
 use Rattle.oneimagelaws.proofs.OpsReread.{read-removal-written, read-update-written}
 use Rattle.acceptancelaws.proofs.Ops.{op-within}
 use Rattle.oneimagelaws.specs.One.{OneImage, GoodOp}
@@ -60,8 +60,8 @@ other-zero l t = decide (removes (λ k. how_many k l)) removal (λ f. update (rw
         let ten = both_left (eqb (how_many 10 l) 0) _ b in
         let c = both_right (eqb (how_many 10 l) 0) _ b in
         let none = eqb-true (how_many 10 l) 0 ten in
-        let head = no_record 10 l (none_left (those (is_kind 10) l) ten) in
-        let value = no_record 11 l (none_left (those (is_kind 11) l) (both_left (eqb (how_many 11 l) 0) _ c)) in
+        let head = no_record_lem 10 l (none_left (those (is_kind 10) l) ten) in
+        let value = no_record_lem 11 l (none_left (those (is_kind 11) l) (both_left (eqb (how_many 11 l) 0) _ c)) in
         let dots = none_left (those (is_kind 12) l) (both_right (eqb (how_many 11 l) 0) _ c) in
         rw none (λ i. record {
           dot = dot_of (head i);

@@ -33,7 +33,7 @@ use Rattle.scan.proofs.Builds.{Among, scan-of}
 use Rattle.clockimage.specs.Image.{is_kind, dot_of, dot_record, dot_records, content_of, DotFits, ContentFits}
 use Rattle.clockimage.proofs.RoundTrip.{dots-ascend, dots-back}
 use Rattle.opimage.specs.OpImage.{op_longest, key_record, removal_head, update_head, put_value, op_related, op_in, read_op}
-use Rattle.oneimagelaws.proofs.OpsRewritten.{only, no_record}
+use Rattle.oneimagelaws.proofs.OpsRewritten.{only, no_record_lem}
 
 -- lists one behind the other, by kind
 pub behind : (l m : List Record) → Ascending before l → Ascending before m → ((x y : Record) → x ∈ l → y ∈ m → x.kind < y.kind)
@@ -73,8 +73,8 @@ keys-back kind index [] = refl
 keys-back kind index (k ∷ l) = ap (λ m. k ∷ m) (keys-back kind index l)
 
 -- records of one group are of one kind
-same_kind : (r x : Record) (n : ℕ) → r.kind ≡ n → same_kind r x ≡ true → x.kind ≡ n
-same_kind r x n e t = eqb-true x.kind r.kind t ∙ e
+same_kind_lem : (r x : Record) (n : ℕ) → r.kind ≡ n → same_kind r x ≡ true → x.kind ≡ n
+same_kind_lem r x n e t = eqb-true x.kind r.kind t ∙ e
 
 by-outer : (r x : Record) → same_outer r x ≡ true → same_kind r x ≡ true
 by-outer r x t = both_left (same_kind r x) (eqb (outer x) (outer r)) t
@@ -158,9 +158,9 @@ module _ (d : List Dot) (k : List ℕ) where
             outers = 0 ∷ [];
             middles = 0 ∷ [];
             inners = 0 ∷ [];
-            in-outers = λ x j t. Memᴰ.head (ap outer (of-head x j (same_kind r x 7 n t)));
-            in-middles = λ x j t. Memᴰ.head (ap middle (of-head x j (same_kind r x 7 n (by-outer r x t))));
-            in-inners = λ x j t. Memᴰ.head (ap inner (of-head x j (same_kind r x 7 n (by-middle r x t))));
+            in-outers = λ x j t. Memᴰ.head (ap outer (of-head x j (same_kind_lem r x 7 n t)));
+            in-middles = λ x j t. Memᴰ.head (ap middle (of-head x j (same_kind_lem r x 7 n (by-outer r x t))));
+            in-inners = λ x j t. Memᴰ.head (ap inner (of-head x j (same_kind_lem r x 7 n (by-middle r x t))));
             few-outers = rw e (omega arith);
             few-middles = rw e (omega arith);
             few-inners = rw e (omega arith);
@@ -171,9 +171,9 @@ module _ (d : List Dot) (k : List ℕ) where
             outers = 0 ∷ [];
             middles = 0 ∷ [];
             inners = map (λ a. a.actor) d;
-            in-outers = λ x j t. Memᴰ.head (ap outer (of-dot x j (same_kind r x 8 n t)).2);
-            in-middles = λ x j t. Memᴰ.head (ap middle (of-dot x j (same_kind r x 8 n (by-outer r x t))).2);
-            in-inners = λ x j t. let m = of-dot x j (same_kind r x 8 n (by-middle r x t)) in rw m.2 (Memᴰ.map (λ a. a.actor) m.1);
+            in-outers = λ x j t. Memᴰ.head (ap outer (of-dot x j (same_kind_lem r x 8 n t)).2);
+            in-middles = λ x j t. Memᴰ.head (ap middle (of-dot x j (same_kind_lem r x 8 n (by-outer r x t))).2);
+            in-inners = λ x j t. let m = of-dot x j (same_kind_lem r x 8 n (by-middle r x t)) in rw m.2 (Memᴰ.map (λ a. a.actor) m.1);
             few-outers = rw e (omega arith);
             few-middles = rw e (omega arith);
             few-inners = rw (e, length-map d (λ a. a.actor)) hd;
@@ -184,9 +184,9 @@ module _ (d : List Dot) (k : List ℕ) where
             outers = k;
             middles = 0 ∷ [];
             inners = 0 ∷ [];
-            in-outers = λ x j t. let m = of-key x j (same_kind r x 9 n t) in rw m.2 m.1;
-            in-middles = λ x j t. Memᴰ.head (ap middle (of-key x j (same_kind r x 9 n (by-outer r x t))).2);
-            in-inners = λ x j t. Memᴰ.head (ap inner (of-key x j (same_kind r x 9 n (by-middle r x t))).2);
+            in-outers = λ x j t. let m = of-key x j (same_kind_lem r x 9 n t) in rw m.2 m.1;
+            in-middles = λ x j t. Memᴰ.head (ap middle (of-key x j (same_kind_lem r x 9 n (by-outer r x t))).2);
+            in-inners = λ x j t. Memᴰ.head (ap inner (of-key x j (same_kind_lem r x 9 n (by-middle r x t))).2);
             few-outers = rw e hk;
             few-middles = rw e (omega arith);
             few-inners = rw e (omega arith);
@@ -245,9 +245,9 @@ module _ (d : List Dot) (k : List ℕ) where
         up = eqb (u i) 1;
         removal = removal_as ((ap (map dot_of) dot-part ∙ dots-back 8 0 0 d) i) ((ap (map (λ r. r.key)) key-part ∙ keys-back 9 0 k) i);
         update = record {
-          dot = dot_of (no_record 10 whole ten i);
-          key = (no_record 10 whole ten i).key;
-          put = record { clock = clock_of (map dot_of (twelve i)); value = content_of (no_record 11 whole eleven i) };
+          dot = dot_of (no_record_lem 10 whole ten i);
+          key = (no_record_lem 10 whole ten i).key;
+          put = record { clock = clock_of (map dot_of (twelve i)); value = content_of (no_record_lem 11 whole eleven i) };
         };
       }
 
@@ -361,9 +361,9 @@ module _ (a c y : ℕ) (v : Content) (d : List Dot) where
             outers = y ∷ [];
             middles = 0 ∷ [];
             inners = a ∷ [];
-            in-outers = λ x j t. Memᴰ.head (ap outer (was-first x j (same_kind r x 10 n t)));
-            in-middles = λ x j t. Memᴰ.head (ap middle (was-first x j (same_kind r x 10 n (by-outer r x t))));
-            in-inners = λ x j t. Memᴰ.head (ap inner (was-first x j (same_kind r x 10 n (by-middle r x t))));
+            in-outers = λ x j t. Memᴰ.head (ap outer (was-first x j (same_kind_lem r x 10 n t)));
+            in-middles = λ x j t. Memᴰ.head (ap middle (was-first x j (same_kind_lem r x 10 n (by-outer r x t))));
+            in-inners = λ x j t. Memᴰ.head (ap inner (was-first x j (same_kind_lem r x 10 n (by-middle r x t))));
             few-outers = rw e (omega arith);
             few-middles = rw e (omega arith);
             few-inners = rw e (omega arith);
@@ -374,9 +374,9 @@ module _ (a c y : ℕ) (v : Content) (d : List Dot) where
             outers = 0 ∷ [];
             middles = 0 ∷ [];
             inners = 0 ∷ [];
-            in-outers = λ x j t. Memᴰ.head (ap outer (was-second x j (same_kind r x 11 n t)));
-            in-middles = λ x j t. Memᴰ.head (ap middle (was-second x j (same_kind r x 11 n (by-outer r x t))));
-            in-inners = λ x j t. Memᴰ.head (ap inner (was-second x j (same_kind r x 11 n (by-middle r x t))));
+            in-outers = λ x j t. Memᴰ.head (ap outer (was-second x j (same_kind_lem r x 11 n t)));
+            in-middles = λ x j t. Memᴰ.head (ap middle (was-second x j (same_kind_lem r x 11 n (by-outer r x t))));
+            in-inners = λ x j t. Memᴰ.head (ap inner (was-second x j (same_kind_lem r x 11 n (by-middle r x t))));
             few-outers = rw e (omega arith);
             few-middles = rw e (omega arith);
             few-inners = rw e (omega arith);
@@ -387,9 +387,9 @@ module _ (a c y : ℕ) (v : Content) (d : List Dot) where
             outers = 0 ∷ [];
             middles = 0 ∷ [];
             inners = map (λ g. g.actor) d;
-            in-outers = λ x j t. Memᴰ.head (ap outer (was-third x j (same_kind r x 12 n t)).2);
-            in-middles = λ x j t. Memᴰ.head (ap middle (was-third x j (same_kind r x 12 n (by-outer r x t))).2);
-            in-inners = λ x j t. let m = was-third x j (same_kind r x 12 n (by-middle r x t)) in rw m.2 (Memᴰ.map (λ g. g.actor) m.1);
+            in-outers = λ x j t. Memᴰ.head (ap outer (was-third x j (same_kind_lem r x 12 n t)).2);
+            in-middles = λ x j t. Memᴰ.head (ap middle (was-third x j (same_kind_lem r x 12 n (by-outer r x t))).2);
+            in-inners = λ x j t. let m = was-third x j (same_kind_lem r x 12 n (by-middle r x t)) in rw m.2 (Memᴰ.map (λ g. g.actor) m.1);
             few-outers = rw e (omega arith);
             few-middles = rw e (omega arith);
             few-inners = rw (e, length-map d (λ g. g.actor)) hd;

@@ -52,9 +52,9 @@ pub only : (kind : ℕ) (l : List Record) (x : Record) → those (is_kind kind) 
 unfolding record_of fold
 only kind l x e = last_of kind l no_record ∙ ap (fold (λ q r. r) no_record) e
 
-pub no_record : (kind : ℕ) (l : List Record) → those (is_kind kind) l ≡ [] → record_of kind l ≡ no_record
+pub no_record_lem : (kind : ℕ) (l : List Record) → those (is_kind kind) l ≡ [] → record_of kind l ≡ no_record
 unfolding record_of fold
-no_record kind l e = last_of kind l no_record ∙ ap (fold (λ q r. r) no_record) e
+no_record_lem kind l e = last_of kind l no_record ∙ ap (fold (λ q r. r) no_record) e
 
 -- records that are made again of what they hold
 made_again : {A : Type 0} (f : Record → A) (g : A → Record) (l : List Record) → ((x : Record) → x ∈ l → g (f x) ≡ x) → map g (map f l) ≡ l

@@ -64,16 +64,16 @@ ahead_of (y ∷ seen) x l a =
 
 -- each passes, given those before it, where it passes given those that are before it
 module _ (test : List Record → Record → Bool) where
-  each_after : (seen l : List Record) → Ascending before (seen ++ l) → ((r : Record) → r ∈ l → test (ahead r (seen ++ l)) r ≡ true)
+  each_after_lem : (seen l : List Record) → Ascending before (seen ++ l) → ((r : Record) → r ∈ l → test (ahead r (seen ++ l)) r ≡ true)
       → each_after test seen l ≡ true
   unfolding each_after
-  each_after seen [] a f = refl
-  each_after seen (x ∷ l) a f =
+  each_after_lem seen [] a f = refl
+  each_after_lem seen (x ∷ l) a f =
       both (test seen x) _ (ap (λ m. test m x) (sym (ahead_of seen x l a)) ∙ f x (Memᴰ.head refl))
-      (each_after (seen ++ (x ∷ [])) l (rw (append_assoc seen (x ∷ []) l) a) (rw (append_assoc seen (x ∷ []) l) (λ r i. f r (Memᴰ.tail i))))
+      (each_after_lem (seen ++ (x ∷ [])) l (rw (append_assoc seen (x ∷ []) l) a) (rw (append_assoc seen (x ∷ []) l) (λ r i. f r (Memᴰ.tail i))))
 
   pub each_of : (l : List Record) → Ascending before l → ((r : Record) → r ∈ l → test (ahead r l) r ≡ true) → each test l ≡ true
-  each_of l a f = each_after [] l a f
+  each_of l a f = each_after_lem [] l a f
 
 -- so many values stand before a value as its place says
 module _ (key : ℕ) where

@@ -42,10 +42,10 @@ unfolding outcome_from
 outcome-end place s = refl
 
 -- the same bytes
-pub same_bytes : (l : List ℕ) → same_bytes l l ≡ true
+pub same_bytes_lem : (l : List ℕ) → same_bytes l l ≡ true
 unfolding same_bytes
-same_bytes [] = refl
-same_bytes (x ∷ l) = rw (eq-eqb x x refl) (same_bytes l)
+same_bytes_lem [] = refl
+same_bytes_lem (x ∷ l) = rw (eq-eqb x x refl) (same_bytes_lem l)
 
 pub bytes_same : (l m : List ℕ) → same_bytes l m ≡ true → l ≡ m
 unfolding same_bytes

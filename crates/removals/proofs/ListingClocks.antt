@@ -52,23 +52,23 @@ tail-clocked f v i = f v (Memᴰ.tail i)
 lawful-over : {c : List Dot} (ws : List Removal) → Lawful c → Clocked ws → Lawful (over c ws)
 unfolding fold
 lawful-over [] h f = h
-lawful-over (w ∷ ws) h f = lawful-over ws (lawful-join h (f w (Memᴰ.head refl))) (tail-clocked f)
+lawful-over {c = c} (w ∷ ws) h f = lawful-over {c = join_dots c (under_of w)} ws (lawful-join h (f w (Memᴰ.head refl))) (tail-clocked f)
 
 over-least : {c : List Dot} (ws : List Removal) → Lawful c → Clocked ws → (a n : ℕ) → counter_in c a ≤ n
     → ((w : Removal) → w ∈ ws → counter_in (under_of w) a ≤ n) → counter_in (over c ws) a ≤ n
 unfolding fold
 over-least [] h f a n p q = p
-over-least (w ∷ ws) h f a n p q =
+over-least {c = c} (w ∷ ws) h f a n p q =
     let k = f w (Memᴰ.head refl) in
-    over-least ws (lawful-join h k) (tail-clocked f) a n (omega (arith, counter-join h k a, q w (Memᴰ.head refl)))
+    over-least {c = join_dots c (under_of w)} ws (lawful-join h k) (tail-clocked f) a n (omega (arith, counter-join h k a, q w (Memᴰ.head refl)))
     (λ v i. q v (Memᴰ.tail i))
 
 over-start : {c : List Dot} (ws : List Removal) → Lawful c → Clocked ws → (a : ℕ) → counter_in c a ≤ counter_in (over c ws) a
 unfolding fold
 over-start [] h f a = omega arith
-over-start (w ∷ ws) h f a =
+over-start {c = c} (w ∷ ws) h f a =
     let k = f w (Memᴰ.head refl) in
-    omega (arith, counter-join h k a, over-start ws (lawful-join h k) (tail-clocked f) a)
+    omega (arith, counter-join h k a, over-start {c = join_dots c (under_of w)} ws (lawful-join h k) (tail-clocked f) a)
 
 over-each : {c : List Dot} (ws : List Removal) → Lawful c → Clocked ws → (a : ℕ) (w : Removal) → w ∈ ws
     → counter_in (under_of w) a ≤ counter_in (over c ws) a
@@ -78,7 +78,7 @@ over-each {c} (v ∷ ws) h f a w i =
     let k = f v (Memᴰ.head refl) in
     ⊎_elim
     (λ (e : w ≡ v). rw e (omega (arith, counter-join h k a, over-start ws (lawful-join h k) (tail-clocked f) a)))
-    (λ j. over-each ws (lawful-join h k) (tail-clocked f) a w j)
+    (λ j. over-each {c = join_dots c (under_of v)} ws (lawful-join h k) (tail-clocked f) a w j)
     (Memᴰ.cases_cons i)
 
 -- the counter of one of them, or of the clock that they are joined to
@@ -86,7 +86,7 @@ over-reached : {c : List Dot} (ws : List Removal) → Lawful c → Clocked ws �
     → (counter_in (over c ws) a ≡ counter_in c a) ⊎ ((w : Removal) × (w ∈ ws) × (counter_in (over c ws) a ≡ counter_in (under_of w) a))
 unfolding fold
 over-reached [] h f a = inl refl
-over-reached {c} (w ∷ ws) h f a = go (over-reached ws (lawful-join h k) (tail-clocked f) a) (ltb (counter_in c a) (counter_in (under_of w) a)) refl
+over-reached {c} (w ∷ ws) h f a = go (over-reached {c = join_dots c (under_of w)} ws (lawful-join h k) (tail-clocked f) a) (ltb (counter_in c a) (counter_in (under_of w) a)) refl
   where
     k : Lawful (under_of w)
     k = f w (Memᴰ.head refl)

@@ -207,8 +207,8 @@ module _ (k : List Record) (h : Supplied k) (x y : Record) (i : x ∈ united k) 
       known : (r : Record) → r ∈ k → r.kind ≡ 6 → r.index ∈ waiting_indexes k
       known r m a = let (s, n, u) = h.clocked r m a in Memᴰ.cast (sym u.1) (index-all k z s n u.0)
 
-  either_first : Either
-  either_first =
+  either_first_lem : Either
+  either_first_lem =
       let g = before-fields b in
       let six = kind-most k z y q in
       decide (ltb x.kind y.kind)
@@ -225,7 +225,7 @@ module _ (k : List Record) (h : Supplied k) (x y : Record) (i : x ∈ united k) 
       as-keys e (sym kind ∙ e))))))
 
   pub either-renamed : either_first before (renamed k x) (renamed k y) ≡ true
-  either-renamed = ⊎_elim (λ t. rw t) (λ t. or_right (before (renamed k x) (renamed k y)) (before (renamed k y) (renamed k x)) t) either_first
+  either-renamed = ⊎_elim (λ t. rw t) (λ t. or_right (before (renamed k x) (renamed k y)) (before (renamed k y) (renamed k x)) t) either_first_lem
     where
       or_right : (a c : Bool) → c ≡ true → (a || c) ≡ true
       or_right true c e = refl

@@ -207,8 +207,8 @@ module _ (l m : List Record) (z : scan_number 1 6 l ≡ 0) (s : MapSentences l) 
         let w = own u n (ap (λ (q : Record). q.key) (sym e) ∙ o.0, (omega (arith, o.1.0), omega (arith, o.1.1))) in
         Memᴰ.cast (e ∙ w.1) n
 
-    same_kind : (kind : ℕ) → 2 ≤ kind → kind ≤ 4 → those (under_key kind key) (salvaged m) ≡ those (under_key kind key) l
-    same_kind kind low high =
+    same_kind_lem : (kind : ℕ) → 2 ≤ kind → kind ≤ 4 → those (under_key kind key) (salvaged m) ≡ those (under_key kind key) l
+    same_kind_lem kind low high =
         selected (under_key kind key) (salvaged-ascends m) (those-ascends (under_key kind key) (rises 1 6 l z))
         (λ r i t. let u = at_key key kind r t in
         those-holds (under_key kind key) (from r i (u.1, (omega (arith, u.0), omega (arith, u.0)))) t)
@@ -218,9 +218,9 @@ module _ (l m : List Record) (z : scan_number 1 6 l ≡ 0) (s : MapSentences l) 
 
     pub entry-back : EntryBack l (salvaged m) key
     entry-back =
-        let two = same_kind 2 (omega arith) (omega arith) in
-        let three = same_kind 3 (omega arith) (omega arith) in
-        let four = same_kind 4 (omega arith) (omega arith) in
+        let two = same_kind_lem 2 (omega arith) (omega arith) in
+        let three = same_kind_lem 3 (omega arith) (omega arith) in
+        let four = same_kind_lem 4 (omega arith) (omega arith) in
         record {
           dots = two;
           values = three;

@@ -153,12 +153,12 @@ within-after t seen (r ∷ l) whole a b h =
     fits group f ks few h = let e = tally-among f ks group (seen ++ (r ∷ [])) (λ x i. h x (further x i)) in omega arith
 
 -- records whose groups give few numbers
-pub within_by : (t : Limits) (l : List Record) → ((r : Record) → r ∈ l → AmongBy t l r) → within_by t l ≡ true
-within_by t l h = within-after t [] l l (λ x i. absurd (Memᴰ.not-nil i)) (λ x i. i) h
+pub within_by_lem : (t : Limits) (l : List Record) → ((r : Record) → r ∈ l → AmongBy t l r) → within_by t l ≡ true
+within_by_lem t l h = within-after t [] l l (λ x i. absurd (Memᴰ.not-nil i)) (λ x i. i) h
 
 pub within_of : (l : List Record) → ((r : Record) → r ∈ l → Among l r) → within l ≡ true
 unfolding within
-within_of l h = within_by today l h
+within_of l h = within_by_lem today l h
 
 -- number 0
 pub scan-of : (low high : ℕ) (l : List Record) → Ascending before l → ((x : Record) → x ∈ l → record_ok low high x ≡ true)

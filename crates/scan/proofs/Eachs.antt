@@ -44,16 +44,16 @@ module _ {A : Type 0} where
   every_of test [] f = refl
   every_of test (y ∷ l) f = both (test y) (every test l) (f y (Memᴰ.head refl)) (every_of test l (λ x i. f x (Memᴰ.tail i)))
 
-  each_after : (test : List A → A → Bool) (seen l : List A) (x : A) → each_after test seen (l ++ (x ∷ [])) ≡ each_after test seen l
+  each_after_lem : (test : List A → A → Bool) (seen l : List A) (x : A) → each_after test seen (l ++ (x ∷ [])) ≡ each_after test seen l
       && test (seen ++ l) x
   unfolding each_after
-  each_after test seen [] x = and-true (test seen x) ∙ ap (λ s. test s x) (sym (mathlib.Core.List.append-nil seen))
-  each_after test seen (y ∷ l) x =
-      rw (each_after test (seen ++ (y ∷ [])) l x, append_assoc seen (y ∷ []) l)
+  each_after_lem test seen [] x = and-true (test seen x) ∙ ap (λ s. test s x) (sym (mathlib.Core.List.append-nil seen))
+  each_after_lem test seen (y ∷ l) x =
+      rw (each_after_lem test (seen ++ (y ∷ [])) l x, append_assoc seen (y ∷ []) l)
       (sym (and_assoc (test seen y) (each_after test (seen ++ (y ∷ [])) l) (test (seen ++ (y ∷ l)) x)))
 
   pub each_snoc : (test : List A → A → Bool) (l : List A) (x : A) → each test (l ++ (x ∷ [])) ≡ each test l && test l x
-  each_snoc test l x = each_after test [] l x
+  each_snoc test l x = each_after_lem test [] l x
 
   count-after : (test : List A → A → Bool) (seen l : List A) (x : A) → count_after test seen (l ++ (x ∷ [])) ≡ cond (test (seen ++ l) x)
       (count_after test seen l + 1) (count_after test seen l)

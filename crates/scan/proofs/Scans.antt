@@ -126,8 +126,8 @@ module _ (l : List Record) (q r : Record) (last : q ∈ l) (upto : (s : Record) 
   some-by-last t between =
       decide (t q) (λ y. some_holds t last y ∙ sym y) (λ n. false-some t l (none-by-last t between n) ∙ sym n)
 
-  same_kind : (s : Record) → s ∈ l → same_kind r s ≡ true → same_kind r q ≡ true
-  same_kind s i t = eq-eqb q.kind r.kind (kind-between s i (eqb-true s.kind r.kind t))
+  same_kind_lem : (s : Record) → s ∈ l → same_kind r s ≡ true → same_kind r q ≡ true
+  same_kind_lem s i t = eq-eqb q.kind r.kind (kind-between s i (eqb-true s.kind r.kind t))
 
   module _ (plain : r.kind ≡ 6 → ⊥) where
     pub same-outer : (s : Record) → s ∈ l → same_outer r s ≡ true → same_outer r q ≡ true
@@ -153,7 +153,7 @@ module _ (l : List Record) (q r : Record) (last : q ∈ l) (upto : (s : Record) 
     pub outer-on : (same : Bool) → n ≡ tally (same_kind q) outer l → some (same_outer r) l ≡ same
         → tally_on n (same_kind r q) same ≡ tally (same_kind r) outer (l ++ (r ∷ []))
     outer-on same e f =
-        tally-step (same_kind r) outer l r n (same_kind r q) same (eq-eqb r.kind r.kind refl) (none-by-last (same_kind r) same_kind)
+        tally-step (same_kind r) outer l r n (same_kind r q) same (eq-eqb r.kind r.kind refl) (none-by-last (same_kind r) same_kind_lem)
         (λ t. (e ∙ ap (λ k. tally (λ s. eqb s.kind k) outer l) (eqb-true q.kind r.kind t), f))
 
     module _ (plain : r.kind ≡ 6 → ⊥) where

@@ -6,8 +6,7 @@ use native.Mathlib.Omega.{arith}
 use borrow.Author.Tests.{eq-eqb, ne_eqb}
 use lib.ListN.{length, get_or}
 use Rattle.listlaws.proofs.Rests.{drop-end}
-use Rattle.promises.specs.CatchUp.{same_bytes}
-use Rattle.promises.proofs.Outcomes.{same_bytes, bytes-differ, same-on}
+use Rattle.promises.proofs.Outcomes.{same_bytes_lem, bytes-differ, same-on}
 use Rattle.catchup.proofs.same_bytes.Goals as goal
 
 pub returns-then-b-n : goal.returns-then-b-n
@@ -51,4 +50,4 @@ pub returns : goal.returns
 returns c =
     let z = c.args in
     let l = c.loop-i in
-    sym (l.invariant.1.1 ∙ rw (drop-end z.a.now l.i (omega arith), drop-end z.b.now l.i (omega arith)) (same_bytes []))
+    sym (l.invariant.1.1 ∙ rw (drop-end z.a.now l.i (omega arith), drop-end z.b.now l.i (omega arith)) (same_bytes_lem []))

@@ -18,7 +18,7 @@ use Rattle.marks.proofs.Dots.{run_at, length_run, all}
 use borrow.Author.Rules.{rules}
 use native.Mathlib.Omega.{arith}
 use mathlib.Core.Bool.{not}
-use Rattle.comparing.proofs.compare_runs.Goals.{After-dot_at-e, At-loop-i, Left-loop-i}
+use Rattle.comparing.proofs.compare_runs.Goals.{then-loop-i-test+else-j-m, else-loop-i-test, After-dot_at-e, At-loop-i, Left-loop-i}
 use Rattle.comparing.proofs.compare_runs.Goals as goal
 
 whole : {l : List Dot} → Lawful l → Lawful (all l)
@@ -215,9 +215,10 @@ left_over c =
     let s = c.before in
     let x = s.args.x.now in
     let y = s.args.y.now in
-    ⊎_elim (λ w. inr (rw (take-length (run_dots y)) (omega (arith, ltb-false s.loop-i.j (length y / 16) w.1.left, length_run y))))
-    (λ w. inl (rw (take-length (run_dots x)) (omega (arith, w.left, length_run x))))
-    c.loop-i-test.branch
+    elim c.loop-i-test.branch [
+      then-loop-i-test+else-j-m w ↦ inr (rw (take-length (run_dots y)) (omega (arith, w.if-j-m.false, length_run y)))
+    | else-loop-i-test w ↦ inl (rw (take-length (run_dots x)) (omega (arith, w.loop-i-test.false, length_run x)))
+    ]
 
 long : (s : List ℕ) → length s / 16 ≡ length (all (run_dots s))
 long s = rw (take-length (run_dots s)) (sym (length_run s))

@@ -14,7 +14,7 @@ use Rattle.keeping.proofs.Walked.{Keeps, Step, walked_start, walked_step, walked
 use Rattle.keeping.proofs.Walked.{keeps-end, deletes-room, deletes-on, deletes-off, deletes-end}
 use borrow.Author.Rules.{rules}
 use native.Mathlib.Omega.{arith}
-use Rattle.keeping.proofs.keeps.Goals.{After-larger-all, After-meet-r, Joined-k-gt0, Then-k-all, Then-k-gt0}
+use Rattle.keeping.proofs.keeps.Goals.{then-k-gt0, else-k-gt0, After-larger-all, After-meet-r, Joined-k-gt0, Then-k-all, Then-k-gt0}
 use Rattle.keeping.proofs.keeps.Goals as goal
 
 -- one of two is left
@@ -88,10 +88,10 @@ keeping c =
     let s = l.before.before.before.before.before.before in
     let g = s.loop-i.invariant.2.keeps in
     let e = l.kept_counter-k.ensures in
-    ⊎_elim
-    (λ w. rw w.1 (keeps_on _ _ _ _ (step l) e g w.0.taken s.requires.1.1))
-    (λ w. rw w.1 (keeps-off _ _ _ _ (step l) e g w.0.left))
-    c.if-k-gt0.branch
+    elim c.if-k-gt0.branch [
+      then-k-gt0 w ↦ rw w.keep-is (keeps_on _ _ _ _ (step l) e g w.if-k-gt0.true s.requires.1.1)
+    | else-k-gt0 w ↦ rw w.keep-is (keeps-off _ _ _ _ (step l) e g w.if-k-gt0.false)
+    ]
 
 pub loop-i-preserved-then-k-all : goal.loop-i-preserved-then-k-all
 loop-i-preserved-then-k-all c =

@@ -29,7 +29,7 @@ level : (c : After-e-1) → Level c
 level c =
     let s = c.before.before.before.before in
     let run = s.args.run.now in
-    let k : s.loop-i.j < s.size-m.result = ltb-true _ _ c.if-j-m.true in
+    let k : s.loop-i.j < s.size-m.result = c.if-j-m.true in
     record {
       ours = omega (arith, length_run run);
       theirs = omega (arith, s.size-m.ensures);
@@ -40,7 +40,7 @@ pub loop-i-preserved-then-e-d : goal.loop-i-preserved-then-e-d
 loop-i-preserved-then-e-d c =
     let y = c.before.before.before in
     let s = y.before.before.before.before in
-    let q = level y in (
+    let q = level y.before in (
       search rules,
       omega (arith, q.theirs, s.size-m.ensures),
       s.loop-i.invariant.2,
@@ -52,7 +52,7 @@ pub loop-i-preserved-then-d-e : goal.loop-i-preserved-then-d-e
 loop-i-preserved-then-d-e c =
     let y = c.before.before.before.before.before.before in
     let s = y.before.before.before.before in
-    let q = level y in (
+    let q = level y.before in (
       omega arith,
       search rules,
       s.loop-i.invariant.2,
@@ -67,7 +67,7 @@ same : (c : Else-d-e) → let y = c.before.before.before.before.before.before in
     ≡ (get_or (run_dots s.args.run.now) s.loop-i.i no_dot).actor
 same c =
     let t = c.before.before.before in
-    let q = level t.before.before.before in
+    let q = level t.before.before.before.before in
     omega (arith, c.if-d-e.false, t.if-e-d.false, ap (λ x. x.actor) q.dot)
 
 pub loop-i-preserved-then-d-e-2 : goal.loop-i-preserved-then-d-e-2
@@ -75,7 +75,7 @@ loop-i-preserved-then-d-e-2 c =
     let t = c.before.before.before in
     let y = t.before.before.before.before.before.before in
     let s = y.before.before.before.before in
-    let q = level y in (
+    let q = level y.before in (
       omega arith,
       omega (arith, q.theirs, s.size-m.ensures),
       s.loop-i.invariant.2,
@@ -88,7 +88,7 @@ loop-i-preserved c =
     let t = c.before.before.before in
     let y = t.before.before.before.before.before.before in
     let s = y.before.before.before.before in
-    let q = level y in (
+    let q = level y.before in (
       omega arith,
       omega (arith, q.theirs, s.size-m.ensures),
       s.loop-i.invariant.2,

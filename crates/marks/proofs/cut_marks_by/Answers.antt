@@ -32,7 +32,7 @@ level : (c : After-dot_at-seen) → Level c
 level c =
     let s = c.before.before.before.before in
     let run = s.args.run.now in
-    let k : s.loop-i.j < length s.args.by.now / 16 = ltb-true _ _ c.if-j-m.true in
+    let k : s.loop-i.j < length s.args.by.now / 16 = c.if-j-m.true in
     record {
       ours = omega (arith, length_run run);
       theirs = rw (take-length (run_dots s.args.by.now))
@@ -45,7 +45,7 @@ pub loop-i-preserved-then-seen-d : goal.loop-i-preserved-then-seen-d
 loop-i-preserved-then-seen-d c =
     let y = c.before.before.before in
     let s = y.before.before.before.before in
-    let q = level y in (
+    let q = level y.before in (
       search rules,
       omega (arith, ltb-true),
       s.loop-i.invariant.2,
@@ -57,7 +57,7 @@ pub loop-i-preserved-then-d-seen : goal.loop-i-preserved-then-d-seen
 loop-i-preserved-then-d-seen c =
     let y = c.before.before.before.before.before.before in
     let s = y.before.before.before.before in
-    let q = level y in (
+    let q = level y.before in (
       omega arith,
       search rules,
       s.loop-i.invariant.2,
@@ -72,7 +72,7 @@ same : (c : Else-d-seen) → let y = c.before.before.before.before.before.before
     ≡ (get_or (run_dots s.args.run.now) s.loop-i.i no_dot).actor
 same c =
     let t = c.before.before.before in
-    let q = level t.before.before.before in
+    let q = level t.before.before.before.before in
     omega (arith, c.if-d-seen.false, t.if-seen-d.false, ap (λ x. x.actor) q.dot, ap (λ x. x.actor) q.other)
 
 pub loop-i-preserved-then-d-seen-2 : goal.loop-i-preserved-then-d-seen-2
@@ -80,7 +80,7 @@ loop-i-preserved-then-d-seen-2 c =
     let t = c.before.before.before in
     let y = t.before.before.before.before.before.before in
     let s = y.before.before.before.before in
-    let q = level y in (
+    let q = level y.before in (
       omega arith,
       omega (arith, ltb-true),
       s.loop-i.invariant.2,
@@ -93,7 +93,7 @@ loop-i-preserved c =
     let t = c.before.before.before in
     let y = t.before.before.before.before.before.before in
     let s = y.before.before.before.before in
-    let q = level y in (
+    let q = level y.before in (
       omega arith,
       omega (arith, ltb-true),
       s.loop-i.invariant.2,

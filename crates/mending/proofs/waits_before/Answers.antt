@@ -5,6 +5,7 @@ use native.Mathlib.Omega.{arith}
 use lib.ListN.{length}
 use borrow.Author.Tests.{ltb-true, ltb-false}
 use Rattle.mending.proofs.Dots.{compare-start, compare-actor, compare-counter, compare-on, compare-first, compare-second}
+use Rattle.mending.proofs.waits_before.Goals.{then-loop-i-test+else-j-n, else-loop-i-test}
 use Rattle.mending.proofs.waits_before.Goals as goal
 
 pub loop-i-init : goal.loop-i-init
@@ -107,5 +108,7 @@ loop-i-preserved c =
 pub returns : goal.returns
 returns c =
     let s = c.before in
-    ⊎_elim (λ w. compare-second c.requires s.loop-i.invariant.2 (ltb-false _ _ w.1.left))
-    (λ w. compare-first c.requires s.loop-i.invariant.2 (omega (arith, w.left))) c.loop-i-test.branch
+    elim c.loop-i-test.branch [
+      then-loop-i-test+else-j-n w ↦ compare-second c.requires s.loop-i.invariant.2 w.if-j-n.false
+    | else-loop-i-test w ↦ compare-first c.requires s.loop-i.invariant.2 (omega (arith, w.loop-i-test.false))
+    ]

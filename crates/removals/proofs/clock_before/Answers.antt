@@ -11,7 +11,7 @@ use Rattle.removals.specs.Waits.{clock_before}
 use Rattle.removals.proofs.ClockOrder.{before-actor, before-counter, before-rest, before-prefix}
 use borrow.Author.Rules.{rules}
 use native.Mathlib.Omega.{arith}
-use Rattle.removals.proofs.clock_before.Goals.{After-y-1}
+use Rattle.removals.proofs.clock_before.Goals.{then-loop-i-test+else-i-m, else-loop-i-test, After-y-1}
 use Rattle.removals.proofs.clock_before.Goals as goal
 
 pub loop-i-init : goal.loop-i-init
@@ -25,7 +25,7 @@ level : (c : After-y-1) → let s = c.before.before.before.before in
     (s.loop-i.i < length (dots_of s.args.a)) × (s.loop-i.i < length (dots_of s.args.b))
 level c =
     let s = c.before.before.before.before in
-    let k : s.loop-i.i < s.size-m.result = ltb-true _ _ c.if-i-m.true in
+    let k : s.loop-i.i < s.size-m.result = c.if-i-m.true in
     (omega (arith, s.size-n.ensures), omega (arith, s.size-m.ensures))
 
 -- what is left begins with the two dots
@@ -70,10 +70,11 @@ returns c =
     let s = c.before in
     let a = s.args in
     let i = s.loop-i.i in
-    ⊎_elim
-    (λ w.
-    let h : s.size-m.result ≤ i = ltb-false i s.size-m.result w.1.left in
-    rw (s.loop-i.invariant.2, drop-end (dots_of a.b) i (omega (arith, s.size-m.ensures))) (le-ltb _ _ h))
-    (λ w. rw (s.loop-i.invariant.2, drop-end (dots_of a.a) i (omega (arith, w.left, s.size-n.ensures)), s.size-m.ensures.0)
-    (before-prefix (dots_of a.b) i))
-    c.loop-i-test.branch
+    elim c.loop-i-test.branch [
+      then-loop-i-test+else-i-m w ↦
+        let h : s.size-m.result ≤ i = w.if-i-m.false in
+        rw (s.loop-i.invariant.2, drop-end (dots_of a.b) i (omega (arith, s.size-m.ensures))) (le-ltb _ _ h)
+    | else-loop-i-test w ↦
+      rw (s.loop-i.invariant.2, drop-end (dots_of a.a) i (omega (arith, w.loop-i-test.false, s.size-n.ensures)), s.size-m.ensures.0)
+      (before-prefix (dots_of a.b) i)
+    ]

@@ -94,10 +94,10 @@ less c =
     omega (arith, (step c).ours, (step c).theirs, (step c).some, s.size-n.ensures, s.size-m.ensures)
 
 pub loop-i-smaller-then-not-is_empty : goal.loop-i-smaller-then-not-is_empty
-loop-i-smaller-then-not-is_empty c = less c.before.before.before.before.before.before.before.before.before.before.before.before
+loop-i-smaller-then-not-is_empty c = less c.before.before.before.before.before.before.before.before.before.before.before.before.before.before
 
 pub loop-i-smaller-else-not-is_empty : goal.loop-i-smaller-else-not-is_empty
-loop-i-smaller-else-not-is_empty c = less c.before.before.before.before.before.before.before.before
+loop-i-smaller-else-not-is_empty c = less c.before.before.before.before.before.before.before.before.before.before
 
 pub loop-i-smaller : goal.loop-i-smaller
 loop-i-smaller c = less c.before.before.before.before
@@ -119,8 +119,8 @@ loop-i-preserved-then-not-is_empty c =
     let k = b.before.before.before.before in
     let s = k.before.before.before.before.before.before in
     let a = s.args in
-    let g = step k in
-    let h = here k b.if-left.true in
+    let g = step k.before.before in
+    let h = here k.before.before b.if-left.true in
     let f : Entry → Entry = left (waiting_of a.ours) (waiting_of a.theirs) in
     let q = r.run-h.ensures _ (r.run.ensures h.0 (ap (λ l. l.entry) (g.left ∙ ap survivor_of h.1))) in
     let u : stays (f h.0) ≡ true = rw (ap (λ o. o.clock) q) at (ap not (sym i.is_empty.ensures) ∙ (ap not i.if-not-is_empty.true)) in (
@@ -140,8 +140,8 @@ loop-i-preserved-else-not-is_empty c =
     let k = b.before.before.before.before in
     let s = k.before.before.before.before.before.before in
     let a = s.args in
-    let g = step k in
-    let h = here k b.if-left.true in
+    let g = step k.before.before in
+    let h = here k.before.before b.if-left.true in
     let f : Entry → Entry = left (waiting_of a.ours) (waiting_of a.theirs) in
     let q = r.run-h.ensures _ (r.run.ensures h.0 (ap (λ l. l.entry) (g.left ∙ ap survivor_of h.1))) in
     let u : stays (f h.0) ≡ false = rw (ap (λ o. o.clock) q) at (ap not (sym c.is_empty.ensures) ∙ (ap not c.if-not-is_empty.false)) in (

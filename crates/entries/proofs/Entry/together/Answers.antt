@@ -45,7 +45,7 @@ returns c =
     let i = j.before in
     let q = i.before.before.before in
     let a = q.before.before.before.before.before.before.before in
-    let k = kept q in
+    let k = kept q.before.before.before.before.before in
     let all = ap (λ r. r.clock) (j.join-all.ensures ∙ fits _ a.requires.1) in
     rw (ap is_empty (sym (dots-of _ k)) ∙ sym i.is_empty.ensures ∙ i.if-is_empty.false)
     (rw (k, c.cut-wide.ensures, wide-values _ m.merge.ensures, dots-of _ (cut_left _ _ d.cut-3.ensures), dots-of _ all, dots-of _ k)

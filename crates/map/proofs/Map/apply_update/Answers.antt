@@ -45,7 +45,7 @@ returns-then-grown c =
     let a = c.before.before in
     let n = a.before in
     let z = n.before.before.before.before in
-    c.refused.ensures ∙ sym (update-outcome z.requires.0 z.requires.1 (new n) true _ _
+    c.refused.ensures ∙ sym (update-outcome z.requires.0 z.requires.1 (new n.before) true _ _
     (lt-ltb _ _ (over-means _ a.add-grown.ensures c.if-grown.true)) refl refl)
 
 pub side-all-requires : goal.side-all-requires
@@ -57,7 +57,7 @@ put-requires c =
     let a = i.before in
     let n = a.before in
     let z = n.before.before.before.before in
-    rw c.at.ensures (put-fits z.requires.0 z.requires.1 (new n) (within-means _ a.add-grown.ensures i.if-grown.false))
+    rw c.at.ensures (put-fits z.requires.0 z.requires.1 (new n.before.before.before.before) (within-means _ a.add-grown.ensures i.if-grown.false))
 
 pub add-all-requires : goal.add-all-requires
 add-all-requires c =
@@ -107,7 +107,7 @@ returns-then-all-gt-ENTRIES c =
     let s = c.before.before.before in
     let n = s.before.before.before.before.before.before.before.before.before in
     let z = n.before.before.before.before in
-    c.refused-then-all-gt-ENTRIES.ensures ∙ sym (update-outcome z.requires.0 z.requires.1 (new n) false true _ (le-ltb _ _ (room s))
+    c.refused-then-all-gt-ENTRIES.ensures ∙ sym (update-outcome z.requires.0 z.requires.1 (new n.before.before.before.before.before.before.before) false true _ (le-ltb _ _ (room s))
     (lt-ltb _ _ (rw (all s).count at c.if-all-gt-ENTRIES.true)) refl)
 
 pub returns-then-all : goal.returns-then-all
@@ -115,7 +115,7 @@ returns-then-all c =
     let s = c.before.before.before.before in
     let n = s.before.before.before.before.before.before.before.before.before in
     let z = n.before.before.before.before in
-    c.refused-then-all.ensures ∙ sym (update-outcome z.requires.0 z.requires.1 (new n) false false true (le-ltb _ _ (room s))
+    c.refused-then-all.ensures ∙ sym (update-outcome z.requires.0 z.requires.1 (new n.before.before.before.before.before.before.before) false false true (le-ltb _ _ (room s))
     (le-ltb _ _ (rw (all s).count at c.if-all-gt-ENTRIES.false)) (sym (all s).wide ∙ c.if-all.true))
 
 pub returns : goal.returns
@@ -126,10 +126,10 @@ returns c =
     let i = s.before.before.before.before.before.before.before in
     let n = i.before.before in
     let z = n.before.before.before.before in
-    let few = rw (all s).count at k.if-all-gt-ENTRIES.false in
-    let thin = sym (all s).wide ∙ k.if-all.false in
+    let few = rw (all s.before).count at k.if-all-gt-ENTRIES.false in
+    let thin = sym (all s.before).wide ∙ k.if-all.false in
     let clock = within-clock _ i.add-grown.ensures i.if-grown.false in
     let left = o.uncovered-left.ensures ∙ ap (λ d. waiting_as (those (waits d) (waiting_in z.args.self))) (dots-of _ clock) in
     c.accepted.ensures
-    ∙ (λ x. record { number = 0; map = record { clock = clock x; entries = finish-open (all s) few thin x; waiting = left x } })
-    ∙ sym (update-outcome z.requires.0 z.requires.1 (new n) false false false (le-ltb _ _ (room s)) (le-ltb _ _ few) thin)
+    ∙ (λ x. record { number = 0; map = record { clock = clock x; entries = finish-open (all s.before) few thin x; waiting = left x } })
+    ∙ sym (update-outcome z.requires.0 z.requires.1 (new n.before.before.before.before.before.before.before.before) false false false (le-ltb _ _ (room s.before)) (le-ltb _ _ few) thin)

@@ -46,14 +46,14 @@ merge-both-requires c =
     let v = z.requires.1.valid.clock in
     let e = z.requires.0.valid.entries.each x p in
     let f = z.requires.1.valid.entries.each y q in
-    (keep-fits u v e f (room i), both-fit u v e f (room i))
+    (keep-fits u v e f (room i.before.before), both-fit u v e f (room i.before.before))
 
 pub returns-then-both-gt-ENTRIES : goal.returns-then-both-gt-ENTRIES
 returns-then-both-gt-ENTRIES c =
     let e = c.before.before.before in
     let i = e.before.before.before.before in
     let z = i.before.before.before.before in
-    c.refused-then-both-gt-ENTRIES.ensures ∙ sym (merge-outcome z.requires.0 z.requires.1 false true _ _ _ (le-ltb _ _ (room i))
+    c.refused-then-both-gt-ENTRIES.ensures ∙ sym (merge-outcome z.requires.0 z.requires.1 false true _ _ _ (le-ltb _ _ (room i.before.before))
     (lt-ltb _ _ (rw e.merge-both.ensures.count at c.if-both-gt-ENTRIES.true)) refl refl refl)
 
 pub returns-then-both : goal.returns-then-both
@@ -61,7 +61,7 @@ returns-then-both c =
     let e = c.before.before.before.before in
     let i = e.before.before.before.before in
     let z = i.before.before.before.before in
-    c.refused-then-both.ensures ∙ sym (merge-outcome z.requires.0 z.requires.1 false false true _ _ (le-ltb _ _ (room i))
+    c.refused-then-both.ensures ∙ sym (merge-outcome z.requires.0 z.requires.1 false false true _ _ (le-ltb _ _ (room i.before.before))
     (le-ltb _ _ (rw e.merge-both.ensures.count at c.if-both-gt-ENTRIES.false))
     (sym e.merge-both.ensures.wide ∙ c.if-both.true) refl refl)
 
@@ -91,7 +91,7 @@ held c =
     let v = c.before in
     let u = v.before in
     let i = u.before.before.before.before.before.before.before.before in
-    c.join-united.ensures ∙ rw (waiting-from _ u.uncovered-left.ensures, waiting-from _ v.uncovered.ensures, clock i)
+    c.join-united.ensures ∙ rw (waiting-from _ u.uncovered-left.ensures, waiting-from _ v.uncovered.ensures, clock i.before.before)
 
 pub returns-then-united-gt-WAITING : goal.returns-then-united-gt-WAITING
 returns-then-united-gt-WAITING c =
@@ -101,7 +101,7 @@ returns-then-united-gt-WAITING c =
     let i = e.before.before.before.before in
     let z = i.before.before.before.before in
     c.refused-then-united-gt-WAITING.ensures
-    ∙ sym (merge-outcome z.requires.0 z.requires.1 false false false true _ (le-ltb _ _ (room i))
+    ∙ sym (merge-outcome z.requires.0 z.requires.1 false false false true _ (le-ltb _ _ (room i.before.before))
     (le-ltb _ _ (rw e.merge-both.ensures.count at k.if-both-gt-ENTRIES.false)) (sym e.merge-both.ensures.wide ∙ k.if-both.false)
     (lt-ltb _ _ (rw (joined-count _ (held j)) at c.if-united-gt-WAITING.true)) refl)
 
@@ -113,7 +113,7 @@ returns-then-united c =
     let i = e.before.before.before.before in
     let z = i.before.before.before.before in
     c.refused-then-united.ensures
-    ∙ sym (merge-outcome z.requires.0 z.requires.1 false false false false true (le-ltb _ _ (room i))
+    ∙ sym (merge-outcome z.requires.0 z.requires.1 false false false false true (le-ltb _ _ (room i.before.before))
     (le-ltb _ _ (rw e.merge-both.ensures.count at k.if-both-gt-ENTRIES.false)) (sym e.merge-both.ensures.wide ∙ k.if-both.false)
     (le-ltb _ _ (rw (joined-count _ (held j)) at c.if-united-gt-WAITING.false)) (sym (joined-long _ (held j)) ∙ c.if-united.true))
 
@@ -134,4 +134,4 @@ returns c =
     let wait = joined-open _ (held j) less short in
     c.accepted.ensures
     ∙ (λ x. record { number = 0; map = record { clock = time x; entries = done x; waiting = wait x } })
-    ∙ sym (merge-outcome z.requires.0 z.requires.1 false false false false false (le-ltb _ _ (room i)) (le-ltb _ _ few) thin (le-ltb _ _ less) short)
+    ∙ sym (merge-outcome z.requires.0 z.requires.1 false false false false false (le-ltb _ _ (room i.before.before)) (le-ltb _ _ few) thin (le-ltb _ _ less) short)

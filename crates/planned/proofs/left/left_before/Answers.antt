@@ -14,7 +14,7 @@ use Rattle.marks.proofs.Dots.{length_run}
 use Rattle.planned.proofs.Comparing.{left_from, next-dot, compared}
 use borrow.Author.Rules.{rules}
 use native.Mathlib.Omega.{arith}
-use Rattle.planned.proofs.left.left_before.Goals.{After-dot_at-e}
+use Rattle.planned.proofs.left.left_before.Goals.{then-loop-i-test+else-j-m, else-loop-i-test, After-dot_at-e}
 use Rattle.planned.proofs.left.left_before.Goals as goal
 
 pub loop-i-init : goal.loop-i-init
@@ -67,7 +67,10 @@ returns c =
     let g = c.loop-i.invariant in
     let a = c.args in
     compared a.x.now a.mine c.loop-i.i a.y.now a.yours c.loop-i.j
-    (⊎_elim (λ w. inr (ltb-false _ _ w.1.left)) (λ w. inl (omega (arith, w.left))) c.loop-i-test.branch) (λ k. (omega arith, g.1.0.1 k))
+    (elim c.loop-i-test.branch [
+      then-loop-i-test+else-j-m w ↦ inr w.if-j-m.false
+    | else-loop-i-test w ↦ inl (omega (arith, w.loop-i-test.false))
+    ]) (λ k. (omega arith, g.1.0.1 k))
     ∙ sym g.1.1
 
 pub next_left-j-requires-in-loop-i : goal.next_left-j-requires-in-loop-i

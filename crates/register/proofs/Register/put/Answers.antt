@@ -47,7 +47,7 @@ push-requires c =
       ap (λ w. w.len) c.wide-out.ensures,
       ap length (values-of _ (left s)),
       remaining-length (values_of a.self) a.v,
-      used a.self.len value_limit a.self.values (room z),
+      used a.self.len value_limit a.self.values (room z.before),
     )
 
 pub returns : goal.returns

@@ -23,7 +23,7 @@ room c =
     let t = ap not (sym c.outdoes.ensures) ∙ (ap not c.if-not-outdoes.true) in
     let r = sifting-room none_read s.loop-i.invariant.1 (omega arith) refl t in
     let a = s.args in
-    omega (arith, ap (λ k. k.len) r.1, r.2, length-sift (standing a.equal-too (values_of a.over)) (λ v. v) (values_of a.self))
+    omega (arith, ap (λ k. k.len) r.1, r.2, length-sift (standing a.equal_too (values_of a.over)) (λ v. v) (values_of a.self))
 
 pub loop-i-preserved-then-not-outdoes : goal.loop-i-preserved-then-not-outdoes
 loop-i-preserved-then-not-outdoes c =

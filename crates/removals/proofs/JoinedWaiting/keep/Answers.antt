@@ -20,5 +20,5 @@ returns c =
       c.add.ensures.0,
       λ l q laid.
           c.add.ensures.1 l r q refl laid ((λ i. record { over = false; keys = laid i })
-          ∙ sym (keys-fit (listed_in r) (used r.keys.len key_limit r.keys.items (room z)))),
+          ∙ sym (keys-fit (listed_in r) (used r.keys.len key_limit r.keys.items (room z.before)))),
     )

@@ -10,7 +10,7 @@ use Rattle.removals.specs.Counted.{united_as}
 use Rattle.removals.specs.Waits.{union_keys}
 use borrow.Author.Rules.{rules}
 use native.Mathlib.Omega.{arith}
-use Rattle.removals.proofs.Keys.union.Goals.{After-y-1, Left-loop-i}
+use Rattle.removals.proofs.Keys.union.Goals.{then-loop-i-test+else-j-m, else-loop-i-test, After-y-1, Left-loop-i}
 use Rattle.removals.proofs.Keys.union.Goals as goal
 
 pub loop-i-init : goal.loop-i-init
@@ -25,7 +25,7 @@ level : (c : After-y-1) → let s = c.before.before.before.before in
     × (s.loop-i.j < length (keys_of s.args.other))
 level c =
     let s = c.before.before.before.before in
-    let k : s.loop-i.j < s.size-m.result = ltb-true _ _ c.if-j-m.true in
+    let k : s.loop-i.j < s.size-m.result = c.if-j-m.true in
     (omega (arith, s.size-n.ensures), omega (arith, s.size-m.ensures))
 
 pub loop-i-preserved-then-x-y : goal.loop-i-preserved-then-x-y
@@ -74,9 +74,10 @@ left_over : (c : Left-loop-i) → let s = c.before in
     ⊎ (length (keys_of s.args.other) ≤ s.loop-i.j)
 left_over c =
     let s = c.before in
-    ⊎_elim (λ w. inr (omega (arith, ltb-false s.loop-i.j s.size-m.result w.1.left, s.size-m.ensures)))
-    (λ w. inl (omega (arith, w.left, s.size-n.ensures)))
-    c.loop-i-test.branch
+    elim c.loop-i-test.branch [
+      then-loop-i-test+else-j-m w ↦ inr (omega (arith, w.if-j-m.false, s.size-m.ensures))
+    | else-loop-i-test w ↦ inl (omega (arith, w.loop-i-test.false, s.size-n.ensures))
+    ]
 
 pub returns : goal.returns
 unfolding union_keys

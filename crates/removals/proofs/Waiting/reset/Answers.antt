@@ -52,7 +52,7 @@ unite-out-requires c =
     let u = s.loop-i.invariant.1 in (
       omega (arith, ap (λ h. h.waiting.len) u.packed, stored-few u.state, u.few),
       λ w i. ap (λ r. r.keys) (u.valid.each w (stored-in u.state w (rw u.packed at i))).laid,
-      ap (λ r. r.keys) (valid-left k).laid,
+      ap (λ r. r.keys) (valid-left k.before).laid,
     )
 
 pub loop-i-preserved-then-not-is_empty : goal.loop-i-preserved-then-not-is_empty
@@ -64,8 +64,8 @@ loop-i-preserved-then-not-is_empty c =
     let t = ap not (sym i.is_empty.ensures) ∙ (ap not i.if-not-is_empty.true) in
     let e = not-true _ t in (
       search rules,
-      reset-next u (omega arith) k.cut-left.ensures t (valid-left k) e
-          (c.unite-out.ensures u.state u.valid (valid-one (valid-left k) e) u.packed),
+      reset-next u (omega arith) k.cut-left.ensures t (valid-left k.before) e
+          (c.unite-out.ensures u.state u.valid (valid-one (valid-left k.before) e) u.packed),
     )
 
 pub loop-i-preserved : goal.loop-i-preserved
