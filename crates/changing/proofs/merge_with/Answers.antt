@@ -21,7 +21,7 @@ join_plan-plan-requires f =
     let k = p.0.1 in
     let j = c.before.before.before.before.before.before.join.ensures
     ∙ ap₂ (λ x y. fitted (join_dots (dots_of x) (dots_of y))) h.clock k.clock in
-    let t = c.before.before.before.before.before.if1.false in (
+    let t = c.before.before.before.before.before.if-joined.false in (
       (_, c.before.queue-of.ensures),
       (
         (_, c.queue-of2.ensures),

@@ -33,7 +33,7 @@ join_plan-plan-requires f =
     let h = p.0.0 in
     let u = c.before.before.before.before.before.before.before.before.before.before.before.before.before.before.args.u in
     let j = c.before.before.before.before.before.add.ensures ∙ ap (λ x. fitted (add_dot (dots_of x) u.dot)) h.clock in
-    let t = c.before.before.before.before.if2.false in (
+    let t = c.before.before.before.before.if-grown.false in (
       (_, c.before.queue-of.ensures),
       ((_, c.none.ensures _), rw (dots-of _ (within-clock _ j t)) (lawful-add h.lies.within.valid.clock u.dot)),
     )

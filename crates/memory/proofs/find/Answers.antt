@@ -42,4 +42,4 @@ pub returns : goal.returns
 returns c = look-end _ _ _ _ c.loop-j.invariant.1 c.requires (omega arith)
 
 pub overflow_add-j-in-loop-j : goal.overflow_add-j-in-loop-j
-overflow_add-j-in-loop-j c = add-j c
+overflow_add-j-in-loop-j c = add-j c.before.before

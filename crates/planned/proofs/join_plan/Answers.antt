@@ -206,9 +206,9 @@ overflow_add-count c =
     let t = c.before.before.before.before.before.before.before.before.before.before.before.before.before.before.before.before.before.before.before in
     omega (
       arith,
-      t.loop-i.inv.0.0,
-      t.loop-i.inv.0.1,
-      t.loop-i.inv.0.2,
+      t.loop-i.invariant.0.0,
+      t.loop-i.invariant.0.1,
+      t.loop-i.invariant.0.2,
       t.places-m.ensures.0.0,
       t.places-n.ensures.0.0,
     )

@@ -24,7 +24,7 @@ module _ (z : Start) where
   sections = sections_of (drawn_all z.args.s.now z.args.t.now z.args.sk)
 
   start : Writing (dots ++ sections) (dots ++ sections) 0 z.args.out.now z.args.out.now 0
-  start = let h = z.pre.1 in write-start _ 0 _ (omega arith)
+  start = let h = z.requires.1 in write-start _ 0 _ (omega arith)
 
 pub write_dots-next-requires : goal.write_dots-next-requires
 write_dots-next-requires c =
