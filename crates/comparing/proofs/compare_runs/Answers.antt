@@ -123,31 +123,31 @@ module _ (c : After-dot_at-e) where
 pub returns-then-not-over : goal.returns-then-not-over
 returns-then-not-over c =
     let y = c.before.before.before.before in
-    apart-runs (ours y) (theirs y) (covering-gone y.loop-i.invariant.2 (not-true _ (ap not c.if-not-over.true)))
+    apart-runs (ours (goal.at.returns-then-not-over c).After-dot_at-e) (theirs y) (covering-gone y.loop-i.invariant.2 (not-true _ (ap not c.if-not-over.true)))
     (covering-gone (first_under y c.if-d-e.true) refl)
 
 pub loop-i-preserved-then-d-e : goal.loop-i-preserved-then-d-e
 loop-i-preserved-then-d-e c = let y = c.before.before.before.before in let e = c.if-d-e.true in
-    (omega arith, search rules, first-over y e, first_under y e)
+    (omega arith, search rules, first-over (goal.at.loop-i-preserved-then-d-e c).After-dot_at-e e, first_under (goal.at.loop-i-preserved-then-d-e c).After-dot_at-e e)
 
 pub returns-then-not-under : goal.returns-then-not-under
 returns-then-not-under c =
     let y = c.before.before.before.before.before.before.before in
-    apart-runs (ours y) (theirs y) (covering-gone (second-over y c.if-e-d.true) refl)
+    apart-runs (ours (goal.at.returns-then-not-under c).After-dot_at-e) (theirs y) (covering-gone (second-over y c.if-e-d.true) refl)
     (covering-gone y.loop-i.invariant.3 (not-true _ (ap not c.if-not-under.true)))
 
 pub loop-i-preserved-then-e-d : goal.loop-i-preserved-then-e-d
 loop-i-preserved-then-e-d c =
     let y = c.before.before.before.before.before.before.before in
     let e = c.if-e-d.true in
-    (search rules, omega (arith, in-second y), second-over y e, second-under y e)
+    (search rules, omega (arith, in-second (goal.at.loop-i-preserved-then-e-d c).After-dot_at-e), second-over (goal.at.loop-i-preserved-then-e-d c).After-dot_at-e e, second-under (goal.at.loop-i-preserved-then-e-d c).After-dot_at-e e)
 
 pub returns-then-not-under-2 : goal.returns-then-not-under-2
 returns-then-not-under-2 c =
     let y = c.before.before.before.before.before.before.before.before.before.before in
     let e : y.dot_at-d.result.actor ≡ y.dot_at-e.result.actor = omega
     (arith, c.if-e-d.false, c.if-d-e.false) in
-    apart-runs (ours y) (theirs y) (covering-gone (both-over y e) (and_no y.loop-i.over (lt-leb _ _ c.if-d-e-2.true)))
+    apart-runs (ours (goal.at.returns-then-not-under-2 c).After-dot_at-e) (theirs y) (covering-gone (both-over y e) (and_no y.loop-i.over (lt-leb _ _ c.if-d-e-2.true)))
     (covering-gone y.loop-i.invariant.3 (not-true _ (ap not c.if-not-under-2.true)))
 
 pub loop-i-preserved-then-d-e-2 : goal.loop-i-preserved-then-d-e-2
@@ -157,10 +157,10 @@ loop-i-preserved-then-d-e-2 c =
     (arith, c.if-e-d.false, c.if-d-e.false) in
     let k = c.if-d-e-2.true in (
       omega (arith, y.loop-i-test),
-      omega (arith, in-second y),
-      flagged (and_no y.loop-i.over (lt-leb _ _ k)) (both-over y e),
+      omega (arith, in-second (goal.at.loop-i-preserved-then-d-e-2 c).After-dot_at-e),
+      flagged (and_no y.loop-i.over (lt-leb _ _ k)) (both-over (goal.at.loop-i-preserved-then-d-e-2 c).After-dot_at-e e),
       flagged (and_yes y.loop-i.under (le-leb y.dot_at-d.result.counter y.dot_at-e.result.counter (omega (arith, k))))
-          (both_under y e),
+          (both_under (goal.at.loop-i-preserved-then-d-e-2 c).After-dot_at-e e),
     )
 
 pub returns-then-not-over-2 : goal.returns-then-not-over-2
@@ -171,7 +171,7 @@ returns-then-not-over-2 c =
       c.if-e-d.false,
       c.if-d-e.false,
     ) in
-    apart-runs (ours y) (theirs y) (covering-gone y.loop-i.invariant.2 (not-true _ (ap not c.if-not-over-2.true)))
+    apart-runs (ours (goal.at.returns-then-not-over-2 c).After-dot_at-e) (theirs y) (covering-gone y.loop-i.invariant.2 (not-true _ (ap not c.if-not-over-2.true)))
     (covering-gone (both_under y e) (and_no y.loop-i.under (lt-leb _ _ c.if-e-d-2.true)))
 
 pub loop-i-preserved-then-e-d-2 : goal.loop-i-preserved-then-e-d-2
@@ -184,10 +184,10 @@ loop-i-preserved-then-e-d-2 c =
     ) in
     let k = c.if-e-d-2.true in (
       omega (arith, y.loop-i-test),
-      omega (arith, in-second y),
+      omega (arith, in-second (goal.at.loop-i-preserved-then-e-d-2 c).After-dot_at-e),
       flagged (and_yes y.loop-i.over (le-leb y.dot_at-e.result.counter y.dot_at-d.result.counter (omega (arith, k))))
-          (both-over y e),
-      flagged (and_no y.loop-i.under (lt-leb _ _ k)) (both_under y e),
+          (both-over (goal.at.loop-i-preserved-then-e-d-2 c).After-dot_at-e e),
+      flagged (and_no y.loop-i.under (lt-leb _ _ k)) (both_under (goal.at.loop-i-preserved-then-e-d-2 c).After-dot_at-e e),
     )
 
 pub loop-i-preserved : goal.loop-i-preserved
@@ -199,9 +199,9 @@ loop-i-preserved c =
       c.if-d-e.false,
     ) in (
       omega (arith, y.loop-i-test),
-      omega (arith, in-second y),
-      flagged (and_yes y.loop-i.over (le-leb _ _ c.if-d-e-2.false)) (both-over y e),
-      flagged (and_yes y.loop-i.under (le-leb _ _ c.if-e-d-2.false)) (both_under y e),
+      omega (arith, in-second (goal.at.loop-i-preserved c).After-dot_at-e),
+      flagged (and_yes y.loop-i.over (le-leb _ _ c.if-d-e-2.false)) (both-over (goal.at.loop-i-preserved c).After-dot_at-e e),
+      flagged (and_yes y.loop-i.under (le-leb _ _ c.if-e-d-2.false)) (both_under (goal.at.loop-i-preserved c).After-dot_at-e e),
     )
 
 -- one of the two is used up

@@ -27,9 +27,6 @@ overflow_add-i c = omega arith
 pub clear-requires : goal.clear-requires
 clear-requires c = omega arith
 
-add-i : goal.overflow_add-i
-add-i c = omega arith
-
 pub loop-i-smaller : goal.loop-i-smaller
 loop-i-smaller c = omega arith
 
@@ -57,4 +54,4 @@ returns c = let s = c.before in
     (refl, s.loop-i.invariant.1.1 ∙ ap (λ n. placed length_place (zeros n) s.put8.new.0) e ∙ rw s.put8.ensures)
 
 pub overflow_add-i-in-loop-i : goal.overflow_add-i-in-loop-i
-overflow_add-i-in-loop-i c = add-i c
+overflow_add-i-in-loop-i c = omega arith

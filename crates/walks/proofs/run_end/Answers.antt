@@ -34,6 +34,6 @@ loop-i-preserved c =
 
 pub returns : goal.returns
 returns c = (
-  run-stops _ _ _ _ c.loop-i.invariant.1.1 (λ k. let e = c.lower-top.ensures.1 (omega arith) in omega arith),
+  run-stops _ _ _ _ c.loop-i.invariant.1.1 (λ k. let e = c.lower-top.ensures.value (omega arith) in omega arith),
   (omega arith, omega arith),
 )
