@@ -3,7 +3,6 @@ use Rattle.std.specs.Prelude.{ℕ, ◌+◌, ◌*◌, List, ◌∷◌, ◌++◌, 
 use mathlib.Core.Bool.{Bool, cond, ◌&&◌, ◌||◌}
 use Rattle.listlaws.specs.Sift.{those}
 use Rattle.listlaws.specs.Fold.{fold}
-use Rattle.listlaws.specs.First.{some}
 use Rattle.limits.specs.Limits.{dot_limit, key_limit}
 use Rattle.clock.specs.Dots.{dots_of, clock_of}
 use Rattle.removals.specs.declared.Removal.{Removal}

@@ -1,9 +1,9 @@
 -- `times` meets its contract: the loop sifts the values, and only their number is kept.
 use mathlib.Core.Path.{refl, ap, sym, ◌∙◌}
-use Prim.Native.Nat.{◌-◌, ◌+◌}
+use Prim.Native.Nat.{◌+◌}
 use Rattle.listlaws.proofs.Pads.{length-snoc}
 use Rattle.listlaws.proofs.Sifting.{sifting-start, sifting-keep, sifting-drop, sifting-end}
-use Rattle.equality.specs.Equality.{same_pair, times_in}
+use Rattle.equality.specs.Equality.{times_in}
 use Rattle.register.proofs.Packs.{none_read}
 use borrow.Author.Rules.{rules}
 use native.Mathlib.Omega.{arith}

@@ -58,11 +58,11 @@ module _ (c : After-is_less) where
   at = c.before.before.before.before.before
 
   abbrev Met : List Value → Type 0
-  Met l = let a = at.before.before.args in
+  Met l = let a = at.args in
       RunsOf a.map.now a.starts a.n l → yields false (get_or l a.k no_value) (get_or l at.loop-j.j no_value) ≡ c.is_less.result
 
   met : (l : List Value) → Met l
-  met l r = told (r.each _ at.before.before.requires.0) (r.each _ (omega arith)) c.compare_runs-o.ensures c.is_less.ensures
+  met l r = told (r.each _ at.requires.0) (r.each _ (omega arith)) c.compare_runs-o.ensures c.is_less.ensures
 
 pub returns-then-is_less : goal.returns-then-is_less
 unfolding is_below

@@ -1,10 +1,10 @@
 -- `cut_marks_by` meets its contract: the loop walks the clock's run beside the run.
 use mathlib.Core.Path.{◌≡◌, ap, sym, ◌∙◌}
 use mathlib.Core.Logic.{inl, inr}
-use Prim.Native.Nat.{◌≤◌, ◌<◌, ◌-◌, ◌/◌}
+use Prim.Native.Nat.{◌≤◌, ◌<◌, ◌/◌}
 use lib.ListN.{length, get_or}
 use lib.Seq.{take-length}
-use borrow.Author.Tests.{ltb-true, ltb-false, le-ltb}
+use borrow.Author.Tests.{ltb-true}
 use Rattle.clock.specs.Dots.{no_dot}
 use Rattle.runs.specs.Run.{run_dots}
 use Rattle.marks.proofs.Dots.{run_at, length_run, all, few-dots}

@@ -1,7 +1,7 @@
 -- `write_picked` meets its contract: a record for each dot whose mark is set, one behind the other.
 use mathlib.Core.Path.{◌≡◌, ap, sym, ◌∙◌}
 use mathlib.Core.List.{[], ◌∷◌}
-use Prim.Native.Nat.{◌-◌, ◌+◌}
+use Prim.Native.Nat.{◌+◌}
 use lib.ListN.{drop, length-map}
 use Rattle.clock.specs.Dots.{no_dot}
 use Rattle.records.proofs.Writing.{write-start, write-room, write-on, write-end, wrote_one, write_kept}

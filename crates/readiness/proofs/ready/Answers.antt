@@ -1,8 +1,6 @@
 -- `ready` meets its contract: a removal may be applied, an update is held against the clock.
 use mathlib.Core.Path.{◌∙◌}
 use borrow.Author.Tests.{not-true, not-false}
-use mathlib.Core.Bool.{not}
-use mathlib.Core.Path.{ap}
 use Rattle.readiness.proofs.ready.Goals as goal
 
 pub returns-then-not-op : goal.returns-then-not-op

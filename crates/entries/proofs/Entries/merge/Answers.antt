@@ -18,7 +18,7 @@ use Rattle.limits.specs.Limits.{entry_limit}
 use Rattle.entries.specs.Model.{entries_of, LaidDown}
 use Rattle.removals.specs.Model.{waiting_of}
 use Rattle.entries.specs.Steps.{survivor_of}
-use Rattle.entries.specs.Entries.{stays, run, alone, together, merge_entries}
+use Rattle.entries.specs.Entries.{stays, alone, together, merge_entries}
 use Rattle.entries.proofs.Runs.{run-laid}
 use Rattle.entries.proofs.Packs.{none_read}
 use Rattle.entries.proofs.Finishing.{go-start, go-keep, go-skip, go-end, finish-one, one-stays, one-goes}

@@ -126,14 +126,14 @@ module _ (c : After-draw_key-k) where
   n = (read_map z.args.t.now).map
 
   abbrev key : ℕ
-  key = k.next.result.x.key
+  key = k.next-c.result.x.key
 
   bound : w.loop-x.invariant.0.low ≤ key
   bound = let d = w.loop-x.invariant.0 in (came k).least d.low d.above d.over
 
-  ours : let r = i.before.listers.result in Marked (waiting_in m) key r.under
+  ours : let r = i.listers-ours.result in Marked (waiting_in m) key r.under
       × Keyed z.args.s.now r.next z.args.a.layout.end (key_number 0 (key + 1)) (waiting_in m)
-  ours = i.before.listers.ensures.1 (key_number 0 w.loop-x.invariant.0.low) (waiting_in m) w.loop-x.invariant.0.listed (omega (arith, bound))
+  ours = i.listers-ours.ensures.1 (key_number 0 w.loop-x.invariant.0.low) (waiting_in m) w.loop-x.invariant.0.listed (omega (arith, bound))
 
   theirs : let r = i.listers-theirs.result in Marked (waiting_in n) key r.under
       × Keyed z.args.t.now r.next z.args.b.layout.end (key_number 0 (key + 1)) (waiting_in n)
@@ -146,7 +146,7 @@ module _ (c : After-draw_key-k) where
       drew w.loop-x.invariant.0 r (c.draw_key-k.ensures r.keep r.ours r.theirs (waiting_in n) (waiting_in m) r.kept r.here r.there
       r.level p.1.0.1 p.1.0.0
       (subst (λ x. Marked (waiting_in n) x i.listers-theirs.result.under) r.here.key theirs.0)
-      (subst (λ x. Marked (waiting_in m) x i.before.listers.result.under) r.here.key ours.0))
+      (subst (λ x. Marked (waiting_in m) x i.listers-ours.result.under) r.here.key ours.0))
 
   abbrev drawn_dots : List Dot
   drawn_dots = dots_of (clock_apart c.draw_key-k.result.own)

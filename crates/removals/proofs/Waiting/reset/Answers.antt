@@ -2,7 +2,6 @@
 use mathlib.Core.Path.{refl, ap, sym, ◌∙◌}
 use mathlib.Core.Bool.{not}
 use mathlib.Core.List.{[]}
-use Prim.Native.Nat.{◌-◌}
 use borrow.Author.Tests.{not-true}
 use Rattle.listlaws.specs.First.{first_in}
 use Rattle.listlaws.specs.Fold.{fold}

@@ -95,14 +95,14 @@ module _ (c : After-draw_key-k) where
   m = (read_map z.args.s.now).map
 
   abbrev key : ℕ
-  key = k.next.result.entry.key
+  key = k.next-c.result.entry.key
 
-  ours : let r = i.listers.result in Marked (waiting_in m) key r.under
+  ours : let r = i.listers-listing.result in Marked (waiting_in m) key r.under
       × Keyed z.args.s.now r.next z.args.last (key_number 0 (key + 1)) (waiting_in m)
   ours =
       let d = w.loop-x.invariant.1 in
       let bound = (came k).least d.low d.above d.goal in
-      i.listers.ensures.1 (key_number 0 d.low) (waiting_in m) d.listed (omega (arith, bound))
+      i.listers-listing.ensures.1 (key_number 0 d.low) (waiting_in m) d.listed (omega (arith, bound))
 
   drawn : Drew w.loop-x.invariant.1 (came k) key c.draw_key-k.result
   drawn =
@@ -110,7 +110,7 @@ module _ (c : After-draw_key-k) where
       let p = z.requires in
       drew w.loop-x.invariant.1 r (c.draw_key-k.ensures z.args.u r.entry (waiting_in m) refl (lain z) r.lies
       (fits_next w.loop-x.invariant.1 r p.0.0 p.1.1.0.1) p.0.1
-      (subst (λ x. Marked (waiting_in m) x i.listers.result.under) r.lies.key ours.0))
+      (subst (λ x. Marked (waiting_in m) x i.listers-listing.result.under) r.lies.key ours.0))
 
   abbrev drawn_dots : List Dot
   drawn_dots = dots_of (clock_apart c.draw_key-k.result.own)
