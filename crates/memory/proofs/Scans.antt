@@ -14,7 +14,7 @@ use Rattle.records.specs.Records.{record_from, record_bytes}
 use Rattle.records.proofs.RoundTrips.{Fitting, read-record, read_fits}
 use Rattle.scan.specs.declared.Scan.{Scan}
 use Rattle.scan.specs.Formed.{well_formed}
-use Rattle.scan.specs.Limits.{outer, middle, inner, within}
+use Rattle.scan.specs.Limits.{within}
 use Rattle.scan.specs.Numbers.{scan_number}
 use Rattle.scan.specs.Scanned.{Scanned, CountedUnder}
 use Rattle.scan.specs.Stepping.{behind_last, scan_on, under_on}

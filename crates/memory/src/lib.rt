@@ -1,5 +1,6 @@
 // The memory of a reader of pieces, which is lent: where each part of the map stands in it, and where a record goes.
 #![tactic(auto)]
+
 ghost use Rattle.std.specs.Prelude.{◌≡◌, ◌+◌, ◌≤◌, ◌<◌};
 ghost use Rattle.limits.specs.Limits.{entry_limit, waiting_limit};
 ghost use Rattle.memory.specs.Memory.{reader_room, clock_room, count_at, entry_count, scan_at};

@@ -1,5 +1,6 @@
 // What replay counts, in tables with a place for each call (from 1) or for each number (from 0), and how it is printed.
 #![tactic(auto)]
+
 use libc::STDOUT_FILENO;
 use std::num::wrapping_add_u64;
 

@@ -1,6 +1,5 @@
 -- `rises` meets its contract: each dot stands from the place behind the last actor on.
 use mathlib.Core.Path.{refl, sym, ◌∙◌}
-use Prim.Native.Nat.{◌-◌}
 use Rattle.clock.specs.Dots.{no_dot, dots_of}
 use Rattle.advance.proofs.Risings.{rising-stops, rising-goes, rising-end}
 use native.Mathlib.Omega.{arith}

@@ -2,12 +2,12 @@
 use mathlib.Core.Path.{◌≡◌, refl, ap, ap₂, sym, ◌∙◌, subst}
 use mathlib.Core.Bool.{Bool, true, false, ◌&&◌}
 use mathlib.Core.List.{List}
-use mathlib.Core.Logic.{◌⊎◌, ⊎_elim, inl, inr, ⊎_swap}
-use Prim.Native.Nat.{ℕ, ◌≤◌, ◌<◌, ◌-◌, ◌+◌, ◌/◌}
+use mathlib.Core.Logic.{◌⊎◌, inl, inr, ⊎_swap}
+use Prim.Native.Nat.{ℕ, ◌≤◌, ◌<◌, ◌+◌, ◌/◌}
 use lib.Dec.{leb}
 use lib.ListN.{length, get_or}
 use lib.Seq.{take-length}
-use borrow.Author.Tests.{ltb-true, ltb-false, le-leb, lt-leb, not-true}
+use borrow.Author.Tests.{ltb-true, le-leb, lt-leb, not-true}
 use Rattle.clock.specs.declared.Dot.{Dot}
 use Rattle.clock.specs.declared.Order.TheVariants.{Concurrent}
 use Rattle.clock.specs.Dots.{no_dot, outcome, order_of, covers}
@@ -213,8 +213,8 @@ left_over c =
     let x = s.args.x.now in
     let y = s.args.y.now in
     elim c.loop-i-test.branch [
-      then-loop-i-test+else-j-m w ↦ inr (rw (take-length (run_dots y)) (omega (arith, w.if-j-m.false, length_run y)))
-    | else-loop-i-test w ↦ inl (rw (take-length (run_dots x)) (omega (arith, w.loop-i-test.false, length_run x)))
+      | then-loop-i-test+else-j-m w ↦ inr (rw (take-length (run_dots y)) (omega (arith, w.if-j-m.false, length_run y)))
+      | else-loop-i-test w ↦ inl (rw (take-length (run_dots x)) (omega (arith, w.loop-i-test.false, length_run x)))
     ]
 
 long : (s : List ℕ) → length s / 16 ≡ length (all (run_dots s))
