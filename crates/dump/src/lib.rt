@@ -1,5 +1,6 @@
 // A map image from a file, printed a line a record: kind, index, actor, key and number; or only `refused N`.
 #![tactic(auto)]
+
 use libc::{STDERR_FILENO, STDOUT_FILENO};
 use mapimage::MAP_LONGEST;
 use records::Record;

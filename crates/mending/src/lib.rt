@@ -1,5 +1,6 @@
 // Step 5 of a salvage: waiting clocks united, and the index that each record takes.
 #![tactic(auto)]
+
 ghost use Rattle.std.specs.Prelude.{◌≡◌, not, ◌&&◌, ℕ, ◌/◌, ◌≤◌, ◌<◌, eqb, ltb, length, take, get_or};
 ghost use Rattle.listlaws.specs.Order.{◌∈◌};
 ghost use Rattle.listlaws.specs.Sift.{those};

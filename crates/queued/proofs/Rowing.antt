@@ -216,8 +216,8 @@ first-there x [] a i = absurd (Memᴰ.not-nil i)
 first-there x (z ∷ l) a i =
     ⊎_elim
     (λ (e : x ≡ z). rw (le-leb x z (omega arith), lt-leb (x + 1) z (omega arith), e)
-    (ap (λ k. z ∷ k) (those-same (leb z) (leb (z + 1)) l (λ y j. let k = ltb-true z y (head-before a y j) in
-    le-leb z y (omega arith) ∙ sym (le-leb (z + 1) y (omega arith))))))
+    (ap (λ k. z ∷ k) (those-same (leb x) (leb (x + 1)) l (λ y j. let k = ltb-true z y (head-before a y j) in
+    le-leb x y (omega arith) ∙ sym (le-leb (x + 1) y (omega arith))))))
     (λ j. let k = ltb-true z x (head-before a x j) in rw (lt-leb x z k, lt-leb (x + 1) z (omega arith)) (first-there x l (tail-ascends a) j))
     (Memᴰ.cases_cons i)
 
@@ -233,7 +233,8 @@ module _ (result : List Removal) (few : length result ≤ waiting_limit) where
       → map number_record (those (leb (key_number p key)) numbers) ≡ row_records key p l ++ map number_record
       (those (leb (key_number waiting_limit key)) numbers)
   unfolding row_records
-  row_from key p [] e f = let q : p ≡ waiting_limit = omega arith in rw q
+  row_from key p [] e f = let q : p ≡ waiting_limit = omega arith in
+      ap (λ (k : ℕ). map number_record (those (leb (key_number k key)) numbers)) q
   row_from key p (b ∷ l) e f =
       let low : p < waiting_limit = omega arith in
       let z : p + 0 ≡ p = omega arith in

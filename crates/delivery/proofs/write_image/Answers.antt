@@ -107,10 +107,10 @@ write_waiting_keys-requires c = last-room _ _ _ _ (fifth c.before.before.before)
 pub shape_of-out : goal.shape_of-out
 shape_of-out c =
     let k = c.before.before in
-    k.write_waiting_keys.auto.1.0 ∙ (write-room _ _ _ [] _ (fifth k.before.before.before.before) refl).1
+    k.write_waiting_keys.auto.out ∙ (write-room _ _ _ [] _ (fifth k.before.before.before.before.before) refl).1
 
 pub returns : goal.returns
 unfolding image_at
 returns c =
     let k = c.before.before in
-    write-last _ _ _ _ (fifth k.before.before.before.before) k.write_waiting_keys.ensures
+    write-last _ _ _ _ (fifth k.before.before.before.before.before) k.write_waiting_keys.ensures
