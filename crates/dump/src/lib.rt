@@ -51,7 +51,7 @@ fn ended(file: &mut impl Read) -> bool {
 // reached is no image: nothing is printed of it, and standard error says so.
 pub fn print_from(rt: &(impl Print + Eprint), file: &mut impl Read) -> io::Result<()> {
     let mut space = [0u8; ROOM];
-    let n = reading::read_full(file, &mut space);
+    let n = input::read_full(file, &mut space);
     if n < ROOM {
         if !ended(file) {
             return rt.eprintln("mapdump: the input could not be read to its end");

@@ -4,6 +4,8 @@
 
 mod calls;
 
+ghost use Rattle.std.specs.Prelude.{◌≡◌, length};
+
 use questions::{BUFFER, Question};
 use std::io;
 use tally::PLACES;
@@ -88,9 +90,18 @@ fn replay(rt: &impl Print, file: &[u8]) -> io::Result<()> {
 const LONGEST: usize = 524288;
 
 // One byte more than the file may have is read, so that a longer one is seen to be longer.
+const ROOM: usize = LONGEST + 1;
+
+// Zeros. The contract says their number alone, so that no proof above writes them out.
+fn room() -> [u8; ROOM]
+    ensures { 524289 ≡ length result }
+{
+    [0u8; ROOM]
+}
+
 fn main(rt: HostRuntime) -> io::Result<()> {
-    let mut space = [0u8; LONGEST + 1];
-    let n = reading::read_full(&mut rt.stdin(), &mut space);
+    let mut space = room();
+    let n = input::read_full(&mut rt.stdin(), &mut space);
     replay(&rt, &space[..n])?;
     tally::print_file(&rt, n, questions::sum(&space[..n]))
 }

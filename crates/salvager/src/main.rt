@@ -105,10 +105,10 @@ fn mend(rt: &HostRuntime, image: &[u8]) -> io::Result<()> {
 // One byte more than the longest image is read, so that a longer file is seen to be longer.
 fn main(rt: HostRuntime) -> io::Result<()> {
     let mut space = [0u8; ROOM];
-    let mut input = rt.stdin();
-    let n = reading::read_full(&mut input, &mut space);
+    let mut stdin = rt.stdin();
+    let n = input::read_full(&mut stdin, &mut space);
     if n < ROOM {
-        if !ended(&mut input) {
+        if !ended(&mut stdin) {
             return say(
                 &rt.stderr(),
                 b"salvager: the input could not be read to its end\n",
