@@ -46,7 +46,8 @@ module _ {rs : List Record} where
 
   module _ {i : ℕ} {xs : List MarkedRecord} (g : Judging rs i xs) (h : i < length xs) (k : i < length rs) (z : MarkedRecord)
       (w : z.item ≡ get_or rs i no_record) where
-    judging-on : ((seen : List Record) → tested 2 good_alone seen (untouched (get_or rs i no_record)) ≡ plain_fate z) → Judging rs (i + 1) (set xs i z)
+    judging-on : ((seen : List Record) → tested 2 good_alone seen (untouched (get_or rs i no_record)) ≡ plain_fate z)
+        → Judging rs (i + 1) (set xs i z)
     judging-on e = record {
       passed = rw (add-one i)
           (ap plain_fates (take-suc-set xs i z h) ∙ map-append plain_fate (take i xs) (z ∷ [])

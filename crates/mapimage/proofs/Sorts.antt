@@ -162,7 +162,8 @@ none_left low (y ∷ w) f = rw (lt-leb low y (f y (Memᴰ.head refl))) (none_lef
 
 module _ (end low : ℕ) (l : List ℕ) (below : every (λ x. ltb x end) l ≡ true) where
   -- there is one left
-  pub next-least : least_from low end l < end → those (leb low) (in_order l) ≡ least_from low end l ∷ those (leb (least_from low end l + 1)) (in_order l)
+  pub next-least : least_from low end l < end → those (leb low) (in_order l)
+      ≡ least_from low end l ∷ those (leb (least_from low end l + 1)) (in_order l)
   next-least h =
       ⊎_elim
       (λ e. absurd (omega arith))

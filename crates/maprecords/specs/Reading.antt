@@ -56,7 +56,8 @@ unfoldable pub waiting_count : List Record → ℕ
 waiting_count l = fold (λ n r. cond (is_kind waiting_dot_kind r) (max n (r.index + 1)) n) 0 l
 
 abbrev pub waiting_removal_in : List Record → ℕ → Removal
-waiting_removal_in l index = removal_as (dots_from (under_index waiting_dot_kind index) l) (map (λ r. r.key) (those (under_index waiting_key_kind index) l))
+waiting_removal_in l index = removal_as (dots_from (under_index waiting_dot_kind index) l)
+    (map (λ r. r.key) (those (under_index waiting_key_kind index) l))
 
 -- 0, 1, .. n - 1
 unfoldable pub numbers_below : ℕ → List ℕ

@@ -150,7 +150,8 @@ module _ {m : Map} (h : Within m) where
       (lt-ltb j _ (rw long (place-below p))))) refl
 
   -- the waiting removals before one, and one with keys, have dots
-  waiting-dot-placed : {q : Removal} (j : ℕ) → Place q j (waiting_in m) → (d : Dot) → finds_place (seen (dot_record 5 j 0 d)) (dot_record 5 j 0 d) ≡ true
+  waiting-dot-placed : {q : Removal} (j : ℕ) → Place q j (waiting_in m) → (d : Dot) → finds_place (seen (dot_record 5 j 0 d)) (dot_record 5 j 0 d)
+      ≡ true
   waiting-dot-placed zero p d = le-leb 0 (waiting_count (seen (dot_record 5 0 0 d))) (omega arith)
   waiting-dot-placed (suc j) p d =
       let r = dot_record 5 (suc j) 0 d in
@@ -189,4 +190,5 @@ module _ {m : Map} (h : Within m) where
 
   pub records-related : related (map_records m) ≡ true
   unfolding related
-  records-related = both (each finds_place (map_records m)) _ each_placed (both _ (ascend (waiting_for (map_records m))) entries-whole waiting-ascends)
+  records-related = both (each finds_place (map_records m)) _ each_placed
+      (both _ (ascend (waiting_for (map_records m))) entries-whole waiting-ascends)

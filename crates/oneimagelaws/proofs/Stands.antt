@@ -20,7 +20,8 @@ use Rattle.removals.specs.Model.{under_of, listed_in}
 use Rattle.records.specs.declared.Record.{Record}
 use Rattle.clockimage.specs.Image.{dot_record, dot_records}
 use Rattle.mapimage.specs.Sorted.{in_order}
-use Rattle.mapimage.specs.MapImage.{flat_from, value_record, value_records, entry_records, waiting_dots, key_number, key_numbers, number_record, records_in}
+use Rattle.mapimage.specs.MapImage.{flat_from, value_record, value_records, entry_records, waiting_dots, key_number, key_numbers, number_record}
+use Rattle.mapimage.specs.MapImage.{records_in}
 use Rattle.mapimage.proofs.Sorts.{order-has, order-from-list}
 
 -- x stands at place j, counted from 0

@@ -1,5 +1,6 @@
 // The waiting removals of a result, planned from two images where they lie: no clock is taken out.
 #![tactic(auto)]
+
 ghost use Rattle.std.specs.Prelude.{◌≡◌, true, false, cond, ◌&&◌, ◌||◌, not, List, [], ℕ, ◌+◌, ◌*◌, ◌≤◌, ◌<◌, length};
 ghost use Rattle.listlaws.specs.Sift.{those};
 ghost use Rattle.clock.specs.Dots.{dots_of, is_empty, cut_dots};

@@ -155,7 +155,8 @@ module _ {s : List ℕ} {i n : ℕ} {t : List ℕ} {j m a b key : ℕ} (ha : Hea
 
 -- the row of the next key
 module _ {s : List ℕ} {i n : ℕ} {t : List ℕ} {j m low : ℕ} {w v result : List Removal} {ours theirs : List ℕ}
-    (kw : Keyed s i n (key_number 0 low) w) (kv : Keyed t j m (key_number 0 low) v) (mv : Moves w v result ours theirs) {key : ℕ} (hw : Heads s i n key)
+    (kw : Keyed s i n (key_number 0 low) w) (kv : Keyed t j m (key_number 0 low) v) (mv : Moves w v result ours theirs) {key : ℕ}
+    (hw : Heads s i n key)
     (hv : Heads t j m key)
     (of : ((i < n) × (key ≡ (record_from s (i * 16)).key)) ⊎ ((j < m) × (key ≡ (record_from t (j * 16)).key))) where
   pub row-above : low ≤ key
@@ -201,7 +202,8 @@ module _ (key : ℕ) (under : List Bool) where
   unfolding row_records
   row-yes i h t = rw (drop-cons under i false h, t, add-one)
 
-  pub row-no : (i : ℕ) → i < length under → get_or under i false ≡ false → row_records key i (drop i under) ≡ row_records key (i + 1) (drop (i + 1) under)
+  pub row-no : (i : ℕ) → i < length under → get_or under i false ≡ false → row_records key i (drop i under)
+      ≡ row_records key (i + 1) (drop (i + 1) under)
   unfolding row_records
   row-no i h t = rw (drop-cons under i false h, t, add-one)
 

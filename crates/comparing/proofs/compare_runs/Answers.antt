@@ -123,31 +123,42 @@ module _ (c : After-dot_at-e) where
 pub returns-then-not-over : goal.returns-then-not-over
 returns-then-not-over c =
     let y = c.before.before.before.before in
-    apart-runs (ours (goal.at.returns-then-not-over c).After-dot_at-e) (theirs (goal.at.returns-then-not-over c).After-dot_at-e) (covering-gone y.loop-i.invariant.2 (not-true _ (ap not c.if-not-over.true)))
+    apart-runs (ours (goal.at.returns-then-not-over c).After-dot_at-e) (theirs (goal.at.returns-then-not-over c).After-dot_at-e)
+    (covering-gone y.loop-i.invariant.2 (not-true _ (ap not c.if-not-over.true)))
     (covering-gone (first_under (goal.at.returns-then-not-over c).After-dot_at-e c.if-d-e.true) refl)
 
 pub loop-i-preserved-then-d-e : goal.loop-i-preserved-then-d-e
-loop-i-preserved-then-d-e c = let y = c.before.before.before.before in let e = c.if-d-e.true in
-    (omega arith, search rules, first-over (goal.at.loop-i-preserved-then-d-e c).After-dot_at-e e, first_under (goal.at.loop-i-preserved-then-d-e c).After-dot_at-e e)
+loop-i-preserved-then-d-e c = let y = c.before.before.before.before in let e = c.if-d-e.true in (
+  omega arith,
+  search rules,
+  first-over (goal.at.loop-i-preserved-then-d-e c).After-dot_at-e e,
+  first_under (goal.at.loop-i-preserved-then-d-e c).After-dot_at-e e,
+)
 
 pub returns-then-not-under : goal.returns-then-not-under
 returns-then-not-under c =
     let y = c.before.before.before.before.before.before.before in
-    apart-runs (ours (goal.at.returns-then-not-under c).After-dot_at-e) (theirs (goal.at.returns-then-not-under c).After-dot_at-e) (covering-gone (second-over (goal.at.returns-then-not-under c).After-dot_at-e c.if-e-d.true) refl)
+    apart-runs (ours (goal.at.returns-then-not-under c).After-dot_at-e) (theirs (goal.at.returns-then-not-under c).After-dot_at-e)
+    (covering-gone (second-over (goal.at.returns-then-not-under c).After-dot_at-e c.if-e-d.true) refl)
     (covering-gone y.loop-i.invariant.3 (not-true _ (ap not c.if-not-under.true)))
 
 pub loop-i-preserved-then-e-d : goal.loop-i-preserved-then-e-d
 loop-i-preserved-then-e-d c =
     let y = c.before.before.before.before.before.before.before in
-    let e = c.if-e-d.true in
-    (search rules, omega (arith, in-second (goal.at.loop-i-preserved-then-e-d c).After-dot_at-e), second-over (goal.at.loop-i-preserved-then-e-d c).After-dot_at-e e, second-under (goal.at.loop-i-preserved-then-e-d c).After-dot_at-e e)
+    let e = c.if-e-d.true in (
+      search rules,
+      omega (arith, in-second (goal.at.loop-i-preserved-then-e-d c).After-dot_at-e),
+      second-over (goal.at.loop-i-preserved-then-e-d c).After-dot_at-e e,
+      second-under (goal.at.loop-i-preserved-then-e-d c).After-dot_at-e e,
+    )
 
 pub returns-then-not-under-2 : goal.returns-then-not-under-2
 returns-then-not-under-2 c =
     let y = c.before.before.before.before.before.before.before.before.before.before in
     let e : y.dot_at-d.result.actor ≡ y.dot_at-e.result.actor = omega
     (arith, c.if-e-d.false, c.if-d-e.false) in
-    apart-runs (ours (goal.at.returns-then-not-under-2 c).After-dot_at-e) (theirs (goal.at.returns-then-not-under-2 c).After-dot_at-e) (covering-gone (both-over (goal.at.returns-then-not-under-2 c).After-dot_at-e e) (and_no y.loop-i.over (lt-leb _ _ c.if-d-e-2.true)))
+    apart-runs (ours (goal.at.returns-then-not-under-2 c).After-dot_at-e) (theirs (goal.at.returns-then-not-under-2 c).After-dot_at-e)
+    (covering-gone (both-over (goal.at.returns-then-not-under-2 c).After-dot_at-e e) (and_no y.loop-i.over (lt-leb _ _ c.if-d-e-2.true)))
     (covering-gone y.loop-i.invariant.3 (not-true _ (ap not c.if-not-under-2.true)))
 
 pub loop-i-preserved-then-d-e-2 : goal.loop-i-preserved-then-d-e-2
@@ -171,7 +182,8 @@ returns-then-not-over-2 c =
       c.if-e-d.false,
       c.if-d-e.false,
     ) in
-    apart-runs (ours (goal.at.returns-then-not-over-2 c).After-dot_at-e) (theirs (goal.at.returns-then-not-over-2 c).After-dot_at-e) (covering-gone y.loop-i.invariant.2 (not-true _ (ap not c.if-not-over-2.true)))
+    apart-runs (ours (goal.at.returns-then-not-over-2 c).After-dot_at-e) (theirs (goal.at.returns-then-not-over-2 c).After-dot_at-e)
+    (covering-gone y.loop-i.invariant.2 (not-true _ (ap not c.if-not-over-2.true)))
     (covering-gone (both_under (goal.at.returns-then-not-over-2 c).After-dot_at-e e) (and_no y.loop-i.under (lt-leb _ _ c.if-e-d-2.true)))
 
 pub loop-i-preserved-then-e-d-2 : goal.loop-i-preserved-then-e-d-2

@@ -29,7 +29,9 @@ fine c =
     (sym (of_length l.before.before.before) ∙ l.if-length-ne0.false, sym c.scanned-number.ensures ∙ c.if-number-ne0.false)
 
 pub returns-then-related : goal.returns-then-related
-returns-then-related c = let f = fine (goal.at.returns-then-related c).After-related in number-of-all _ f.0 f.1 (ap (λ b. cond b 0 3) (sym c.if-related.true ∙ c.related.ensures))
+returns-then-related c = let f = fine (goal.at.returns-then-related c).After-related in number-of-all _ f.0 f.1
+    (ap (λ b. cond b 0 3) (sym c.if-related.true ∙ c.related.ensures))
 
 pub returns-else-related : goal.returns-else-related
-returns-else-related c = let f = fine (goal.at.returns-else-related c).After-related in number-of-all _ f.0 f.1 (ap (λ b. cond b 0 3) (sym c.if-related.false ∙ c.related.ensures))
+returns-else-related c = let f = fine (goal.at.returns-else-related c).After-related in number-of-all _ f.0 f.1
+    (ap (λ b. cond b 0 3) (sym c.if-related.false ∙ c.related.ensures))

@@ -14,7 +14,8 @@ use Rattle.memory.specs.Memory.{clock_place, dots_at, entries_at, waiting_at}
 use Rattle.delivery.specs.Delivery.{image_at}
 use Rattle.delivery.proofs.Lengths.{length-records}
 use native.Mathlib.Omega.{arith}
-use Rattle.delivery.proofs.write_image.Goals.{After-write_dots-arg-1, After-write_dots-first, After-write_entries-fourth, After-write_entries-second, After-write_entries-third, After-write_waiting-fifth, Start}
+use Rattle.delivery.proofs.write_image.Goals.{After-write_dots-arg-1, After-write_dots-first, After-write_entries-fourth, After-write_entries-second}
+use Rattle.delivery.proofs.write_image.Goals.{After-write_entries-third, After-write_waiting-fifth, Start}
 use Rattle.delivery.proofs.write_image.Goals as goal
 
 -- of each kind the records, and those from it on

@@ -69,7 +69,8 @@ unfolding is_below
 returns-then-is_less c = λ l r.
     let k = c.before in
     let s = at k in
-    rw (take-length l) at (passing-here no_value (s.loop-j.invariant.1 l r) (rw (take-length l) (omega (arith, r.count))) (met k l r ∙ c.if-is_less.true))
+    rw (take-length l) at (passing-here no_value (s.loop-j.invariant.1 l r) (rw (take-length l) (omega (arith, r.count)))
+    (met k l r ∙ c.if-is_less.true))
 
 pub loop-j-preserved : goal.loop-j-preserved
 loop-j-preserved c = (

@@ -74,7 +74,8 @@ loop-i-preserved-then-d-seen-2 c =
       omega arith,
       omega (arith, ltb-true),
       s.loop-i.invariant.2,
-      cutting-off s.loop-i.invariant.3 q.ours q.theirs (omega (arith, t.if-d-seen.false, t.if-seen-d.false, ap (λ x. x.actor) q.dot, ap (λ x. x.actor) q.other))
+      cutting-off s.loop-i.invariant.3 q.ours q.theirs
+          (omega (arith, t.if-d-seen.false, t.if-seen-d.false, ap (λ x. x.actor) q.dot, ap (λ x. x.actor) q.other))
           (omega (arith, c.if-d-seen-2.true, ap (λ x. x.counter) q.dot, ap (λ x. x.counter) q.other)) (omega (arith, s.loop-i.invariant.2)),
     )
 
@@ -87,7 +88,8 @@ loop-i-preserved c =
       omega arith,
       omega (arith, ltb-true),
       s.loop-i.invariant.2,
-      cutting-on s.loop-i.invariant.3 q.ours q.theirs (omega (arith, t.if-d-seen.false, t.if-seen-d.false, ap (λ x. x.actor) q.dot, ap (λ x. x.actor) q.other))
+      cutting-on s.loop-i.invariant.3 q.ours q.theirs
+          (omega (arith, t.if-d-seen.false, t.if-seen-d.false, ap (λ x. x.actor) q.dot, ap (λ x. x.actor) q.other))
           (omega (arith, c.if-d-seen-2.false, ap (λ x. x.counter) q.dot, ap (λ x. x.counter) q.other)),
     )
 

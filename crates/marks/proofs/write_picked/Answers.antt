@@ -51,8 +51,12 @@ pub loop-i-preserved-then-left : goal.loop-i-preserved-then-left
 loop-i-preserved-then-left c =
     let w = c.write_record-next in
     let t = c.before.before.before.before in
-    let s = t.before.before.before in
-    (omega arith, s.loop-i.invariant.1, write-on _ _ _ (_ ∷ []) s.loop-i.invariant.2 (set-mark (goal.at.loop-i-preserved-then-left c).Then-left) (wrote_one _ _ _ _ _ w.ensures))
+    let s = t.before.before.before in (
+      omega arith,
+      s.loop-i.invariant.1,
+      write-on _ _ _ (_ ∷ []) s.loop-i.invariant.2 (set-mark (goal.at.loop-i-preserved-then-left c).Then-left)
+          (wrote_one _ _ _ _ _ w.ensures),
+    )
 
 pub loop-i-preserved : goal.loop-i-preserved
 loop-i-preserved c =

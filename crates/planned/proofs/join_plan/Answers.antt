@@ -74,7 +74,8 @@ lies-of c w v q p =
     (ap (λ (x : Held). x.second) c.whole-x.ensures) (ap (λ (x : Held). x.second) c.whole-y.ensures)
 
 -- the walk comes nearer to the end
-near : (c : After-passed-j) → let u = c.before.before.before.before.before.before.before in let t = u.before.before.before.before.before.before.before.before.before.before in
+near : (c : After-passed-j) → let u = c.before.before.before.before.before.before.before in let t
+    = u.before.before.before.before.before.before.before.before.before.before in
     let n = t.places-n.result in let m = t.places-m.result in
     let o = c.passed-i.result in let p = c.passed-j.result in
     ((o ≤ n) × (p ≤ m)) × (((n - o) + (m - p) < (n - t.loop-i.i) + (m - t.loop-i.j)) × (t.loop-i.i + t.loop-i.j < o + p))

@@ -56,7 +56,8 @@ loop-j-preserved-in-Equal c =
       omega arith,
       s.loop-j.invariant.1,
       λ v l e r. passed-off (s.loop-j.invariant.2 v l e r) (omega (arith, r.count))
-          (met (goal.at.loop-j-preserved-in-Equal c).After-compare_runs-o v l Equal e r c.in-Equal.is) refl refl (omega (arith, s.loop-j.invariant.1, (found (goal.at.loop-j-preserved-in-Equal c).In-loop-j).0)),
+          (met (goal.at.loop-j-preserved-in-Equal c).After-compare_runs-o v l Equal e r c.in-Equal.is) refl refl
+          (omega (arith, s.loop-j.invariant.1, (found (goal.at.loop-j-preserved-in-Equal c).In-loop-j).0)),
     )
 
 pub loop-j-preserved-in-Greater : goal.loop-j-preserved-in-Greater
@@ -66,7 +67,8 @@ loop-j-preserved-in-Greater c =
       omega arith,
       s.loop-j.invariant.1,
       λ v l e r. passed-off (s.loop-j.invariant.2 v l e r) (omega (arith, r.count))
-          (met (goal.at.loop-j-preserved-in-Greater c).After-compare_runs-o v l Greater e r c.in-Greater.is) refl refl (omega (arith, s.loop-j.invariant.1, (found (goal.at.loop-j-preserved-in-Greater c).In-loop-j).0)),
+          (met (goal.at.loop-j-preserved-in-Greater c).After-compare_runs-o v l Greater e r c.in-Greater.is) refl refl
+          (omega (arith, s.loop-j.invariant.1, (found (goal.at.loop-j-preserved-in-Greater c).In-loop-j).0)),
     )
 
 pub loop-j-preserved : goal.loop-j-preserved
@@ -82,11 +84,15 @@ loop-j-preserved c =
 pub returns-in-Less : goal.returns-in-Less
 returns-in-Less c = λ v l e r.
     let k = c.before.before in
-    let s = k.before.before.before in
-    (passed-stops (s.loop-j.invariant.2 v l e r) (omega (arith, r.count)) (met (goal.at.returns-in-Less c).After-compare_runs-o v l Less e r c.in-Less.is) refl, refl)
+    let s = k.before.before.before in (
+      passed-stops (s.loop-j.invariant.2 v l e r) (omega (arith, r.count))
+          (met (goal.at.returns-in-Less c).After-compare_runs-o v l Less e r c.in-Less.is) refl,
+      refl,
+    )
 
 pub returns : goal.returns
-returns c = λ v l e r. let s = c.before in passed-end (s.loop-j.invariant.2 v l e r) (omega (arith, r.count)) (omega (arith, r.few, s.loop-j.invariant.1))
+returns c = λ v l e r. let s = c.before in passed-end (s.loop-j.invariant.2 v l e r) (omega (arith, r.count))
+    (omega (arith, r.few, s.loop-j.invariant.1))
 
 pub offset_bounds-starts-k : goal.offset_bounds-starts-k
 offset_bounds-starts-k c = let r = c.requires.1.1 in omega (arith, r.count, r.few, r.each c.loop-j.j (omega arith))

@@ -50,7 +50,8 @@ loop-i-preserved-in-Less c =
     let k = c.before.before in
     let s = k.before.before.before in (
       omega arith,
-      λ l v r e. putting-off (s.loop-i.invariant.1 l v r e) (omega (arith, r.count)) (met (goal.at.loop-i-preserved-in-Less c).After-compare_runs-o l v Less r e c.in-Less.is) refl
+      λ l v r e. putting-off (s.loop-i.invariant.1 l v r e) (omega (arith, r.count))
+          (met (goal.at.loop-i-preserved-in-Less c).After-compare_runs-o l v Less r e c.in-Less.is) refl
           (found (goal.at.loop-i-preserved-in-Less c).In-loop-i).0,
     )
 
@@ -59,7 +60,8 @@ loop-i-preserved-in-Equal c =
     let k = c.before.before in
     let s = k.before.before.before in (
       omega arith,
-      λ l v r e. putting-off (s.loop-i.invariant.1 l v r e) (omega (arith, r.count)) (met (goal.at.loop-i-preserved-in-Equal c).After-compare_runs-o l v Equal r e c.in-Equal.is) refl
+      λ l v r e. putting-off (s.loop-i.invariant.1 l v r e) (omega (arith, r.count))
+          (met (goal.at.loop-i-preserved-in-Equal c).After-compare_runs-o l v Equal r e c.in-Equal.is) refl
           (found (goal.at.loop-i-preserved-in-Equal c).In-loop-i).0,
     )
 
@@ -76,7 +78,8 @@ loop-i-preserved-in-Greater c =
     let k = c.before.before in
     let s = k.before.before.before in (
       omega arith,
-      λ l v r e. putting-on (s.loop-i.invariant.1 l v r e) (omega (arith, r.count)) (met (goal.at.loop-i-preserved-in-Greater c).After-compare_runs-o l v Greater r e c.in-Greater.is) refl
+      λ l v r e. putting-on (s.loop-i.invariant.1 l v r e) (omega (arith, r.count))
+          (met (goal.at.loop-i-preserved-in-Greater c).After-compare_runs-o l v Greater r e c.in-Greater.is) refl
           (or-true s.loop-i.yields),
     )
 

@@ -35,7 +35,8 @@ loop-i-preserved-then-st c =
     let s = g.before.before.before in (
       omega arith,
       λ l k p q. let f = g.against-st.ensures (get_or l s.loop-i.i no_value) k (run-dots (p.each s.loop-i.i (omega arith))) q in
-          merging-off (s.loop-i.invariant.1 l k p q) (omega (arith, p.count)) f.0 f.1 c.if-st.true (found (goal.at.loop-i-preserved-then-st c).In-loop-i).0,
+          merging-off (s.loop-i.invariant.1 l k p q) (omega (arith, p.count)) f.0 f.1 c.if-st.true
+          (found (goal.at.loop-i-preserved-then-st c).In-loop-i).0,
     )
 
 pub loop-i-preserved : goal.loop-i-preserved

@@ -93,8 +93,12 @@ loop-i-preserved-then-stays c =
     let j = c.before.before in
     let s = j.before.before.before in
     let m = met j in
-    let t = rw (← m.0) at (sym c.stays.ensures ∙ c.if-stays.true) in
-    (search rules, m.3, sifting-keep no_dot s.loop-i.invariant.2 (used j) refl t (λ l e. pushed l _ e (omega (arith, ap (λ k. k.len) e, room c))), m.1)
+    let t = rw (← m.0) at (sym c.stays.ensures ∙ c.if-stays.true) in (
+      search rules,
+      m.3,
+      sifting-keep no_dot s.loop-i.invariant.2 (used j) refl t (λ l e. pushed l _ e (omega (arith, ap (λ k. k.len) e, room c))),
+      m.1,
+    )
 
 pub loop-i-preserved : goal.loop-i-preserved
 loop-i-preserved c =

@@ -83,7 +83,8 @@ with-more-requires c =
 -- less is left of both
 less : (c : After-next-c) → let w = c.before.before.before.before in
     let a = w.args in
-    (a.a.layout.third - c.next-c.result.x.next.own) + (a.b.layout.third - c.next-c.result.y.next.own) < (a.a.layout.third - w.loop-x.x.own) + (a.b.layout.third - w.loop-x.y.own)
+    (a.a.layout.third - c.next-c.result.x.next.own) + (a.b.layout.third - c.next-c.result.y.next.own) < (a.a.layout.third - w.loop-x.x.own) +
+    (a.b.layout.third - w.loop-x.y.own)
 less c = let r = came c in omega (arith, r.onward, r.outward, r.some, r.ahead.own.order, r.beside.own.order)
 
 pub loop-x-smaller-then-n-lt-ENTRIES : goal.loop-x-smaller-then-n-lt-ENTRIES

@@ -63,7 +63,8 @@ loop-i-preserved-then-clock_before c =
       omega (arith, level y.before.before, s.size-n.ensures),
       search rules,
       omega (arith, c.keep-out.ensures.0, s.loop-i.invariant),
-      weaving-first no_removal_read s.loop-i.invariant.3 (level y.before.before).0 (level y.before.before).1 (sym i.clock_before.ensures ∙ i.if-clock_before.true)
+      weaving-first no_removal_read s.loop-i.invariant.3 (level y.before.before).0 (level y.before.before).1
+          (sym i.clock_before.ensures ∙ i.if-clock_before.true)
           (λ l q. c.keep-out.ensures.1 l q (z.requires.0 _ (in_list a.self.items a.self.len s.loop-i.i no_removal_read (level y.before.before).0))),
     )
 
@@ -78,9 +79,11 @@ loop-i-preserved-then-clock_before-2 c =
       search rules,
       omega (arith, level y.before.before.before.before, s.size-m.ensures),
       omega (arith, c.keep-out-then-clock_before-2.ensures.0, s.loop-i.invariant),
-      weaving-second no_removal_read s.loop-i.invariant.3 (level y.before.before.before.before).0 (level y.before.before.before.before).1 (sym i.clock_before.ensures ∙ i.if-clock_before.false)
+      weaving-second no_removal_read s.loop-i.invariant.3 (level y.before.before.before.before).0 (level y.before.before.before.before).1
+          (sym i.clock_before.ensures ∙ i.if-clock_before.false)
           (sym k.clock_before-else-clock_before.ensures ∙ k.if-clock_before-2.true)
-          (λ l q. c.keep-out-then-clock_before-2.ensures.1 l q (z.requires.1 _ (in_list a.other.items a.other.len s.loop-i.j no_removal_read (level y.before.before.before.before).1))),
+          (λ l q. c.keep-out-then-clock_before-2.ensures.1 l q
+          (z.requires.1 _ (in_list a.other.items a.other.len s.loop-i.j no_removal_read (level y.before.before.before.before).1))),
     )
 
 pub loop-i-preserved : goal.loop-i-preserved
@@ -96,7 +99,8 @@ loop-i-preserved c =
       omega (arith, level y.before.before.before.before.before.before.before, s.size-n.ensures),
       omega (arith, level y.before.before.before.before.before.before.before, s.size-m.ensures),
       omega (arith, c.add-out.ensures.0, s.loop-i.invariant),
-      weaving-both no_removal_read s.loop-i.invariant.3 (level y.before.before.before.before.before.before.before).0 (level y.before.before.before.before.before.before.before).1 (sym i.clock_before.ensures ∙ i.if-clock_before.false)
+      weaving-both no_removal_read s.loop-i.invariant.3 (level y.before.before.before.before.before.before.before).0
+          (level y.before.before.before.before.before.before.before).1 (sym i.clock_before.ensures ∙ i.if-clock_before.false)
           (sym k.clock_before-else-clock_before.ensures ∙ k.if-clock_before-2.false)
           (λ l q. c.add-out.ensures.1 l _ q refl (rw e refl) (u.union.ensures ∙ rw e refl)),
     )

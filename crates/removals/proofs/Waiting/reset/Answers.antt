@@ -70,8 +70,11 @@ loop-i-preserved-then-not-is_empty c =
 pub loop-i-preserved : goal.loop-i-preserved
 loop-i-preserved c =
     let k = c.before.before in
-    let s = k.before.before.before in
-    (search rules, reset-skip s.loop-i.invariant.1 (omega arith) k.cut-left.ensures (ap not (sym c.is_empty.ensures) ∙ (ap not c.if-not-is_empty.false)))
+    let s = k.before.before.before in (
+      search rules,
+      reset-skip s.loop-i.invariant.1 (omega arith) k.cut-left.ensures
+          (ap not (sym c.is_empty.ensures) ∙ (ap not c.if-not-is_empty.false)),
+    )
 
 pub returns : goal.returns
 unfolding reset_waiting fold sift

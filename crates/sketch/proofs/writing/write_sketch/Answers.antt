@@ -115,7 +115,8 @@ loop-kind-preserved c =
 pub shape_of-out : goal.shape_of-out
 shape_of-out c =
     let s = c.before in
-    (write-room _ _ _ [] _ s.loop-kind.invariant.1.1.wrote refl).1 ∙ (write-room _ _ _ [] _ (begun (goal.at.shape_of-out c).After-slice_known-2-1) refl).1
+    (write-room _ _ _ [] _ s.loop-kind.invariant.1.1.wrote refl).1
+    ∙ (write-room _ _ _ [] _ (begun (goal.at.shape_of-out c).After-slice_known-2-1) refl).1
 
 pub returns : goal.returns
 returns c =
