@@ -37,7 +37,18 @@ whole c =
     c.loop-i.invariant.2 ∙ ap (λ i. floored_to c.args.peers.now i) e
 
 pub returns-then-f-eq0 : goal.returns-then-f-eq0
-returns-then-f-eq0 c = ?
+returns-then-f-eq0 c =
+    let peers = c.args.peers.now in
+    let e = whole (goal.at.returns-then-f-eq0 c).After-loop-i in (
+      ap (λ (f : Floored). f.word) e ∙ floor-word peers,
+      ap (λ (f : Floored). f.clock) e
+          ∙ floor-stored peers c.args.floor.now (eq-eqb _ 0 (ap (λ (f : Floored). f.word) (sym e) ∙ c.if-f-eq0.true)),
+    )
 
 pub returns-else-f-eq0 : goal.returns-else-f-eq0
-returns-else-f-eq0 c = ?
+returns-else-f-eq0 c =
+    let peers = c.args.peers.now in
+    let e = whole (goal.at.returns-else-f-eq0 c).After-loop-i in (
+      ap (λ (f : Floored). f.word) e ∙ floor-word peers,
+      floor-kept peers c.args.floor.now (ne_eqb _ 0 (λ h. c.if-f-eq0.false (ap (λ (f : Floored). f.word) e ∙ h))),
+    )
