@@ -184,7 +184,8 @@ module _ (l : List Record) (z : scan_number 1 6 l ≡ 0) where
         (not-empty dot_of (those (under_key 2 key) l) s (those-holds (under_key 2 key) m
         (Rattle.scan.proofs.Eachs.both (is_kind 2 s) (eqb s.key key) (borrow.Author.Tests.eq-eqb s.kind 2 q.0)
         (borrow.Author.Tests.eq-eqb s.key key q.1))))
-        (rw (dots-in key dots values) at (both_left (covers (clock_in l) (dots_in (entry_in l key))) (every dotted (values_in (entry_in l key))) whole))
+        (rw (dots-in key dots values) at (both_left (covers (clock_in l) (dots_in (entry_in l key)))
+        (every dotted (values_in (entry_in l key))) whole))
         value-valid
 
     pub entry-fits : EntryFits (entry_in l key)

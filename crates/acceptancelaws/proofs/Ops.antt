@@ -28,7 +28,8 @@ use Rattle.scan.proofs.Rooms.{no_index, no_key, unordered, counter-from-one, out
 use Rattle.scan.proofs.Scanning.{scan_good}
 use Rattle.clockimage.specs.Image.{is_kind, dot_of, content_of, dots_from}
 use Rattle.clockimage.proofs.Dots.{dots-room}
-use Rattle.opimage.specs.OpImage.{op_longest, how_many, op_related, no_record, record_of, keys_in, removal_in, update_in, op_in, refused_op, judged_op, read_op}
+use Rattle.opimage.specs.OpImage.{op_longest, how_many, op_related, no_record, record_of, keys_in, removal_in, update_in, op_in, refused_op}
+use Rattle.opimage.specs.OpImage.{judged_op, read_op}
 use Rattle.acceptancelaws.proofs.Grouped.{fine, dots-lawful, keys-rise}
 use Rattle.acceptancelaws.proofs.Limited.{is-kind, few, few-dots}
 use Rattle.acceptancelaws.proofs.Waited.{under-as, listed-as, removal-as}

@@ -1,5 +1,6 @@
 // The controller's own clock, advanced by one dot: by value.
 #![tactic(auto)]
+
 ghost use Rattle.std.specs.Prelude.{◌≡◌, ◌≤◌};
 ghost use Rattle.clock.specs.Dots.{dots_of};
 ghost use Rattle.advance.specs.Advancing.{rising_dots, lent_number, advanced_of};

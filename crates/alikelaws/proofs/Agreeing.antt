@@ -124,7 +124,8 @@ module _ {h : List (List ℕ)} (images : OpImages h) (honest : Honest (ops_of h)
     len = λ r s p q. p ∙ ap (λ n. word_of (bare_answer n 0 0) []) numbers ∙ sym q;
     len-count = λ r s p q. p ∙ ap₂ (carried_of 0) (ap (λ n. bare_answer n 0 0) numbers)
         (same_count (map-within one).valid (map-within other).valid settings) ∙ sym q;
-    bay = λ n entry x y r s p q. told (answered (λ k b. record { first = k; second = 0; own = bay_number n; bytes = report_bytes b }) (reports n) p q);
+    bay = λ n entry x y r s p q. told (answered (λ k b. record { first = k; second = 0; own = bay_number n; bytes = report_bytes b })
+        (reports n) p q);
     bays = λ entry x y r s p q. told (answered (λ k b. record { first = k; second = 0; own = 0; bytes = b })
         (reports-same (read_map one).map (read_map other).map reports 0 bay_count) p q);
   }

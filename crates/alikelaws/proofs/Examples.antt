@@ -161,8 +161,10 @@ pub record GoodOps : Type 0 where
   pub two_good : GoodOp (without (one 2 1))
 
 pub goods : GoodOps
-unfolding pad sift first_in fold weave is_empty counter_in covers order_of cut_dots join_dots add_dot yields outdone remaining put_values cut_values cut_entry
-    listed remove_from remove_entries waits clock_before union_keys unite_all remove afresh put_entry entry_at put_entries update apply clock_at add_context
+unfolding pad sift first_in fold weave is_empty counter_in covers order_of cut_dots join_dots add_dot yields outdone remaining put_values cut_values
+    cut_entry
+    listed remove_from remove_entries waits clock_before union_keys unite_all remove afresh put_entry entry_at put_entries update apply clock_at
+    add_context
     update_under make_update over_dots over_entries over_values over_waiting over_keys over_number
 goods = record {
   ten-good = t;
@@ -190,9 +192,12 @@ goods = record {
 
 -- the end theorem of this file
 pub counterexamples : Counterexamples
-unfolding pad sift first_in fold weave is_empty counter_in covers order_of cut_dots join_dots add_dot yields outdone remaining put_values cut_values cut_entry
-    listed remove_from remove_entries waits clock_before union_keys unite_all remove afresh put_entry entry_at put_entries update apply clock_at add_context
-    update_under make_update over_dots over_entries over_values over_waiting over_keys over_number first_lacking ready_under ready first_of number_of word_of
+unfolding pad sift first_in fold weave is_empty counter_in covers order_of cut_dots join_dots add_dot yields outdone remaining put_values cut_values
+    cut_entry
+    listed remove_from remove_entries waits clock_before union_keys unite_all remove afresh put_entry entry_at put_entries update apply clock_at
+    add_context
+    update_under make_update over_dots over_entries over_values over_waiting over_keys over_number first_lacking ready_under ready first_of number_of
+    word_of
     carried_of
 counterexamples = record {
   e1 = record {

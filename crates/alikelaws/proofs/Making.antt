@@ -49,7 +49,8 @@ context m actor = record {
   dot = dot_after (seen_by m) actor;
 }
 
-made-is : (m : Map) (actor k : ℕ) (x : Content) {o : Op} → make_update m actor k x ≡ record { number = 0; op = o } → o ≡ update_op (context m actor) k x
+made-is : (m : Map) (actor k : ℕ) (x : Content) {o : Op} → make_update m actor k x ≡ record { number = 0; op = o } → o
+    ≡ update_op (context m actor) k x
 unfolding make_update update_under add_context
 made-is m actor k x {o} e =
     go (leb (2 ^ 64 - 1) (counter_in (seen_by m) actor)) (exceeding dot_limit (add_dot (seen_by m) (dot_after (seen_by m) actor))) e

@@ -159,7 +159,8 @@ module _ (first : Map) (ops : List Op) (lawful : ValidOps ops) (own : (u : Updat
         let c = add_dot (seen_by m) u.dot in
         let q = update-closed u h new in
         let clock : seen_by (update m u) ≡ c = ap (λ x. seen_by x) q ∙ dots-of {c = clock_of c} c refl in
-        let waiting : waiting_in (update m u) ≡ those (waits c) (waiting_in m) = ap (λ x. waiting_in x) q ∙ waiting-of (those (waits c) (waiting_in m)) in
+        let waiting : waiting_in (update m u) ≡ those (waits c) (waiting_in m) = ap (λ x. waiting_in x) q
+        ∙ waiting-of (those (waits c) (waiting_in m)) in
         let less : covers c (under_of r) ≡ false = ap (λ x. covers x (under_of r)) (sym clock) ∙ n in
         let w = g (decide (covers (seen_by m) (under_of r))
         (λ s. absurd (apart (sym (covers-trans c (seen_by m) (under_of r) (covers-add h.clock u.dot) s) ∙ less))) (λ s. s)) j t in

@@ -137,7 +137,8 @@ record BothRuns : Type 0 where
   apart : applied no_map at-A ≡ applied no_map at-B → ⊥
 
 runs : BothRuns
-unfolding pad sift first_in fold weave is_empty counter_in covers order_of cut_dots join_dots add_dot yields outdone remaining put_values cut_values cut_entry
+unfolding pad sift first_in fold weave is_empty counter_in covers order_of cut_dots join_dots add_dot yields outdone remaining put_values cut_values
+    cut_entry
     listed remove_from remove_entries waits clock_before union_keys unite_all remove afresh put_entry entry_at put_entries update apply
     over_dots over_entries over_values over_waiting over_keys over_number first_lacking ready_under ready
 runs = record {

@@ -162,7 +162,8 @@ module _ (h : List Op) (positive : (u : Update) → UpdateIn h u → 0 < u.dot.c
           ∙ ap or_new_entry (run-closed (r ∷ []) (clocked-one k) (whole-at n))
           ∙ ap (λ x. or_new_entry (cut_entry (sup_of (r ∷ []) x) (entry_at n l))) (EntriesValid.at_key n l)
 
-      waits_one : {Such : Removal → Type 0} → (OneOf (waiting_in (remove m r)) Such → OneOf (waiting_in m) Such ⊎ OneOf (r ∷ []) (UncoveredSuch m Such))
+      waits_one : {Such : Removal → Type 0} → (OneOf (waiting_in (remove m r)) Such → OneOf (waiting_in m) Such
+          ⊎ OneOf (r ∷ []) (UncoveredSuch m Such))
           → (OneOf (waiting_in m) Such ⊎ OneOf (r ∷ []) (UncoveredSuch m Such) → OneOf (waiting_in (remove m r)) Such)
           → Exactly (OneOf (waiting_in m) Such) (NotCovered R (seen_by m) Such)
           → Exactly (OneOf (waiting_in (remove m r)) Such) (NotCovered (AddRemoval R r) (seen_by m) Such)

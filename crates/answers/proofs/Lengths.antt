@@ -1,6 +1,6 @@
 -- How long the image of a map is.
 use mathlib.Core.Path.{◌≡◌, refl, ap, ◌∙◌}
-use mathlib.Core.List.{List, map}
+use mathlib.Core.List.{List}
 use Prim.Native.Nat.{◌+◌, ◌*◌, ◌≤◌}
 use native.Mathlib.Omega.{arith}
 use lib.ListN.{length, length-append, length-map}
@@ -17,7 +17,8 @@ use Rattle.map.specs.Valid.{Valid}
 use Rattle.records.proofs.RoundTrips.{length-bytes}
 use Rattle.clockimage.specs.Image.{dot_record}
 use Rattle.mapimage.specs.Sorted.{in_order}
-use Rattle.mapimage.specs.MapImage.{flat_from, value_records, entry_records, waiting_dots, key_numbers, number_record, waiting_keys, map_records, map_image}
+use Rattle.mapimage.specs.MapImage.{flat_from, value_records, entry_records, waiting_dots, key_numbers, number_record, waiting_keys, map_records}
+use Rattle.mapimage.specs.MapImage.{map_image}
 use Rattle.listlaws.specs.Fold.{total_of}
 use Rattle.answers.specs.Sizes.{value_size, entry_size, removal_size, map_size}
 use Rattle.answers.proofs.Totals.{length-flat, total-sum, total-same}

@@ -1,5 +1,6 @@
 // What the calls of castribba.h share: refusing, and writing an image where it fits.
 #![tactic(auto)]
+
 ghost use Rattle.std.specs.Prelude.{◌≡◌, ◌+◌, ◌*◌, ◌^◌, ◌≤◌, length};
 ghost use Rattle.register.specs.Values.{values_of};
 ghost use Rattle.limits.specs.Limits.{waiting_limit};

@@ -101,8 +101,10 @@ valid-before =
     valid-none
 
 pub crossed : Crossed
-unfolding pad sift first_in fold weave is_empty counter_in covers order_of cut_dots join_dots add_dot yields outdone remaining put_values cut_values cut_entry
-    listed remove_from remove_entries waits clock_before union_keys unite_all remove afresh put_entry entry_at put_entries update over_dots over_entries
+unfolding pad sift first_in fold weave is_empty counter_in covers order_of cut_dots join_dots add_dot yields outdone remaining put_values cut_values
+    cut_entry
+    listed remove_from remove_entries waits clock_before union_keys unite_all remove afresh put_entry entry_at put_entries update over_dots
+    over_entries
     over_values over_waiting over_keys over_number
 crossed = record {
   valid = record { valid = valid-before; limits = refl };

@@ -212,7 +212,8 @@ update-trades {s} {u} {r} h i j n =
     m = (read_map s).map
 
 -- two unseen updates by different actors on different keys, where nothing is waiting
-pub two-updates : {s u v : List ℕ} → MapImage s → UpdateImage u → UpdateImage v → Independent (read_map s).map (update_of u) (update_of v) → Trade s u v
+pub two-updates : {s u v : List ℕ} → MapImage s → UpdateImage u → UpdateImage v → Independent (read_map s).map (update_of u) (update_of v)
+    → Trade s u v
 two-updates {s} {u} {v} h i j a =
     neighbours (start h) i.image j.image
     (twice i j ∙ updates-trade (map-within s).valid ((op-within u).update i.updates).valid ((op-within v).update j.updates).valid a

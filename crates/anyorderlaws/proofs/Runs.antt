@@ -76,7 +76,10 @@ module _ {m : Map} {ws : List Removal} (h : Valid m) (f : Removals ws) where
     joined = rw waiting-end (united-exactly s joining h.waiting (ready-those (seen_by m) f))
 
   joins : (w : Removal) → w ∈ joining → (w ∈ ws) × (covers (seen_by m) (under_of w) ≡ false)
-  joins w i = let r = those-means (waits (seen_by m)) ws i in (r.0, not-true (covers (seen_by m) (under_of w)) (sym (waits-covers (seen_by m) w) ∙ r.1))
+  joins w i = let r = those-means (waits (seen_by m)) ws i in (
+    r.0,
+    not-true (covers (seen_by m) (under_of w)) (sym (waits-covers (seen_by m) w) ∙ r.1),
+  )
 
   joining-holds : (w : Removal) → w ∈ ws → covers (seen_by m) (under_of w) ≡ false → w ∈ joining
   joining-holds w i t = those-holds (waits (seen_by m)) i (waits-covers (seen_by m) w ∙ ap not t)

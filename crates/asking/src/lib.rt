@@ -1,6 +1,7 @@
 // What is asked of a map without changing it: the validations, making an operation, reading a key, the count.
 // The Rust's methods of a map are functions of a map here: an `impl` stands in its type's crate.
 #![tactic(auto)]
+
 ghost use Rattle.std.specs.Prelude.{◌≡◌, true, false, [], ◌∷◌, ◌≤◌, ◌<◌, ◌+◌, eqb, ltb};
 ghost use Rattle.asking.specs.declared.CmRDTValidation.TheVariants.{Fits, Missing};
 ghost use Rattle.clock.specs.Dots.{dots_of};

@@ -1,5 +1,6 @@
 // The three calls that change a map, on maps by value: the form that is read beside the Rust.
 #![tactic(auto)]
+
 ghost use Rattle.promises.specs.Promises.{ApplyPromise, MergePromise, ResetRemovePromise};
 
 pub mod counting;

@@ -1,5 +1,6 @@
 // The calls of castribba.h, on images and numbers.
 #![tactic(auto)]
+
 ghost use Rattle.promises.specs.Promises.{ApplyPromise, ApplyDeletedPromise, MergePromise, ResetRemovePromise, ResetRemoveDeletedPromise};
 ghost use Rattle.promises.specs.Promises.{UpdatePromise, RmGetPromise, RmReadCtxPromise, GetPromise, LenPromise, LenCountPromise, ValidateOpPromise};
 ghost use Rattle.promises.specs.Promises.{ValidateOpStartPromise, ValidateOpEndPromise, ValidateMergePromise, ValidateMergeActorPromise};

@@ -1,5 +1,6 @@
 // A list of operations that another maker proposes: whether it brings our map to theirs, and which operation is refused.
 #![tactic(auto)]
+
 ghost use Rattle.std.specs.Prelude.{◌≡◌, ◌*◌, ◌^◌, ◌≤◌, length, take};
 ghost use Rattle.mapimage.specs.MapImage.{map_longest};
 ghost use Rattle.promises.specs.CatchUp.{outcome_of, same_bytes};

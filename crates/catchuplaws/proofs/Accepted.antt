@@ -24,7 +24,8 @@ use Rattle.answers.proofs.Answers.{number-done, bare}
 use Rattle.acceptancelaws.proofs.Maps.{map-within}
 use Rattle.readbacklaws.proofs.Back.{zeros, first-zero}
 use Rattle.promises.specs.Calls.{apply_answer}
-use Rattle.promises.specs.CatchUp.{operation_limit, operations_of, apply_number, Outcome, outcome_from, outcome_of, same_bytes, many_number, elsewhere_number}
+use Rattle.promises.specs.CatchUp.{operation_limit, operations_of, apply_number, Outcome, outcome_from, outcome_of, same_bytes, many_number}
+use Rattle.promises.specs.CatchUp.{elsewhere_number}
 use Rattle.promises.specs.CatchUp.{catch_up_answer}
 use Rattle.promises.proofs.Cuts.{cut-nothing}
 use Rattle.promises.proofs.Outcomes.{outcome-on, outcome-stop, outcome-end, same_bytes_lem, bytes_same}

@@ -1,5 +1,6 @@
 // The three calls that change a map, on images where they lie.
 #![tactic(auto)]
+
 ghost use Rattle.std.specs.Prelude.{◌≡◌, ◌≤◌, length};
 ghost use Rattle.clock.specs.Dots.{dots_of};
 ghost use Rattle.clock.specs.Lawful.{Lawful};

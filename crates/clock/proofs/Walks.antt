@@ -41,7 +41,8 @@ module _ {xs : List Dot} {n : ℕ} {ys : List Dot} {m : ℕ} where
     unfolding counter_in
     walk-found h e = beside-found no_dot g k h e
 
-    pub walk-missed : (i < length (take n xs) → (get_or ys j no_dot).actor < (get_or xs i no_dot).actor) → counter_in (take n xs) (get_or ys j no_dot).actor ≡ 0
+    pub walk-missed : (i < length (take n xs) → (get_or ys j no_dot).actor < (get_or xs i no_dot).actor)
+        → counter_in (take n xs) (get_or ys j no_dot).actor ≡ 0
     unfolding counter_in
     walk-missed f = go (leb (length (take n xs)) i) refl
       where

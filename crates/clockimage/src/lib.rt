@@ -1,5 +1,6 @@
 // Images of clocks: read and written.
 #![tactic(auto)]
+
 ghost use Rattle.std.specs.Prelude.{◌≡◌, List, [], ◌∷◌, ◌++◌, true, cond, ◌+◌, ◌*◌, ◌≤◌, ◌<◌, length};
 ghost use Rattle.clock.specs.declared.Dot.{Dot};
 ghost use Rattle.limits.specs.Limits.{dot_limit};

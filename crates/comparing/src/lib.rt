@@ -1,5 +1,6 @@
 // How the clocks of two runs of dots stand to each other, where they lie: the comparison that ships.
 #![tactic(auto)]
+
 ghost use Rattle.std.specs.Prelude.{◌≡◌};
 ghost use Rattle.clock.specs.Dots.{order_of};
 ghost use Rattle.clock.specs.Lawful.{Lawful};

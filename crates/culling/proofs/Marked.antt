@@ -75,7 +75,8 @@ module _ (marks s : List ℕ) (room : length s / 16 ≤ length marks) where
     marked-set m = beside-set marks (records_of s) i m ∙ ap (λ r. set (marked_of marks s) i (record { mark = m; item = r })) (record-at s i h)
 
     -- what a loop finds there
-    pub found_at : (from : ℕ) (t : Record → Bool) {a b : Bool} {r : Record} → a ≡ is_left from (get_or marks i 0) → r ≡ record_from s (i * 16) → b ≡ t r
+    pub found_at : (from : ℕ) (t : Record → Bool) {a b : Bool} {r : Record} → a ≡ is_left from (get_or marks i 0) → r ≡ record_from s (i * 16) → b
+        ≡ t r
         → (is_left_at from (get_or (marked_of marks s) i no_marked) && t (get_or (marked_of marks s) i no_marked).item) ≡ (a && b)
     found_at from t e f g =
         ap (λ z. is_left_at from z && t z.item) marked-at ∙ sym (ap₂ (λ x y. x && y) e (g ∙ ap t f))

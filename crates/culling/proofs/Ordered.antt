@@ -46,7 +46,8 @@ module _ {rs : List Record} where
 
   module _ {i : ℕ} {xs : List MarkedRecord} (g : Judging rs i xs) (h : i < length xs) (k : i < length rs) (z : MarkedRecord)
       (w : z.item ≡ get_or rs i no_record) where
-    judging-on : ((seen : List Record) → tested 2 good_alone seen (untouched (get_or rs i no_record)) ≡ plain_fate z) → Judging rs (i + 1) (set xs i z)
+    judging-on : ((seen : List Record) → tested 2 good_alone seen (untouched (get_or rs i no_record)) ≡ plain_fate z)
+        → Judging rs (i + 1) (set xs i z)
     judging-on e = record {
       passed = rw (add-one i)
           (ap plain_fates (take-suc-set xs i z h) ∙ map-append plain_fate (take i xs) (z ∷ [])
@@ -73,20 +74,20 @@ module _ {rs : List Record} where
 abbrev good_fate : Fate → Bool
 good_fate f = not f.stays || record_ok 1 6 f.item
 
-good-after : (two l : List Record) → every good_fate (taken_after 2 good_alone two (map untouched l)) ≡ true
+good-after : (l two : List Record) → every good_fate (taken_after 2 good_alone two (map untouched l)) ≡ true
 unfolding taken_after every
-good-after two [] = refl
-good-after two (r ∷ l) =
+good-after [] two = refl
+good-after (r ∷ l) two =
     decide (record_ok 1 6 r)
-    (λ a. rw (a, a) (good-after _ l))
-    (λ a. rw a (good-after _ l))
+    (λ a. rw (a, a) (good-after l _))
+    (λ a. rw a (good-after l _))
 
 pub good-at : (xs : List MarkedRecord) (l : List Record) → plain_fates xs ≡ after_two l → (i : ℕ) → i < length xs → (get_or xs i no_marked).mark ≡ 0
     → record_ok 1 6 (get_or xs i no_marked).item ≡ true
 unfolding step_two
 good-at xs l e i h m =
     let here = rw (take-length xs) at (in_list xs (length xs) i no_marked (rw (take-length xs) h)) in
-    let t = every-at good_fate (plain_fates xs) (plain_fate (get_or xs i no_marked)) (ap (every good_fate) e ∙ good-after [] l)
+    let t = every-at good_fate (plain_fates xs) (plain_fate (get_or xs i no_marked)) (ap (every good_fate) e ∙ good-after l [])
     (Memᴰ.map plain_fate here) in
     rw (eq-eqb _ 0 m) at t
 

@@ -30,7 +30,8 @@ module _ {n : ℕ} {test : List Record → Record → Bool} {xs₀ : List Marked
     pub pass-here : get_or xs i no_marked ≡ get_or xs₀ i no_marked
     pass-here =
         let e : i + 0 ≡ i = omega arith in
-        ap (λ k. get_or xs k no_marked) (sym e) ∙ sym (get_or-drop i xs 0 no_marked) ∙ ap (λ l. get_or l 0 no_marked) g.ahead ∙ get_or-drop i xs₀ 0 no_marked
+        ap (λ k. get_or xs k no_marked) (sym e) ∙ sym (get_or-drop i xs 0 no_marked) ∙ ap (λ l. get_or l 0 no_marked) g.ahead
+        ∙ get_or-drop i xs₀ 0 no_marked
         ∙ ap (λ k. get_or xs₀ k no_marked) e
 
     more : (f : Fate) → tested n test (left_items 0 (take i xs)) (plain_fate (get_or xs i no_marked)) ≡ f

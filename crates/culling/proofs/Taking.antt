@@ -87,7 +87,7 @@ module _ (n : ℕ) (test : List Record → Record → Bool) where
   steps-after m h seen (f ∷ l) e =
       both (ltb (tested n test seen f).step m) _
       (go (f.stays && not (test seen f.item)) (both_left (ltb f.step m) _ e))
-      (steps-after m h _ l (both_right (ltb f.step m) _ e))
+      (steps-after m h (seen ++ staying (tested n test seen f ∷ [])) l (both_right (ltb f.step m) _ e))
     where
       go : (b : Bool) → ltb f.step m ≡ true → ltb (cond b (gone_by n f) f).step m ≡ true
       go true k = lt-ltb n m h

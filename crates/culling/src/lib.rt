@@ -1,5 +1,6 @@
 // Steps 2 to 4 of a salvage: a mark for each record of a damaged image, which says whether it stays, or the step at which it goes.
 #![tactic(auto)]
+
 ghost use Rattle.std.specs.Prelude.{◌≡◌, not, cond, ◌||◌, true, false, ◌*◌, ◌/◌, ◌≤◌, length, take};
 ghost use Rattle.listlaws.specs.First.{some};
 ghost use Rattle.records.specs.Kinds.{record_ok, before};

@@ -44,7 +44,8 @@ length_most n =
 pub number-most : (w : List ℕ) → end_number w ≤ 3
 unfolding end_number
 number-most w =
-    first-most (length_number (num_at 2 length_place w)) (scanned_at w) (cond (related_at w) 0 3) (length_most (num_at 2 length_place w)) (omega arith)
+    first-most (length_number (num_at 2 length_place w)) (scanned_at w) (cond (related_at w) 0 3) (length_most (num_at 2 length_place w))
+    (omega arith)
     (decide (related_at w) (λ t. rw t (omega arith)) (λ f. rw f (omega arith)))
 
 -- a number of the image ends the reader

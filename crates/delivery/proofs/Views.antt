@@ -10,7 +10,8 @@ use Rattle.register.specs.Values.{no_value}
 use Rattle.removals.specs.Model.{under_of}
 use Rattle.entries.specs.Model.{dots_in, values_in}
 use Rattle.mapimage.specs.MapImage.{key_number, key_numbers}
-use Rattle.memory.specs.Memory.{dot_room, own_place, values_place, value_place, keys_place, key_place, removal_place, count_at, dot_at, dots_at, value_at}
+use Rattle.memory.specs.Memory.{dot_room, own_place, values_place, value_place, keys_place, key_place, removal_place, count_at, dot_at, dots_at}
+use Rattle.memory.specs.Memory.{value_at}
 use Rattle.memory.specs.Memory.{values_at, entry_held_at, entry_count, entries_at, listed_at, removal_at, waiting_count_at, waiting_at}
 use Rattle.records.specs.Bytes.{num_at}
 use Rattle.memory.proofs.Views.{length-of}
@@ -73,7 +74,8 @@ module _ (w : List ℕ) where
     pub numbers-listed : key_numbers k (removal_at w k) ≡ map (key_number k) (listed_at w k)
     numbers-listed = ap (map (key_number k)) (take-pad 0 key_limit (listed_at w k))
 
-    pub listed-left : (i : ℕ) → i < count_at key_limit (keys_place k) w → drop i (listed_at w k) ≡ num_at 2 (key_place k i) w ∷ drop (i + 1) (listed_at w k)
+    pub listed-left : (i : ℕ) → i < count_at key_limit (keys_place k) w → drop i (listed_at w k)
+        ≡ num_at 2 (key_place k i) w ∷ drop (i + 1) (listed_at w k)
     unfolding listed_at
     listed-left i h = left-on _ (count_at key_limit (keys_place k) w) i h
 

@@ -1,5 +1,6 @@
 // What a reader of pieces is answered with at the end, from its lent memory, whatever stands in it.
 #![tactic(auto)]
+
 ghost use Rattle.std.specs.Prelude.{◌≡◌, true, ◌+◌, ◌*◌, ◌^◌, ◌≤◌, ◌<◌, min, ltb, length};
 ghost use Rattle.limits.specs.Limits.{dot_limit, entry_limit, waiting_limit};
 ghost use Rattle.clock.specs.Dots.{clock_of, counter_in, covers};
@@ -13,7 +14,8 @@ ghost use Rattle.mapimage.specs.MapImage.{flat_from, entry_records, waiting_dots
 ghost use Rattle.maprecords.specs.Related.{dotted, entry_whole, ascend};
 ghost use Rattle.answers.specs.Sizes.{register_most, entries_most, value_size, entry_size};
 ghost use Rattle.listlaws.specs.Fold.{total_of};
-ghost use Rattle.memory.specs.Memory.{reader_room, dot_room, clock_room, value_room, clock_place, dot_at, dots_at, value_at, values_at, entry_held_at};
+ghost use Rattle.memory.specs.Memory.{reader_room, dot_room, clock_room, value_room, clock_place, dot_at, dots_at, value_at, values_at};
+ghost use Rattle.memory.specs.Memory.{entry_held_at};
 ghost use Rattle.memory.specs.Memory.{entries_at, removal_at, waiting_at};
 ghost use Rattle.delivery.specs.Delivery.{related_at, end_number, image_at, Ended};
 

@@ -49,7 +49,8 @@ use Rattle.readiness.specs.Ready.{ready_number}
 use Rattle.differences.specs.Differences.{differences_answer}
 use Rattle.promises.specs.Ready.{readiness_of, ready_answer}
 use Rattle.promises.specs.Calls.{apply_answer, reset_answer}
-use Rattle.promises.specs.Calls.{given, map_answer, op_answer, bare_answer, get_answer, len_answer, order_answer, op_validation, spent_answer, spent_of}
+use Rattle.promises.specs.Calls.{given, map_answer, op_answer, bare_answer, get_answer, len_answer, order_answer, op_validation, spent_answer}
+use Rattle.promises.specs.Calls.{spent_of}
 use Rattle.readbacklaws.proofs.Back.{zeros}
 use Rattle.readbacklaws.proofs.Goods.{good_apply, good-merge, good-reset, good-read, good-seen, good-at, good-removal, good-update}
 use Rattle.demandlaws.specs.Rows.{Row, row, decided, has_not}
@@ -214,7 +215,8 @@ differing-writes map other entry exit word l w =
 apply-number : (map op out : List ℕ) → number_of (apply_answer map op) out ≡ decided (apply_rows map op out)
 unfolding every
 apply-number map op out =
-    number-rows (apply_answer map op) out (map_image (apply_result map op)) (map_rows map) (op_rows op) (limit_rows (apply_result map op)) (map-number map)
+    number-rows (apply_answer map op) out (map_image (apply_result map op)) (map_rows map) (op_rows op) (limit_rows (apply_result map op))
+    (map-number map)
     (op-number op) (limit-number (apply_result map op)) refl refl refl (λ z. ap map_image (judged-map (apply_result map op) z))
 
 reset-number-of : (map clock out : List ℕ) → number_of (reset_answer map clock) out ≡ decided (reset_rows map clock out)
@@ -233,7 +235,8 @@ take-tells reader {word} w =
     (λ f. let e : word ≡ 13 * 2 ^ 32 = w ∙ rw f in
     record { number = by-table (closed_rows reader) (rw f (omega (arith, e))); bare = omega (arith, e) })
 
-take-stays : (reader piece left : List ℕ) {word : ℕ} → word ≡ take_word reader → left ≡ take_in reader piece → (number_in word ≡ 0 → ⊥) → left ≡ reader
+take-stays : (reader piece left : List ℕ) {word : ℕ} → word ≡ take_word reader → left ≡ take_in reader piece → (number_in word ≡ 0 → ⊥) → left
+    ≡ reader
 take-stays reader piece left {word} w e z =
     decide (is_open reader) (λ t. let o : word ≡ 0 = w ∙ rw t in absurd (z (omega (arith, o)))) (λ f. e ∙ rw f)
 
@@ -265,7 +268,8 @@ held_number reader =
 end-number : (reader entry : List ℕ) → number_of (end_answer reader) entry ≡ decided (end_rows reader entry)
 unfolding every decided
 end-number reader entry =
-    number-rows (end_answer reader) entry (image_at reader) (closed_rows reader) (held_rows reader) [] (closed-number reader) (held_number reader) refl
+    number-rows (end_answer reader) entry (image_at reader) (closed_rows reader) (held_rows reader) [] (closed-number reader)
+    (held_number reader) refl
     refl refl refl (λ z. refl)
 
 ended-writes : (reader entry left exit : List ℕ) (word : ℕ) → length entry < 2 ^ 32 → Ended reader entry left exit word
@@ -292,7 +296,8 @@ demand-one = record {
   merge = λ map other entry exit word b c w. judged-writes _ _ _ (map_rows map) (map_rows other) (limit_rows (merge_result map other))
       (map-number map) (map-number other) (limit-number (merge_result map other)) refl refl refl (λ z. good-merge (good map b) (good other c) z)
       entry exit word w;
-  reset-remove = λ map clock entry exit word b w. judged-writes _ _ _ (map_rows map) (clock_rows clock) (row 8 (over_keys (reset_result map clock)) ∷ [])
+  reset-remove = λ map clock entry exit word b w. judged-writes _ _ _ (map_rows map) (clock_rows clock)
+      (row 8 (over_keys (reset_result map clock)) ∷ [])
       (map-number map) (clock-number clock) (reset-number (map-within map) _) refl refl refl (λ z. good-reset (good map b) _ z) entry exit word w;
   update = λ map actor key value origin entry exit word b p q r s w. made-writes _ _ (map_rows map)
       (made_rows (seen_by (read_map map).map) actor) (map-number map)

@@ -85,7 +85,8 @@ module _ (a : Answer) (rows : List Row) (n : number_of a [] ≡ decided rows) (z
 
 -- a carried number: its call's own number stands in no image's rows
 module _ (a : Answer) (with n : ℕ) (first second own : List Row) (p : a.first ≡ decided first) (q : a.second ≡ decided second)
-    (s : a.own ≡ decided own) (h : has_not 0 first ≡ true) (i : has_not 0 second ≡ true) (j : has_not with first ≡ true) (k : has_not with second ≡ true)
+    (s : a.own ≡ decided own) (h : has_not 0 first ≡ true) (i : has_not 0 second ≡ true) (j : has_not with first ≡ true)
+    (k : has_not with second ≡ true)
     (z : eqb with 0 ≡ false) where
   carried-flag : (x y : Bool) → eqb (decided first) 0 ≡ x → eqb (decided second) 0 ≡ y
       → (eqb (cond x (cond y 0 (decided second)) (decided first)) 0 && eqb (decided own) with)

@@ -84,7 +84,8 @@ abbrev pub apply_rows : List ℕ → List ℕ → List ℕ → List Row
 apply_rows map op out = map_rows map ++ (op_rows op ++ (limit_rows (apply_result map op) ++ short_rows (map_image (apply_result map op)) out))
 
 abbrev pub merge_rows : List ℕ → List ℕ → List ℕ → List Row
-merge_rows map other out = map_rows map ++ (map_rows other ++ (limit_rows (merge_result map other) ++ short_rows (map_image (merge_result map other)) out))
+merge_rows map other out = map_rows map ++ (map_rows other
+    ++ (limit_rows (merge_result map other) ++ short_rows (map_image (merge_result map other)) out))
 
 -- a reset breaks no limit but that on the keys of one
 abbrev pub reset_rows : List ℕ → List ℕ → List ℕ → List Row

@@ -44,7 +44,8 @@ module _ {l m : List Entry} (a : Ascending by_key l) (b : Ascending by_key m) wh
   unfolding differences_of classed
   told-says t i =
       let r = those-means differs (weave by_key only_first only_second in_both l m) i in
-      weave-every by_key only_first only_second in_both (by-strict (λ e. e.key)) (by-steady (λ e. e.key)) (λ z. differs z ≡ true → SaysClass l m z) a b
+      weave-every by_key only_first only_second in_both (by-strict (λ e. e.key)) (by-steady (λ e. e.key))
+      (λ z. differs z ≡ true → SaysClass l m z) a b
       (λ x j alone n. inl (refl, (x, j, refl), λ y k e. alone y k (level_by (λ e. e.key) x y (sym e))))
       (λ y j alone n. inr (inl (refl, (λ x k e. alone x k (level_by (λ e. e.key) x y e)), (y, j, refl))))
       (λ x y j k e n. let s = differs-both x y n in inr (inr (

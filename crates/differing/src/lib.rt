@@ -1,5 +1,6 @@
 // What differs between two maps, told key by key from their images where they lie.
 #![tactic(auto)]
+
 pub mod pairing;
 pub mod telling;
 

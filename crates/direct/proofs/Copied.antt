@@ -41,7 +41,8 @@ unfolding flat_from in_order fold
 none-waits = refl
 
 only : (m : Map) (key : ℕ) → map_records (read_key m key) ≡ dot_records 1 0 0
-    (seen_by m) ++ (flat_from (entry_records 2) 0 (held_at key (entries_in m)) ++ (flat_from (entry_records 3) 0 (held_at key (entries_in m)) ++ flat_from
+    (seen_by m) ++ (flat_from (entry_records 2) 0 (held_at key (entries_in m))
+    ++ (flat_from (entry_records 3) 0 (held_at key (entries_in m)) ++ flat_from
     (entry_records 4) 0 (held_at key (entries_in m))))
 unfolding read_key
 only m key =

@@ -54,7 +54,8 @@ draft_records c l w = dot_records 1 0 0 c ++ (sections_of l ++ waiting_records w
 module _ (c : List Dot) (l : List Entry) (w : List Removal) where
   pub draft-records : map_records (map_as c l w) ≡ draft_records c l w
   draft-records =
-      let x = append_assoc (flat_from (entry_records 2) 0 l) (flat_from (entry_records 3) 0 l ++ flat_from (entry_records 4) 0 l) (waiting_records w) in
+      let x = append_assoc (flat_from (entry_records 2) 0 l) (flat_from (entry_records 3) 0 l ++ flat_from (entry_records 4) 0 l)
+      (waiting_records w) in
       let y = append_assoc (flat_from (entry_records 3) 0 l) (flat_from (entry_records 4) 0 l) (waiting_records w) in
       rw (seen_of c l w, entries-of l, waiting-of w) (ap (λ k. dot_records 1 0 0 c ++ k) (sym (x ∙ ap (λ k. flat_from (entry_records 2) 0 l ++ k) y)))
 

@@ -53,7 +53,8 @@ use Rattle.scan.proofs.Eachs.{decide}
 use Rattle.mapimage.specs.MapImage.{map_longest}
 use Rattle.maprecords.specs.Related.{refused_map, judged_map, read_map}
 use Rattle.opimage.specs.declared.ReadOp.{ReadOp}
-use Rattle.opimage.specs.OpImage.{op_longest, key_record, removal_head, removal_records, update_records, op_records, op_related, op_in, refused_op, judged_op}
+use Rattle.opimage.specs.OpImage.{op_longest, key_record, removal_head, removal_records, update_records, op_records, op_related, op_in, refused_op}
+use Rattle.opimage.specs.OpImage.{judged_op}
 use Rattle.opimage.specs.OpImage.{read_op}
 use Rattle.clockimage.proofs.RoundTrip.{accepted}
 use Rattle.acceptancelaws.proofs.Ops.{op-within}
@@ -214,7 +215,8 @@ module _ {s : List ℕ} {m : Map} {a : Laid} (h : LaidOut s m a) where
       → Drafted s s ours (record { from = 0; to = 0 }) clock sk plan (cut_dots by (seen_by m)) (sift stays (cut_entry by) (entries_in m))
       (reset_waiting by (waiting_in m))
   reset-draft by k d p =
-      draft (cut_dots by (seen_by m)) (sift stays (cut_entry by) (entries_in m)) (reset_waiting by (waiting_in m)) (reset-laid m by) (valid-reset valid by)
+      draft (cut_dots by (seen_by m)) (sift stays (cut_entry by) (entries_in m)) (reset_waiting by (waiting_in m)) (reset-laid m by)
+      (valid-reset valid by)
       (each-reset small-rules valid small by)
       (omega (arith, cut-length by (seen_by m), fit)) (k ∙ ap (λ x. clock_of (cut_dots by (dots_of x))) h.clock) d (waiting_in m) [] p
       (keyed-image h.lies) (keyed-none s 0 (omega arith))

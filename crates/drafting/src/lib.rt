@@ -1,5 +1,6 @@
 // A result before it is written: judged, then written.
 #![tactic(auto)]
+
 ghost use Rattle.std.specs.Prelude.{List};
 ghost use Rattle.clock.specs.declared.Dot.{Dot};
 ghost use Rattle.entries.specs.declared.Entry.{Entry};

@@ -39,7 +39,8 @@ pub fn weigh(
     requires { (w : List Removal) × Planned s.now t.now ours theirs plan w }
     ensures { ((l : List Entry) (w : List Removal) → count ≡ length l → wide ≡ some overfull l
         → Planned s.now t.now ours theirs plan w
-        → (result.number ≡ limit_number l w) × (result.number ≡ 0 → result.records ≡ length (waiting_records w))) × (result.records ≤ 2 * (waiting_limit * key_limit)) }
+        → (result.number ≡ limit_number l w) × (result.number ≡ 0 → result.records ≡ length (waiting_records w)))
+        × (result.records ≤ 2 * (waiting_limit * key_limit)) }
 {
     if ENTRIES < count {
         return refused(5);

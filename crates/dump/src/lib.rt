@@ -1,64 +1,61 @@
 // A map image from a file, printed a line a record: kind, index, actor, key and number; or only `refused N`.
 #![tactic(auto)]
-use libc::{STDERR_FILENO, STDOUT_FILENO};
+
 use mapimage::MAP_LONGEST;
 use records::Record;
+use std::io;
+use std::io::Read;
 
 // Room for one byte more than the longest image.
 const ROOM: usize = MAP_LONGEST + 1;
 
-fn print_field(x: u64, after: &[u8]) {
-    io::print_decimal(STDOUT_FILENO, x);
-    io::write_all(STDOUT_FILENO, after);
+fn print_field(rt: &impl Print, x: u64, after: &[u8]) -> io::Result<()> {
+    rt.print(x)?;
+    rt.write_all(after)
 }
 
-fn print_record(r: Record) {
-    print_field(r.kind as u64, b" ");
-    print_field(r.index as u64, b" ");
-    print_field(r.actor as u64, b" ");
-    print_field(r.key as u64, b" ");
-    print_field(r.number, b"\n");
+fn print_record(rt: &impl Print, r: Record) -> io::Result<()> {
+    print_field(rt, r.kind as u64, b" ")?;
+    print_field(rt, r.index as u64, b" ")?;
+    print_field(rt, r.actor as u64, b" ")?;
+    print_field(rt, r.key as u64, b" ")?;
+    print_field(rt, r.number, b"\n")
 }
 
-fn print_all(map: &[u8]) {
-    let n = map.len() / 16;
-    let mut i = 0;
-    while i < n {
-        print_record(records::read_record(map, i * 16));
-        i += 1;
+fn print_all(rt: &impl Print, map: &[u8]) -> io::Result<()> {
+    for i in 0..map.len() / 16 {
+        print_record(rt, records::read_record(map, i * 16))?;
     }
+    Ok(())
 }
 
-fn show(map: &[u8]) {
+fn show(rt: &impl Print, map: &[u8]) -> io::Result<()> {
     let laid = layout::lay_out(map);
     if laid.number != 0 {
-        io::write_all(STDOUT_FILENO, b"refused ");
-        print_field(laid.number as u64, b"\n");
-        return;
+        rt.write_all(b"refused ")?;
+        return print_field(rt, laid.number as u64, b"\n");
     }
-    print_all(map);
+    print_all(rt, map)
 }
 
 // Whether a file has ended: a read that fails, as one that brings more, says that it has not.
-fn ended(file: i32) -> bool {
+fn ended(file: &mut impl Read) -> bool {
     let mut more = [0u8; 1];
-    let got = libc::read(file, &mut more);
-    got == 0
+    match file.read(&mut more) {
+        Ok(got) => got == 0,
+        Err(_) => false,
+    }
 }
 
 // One byte more than the longest image is read, so that a longer file is seen to be longer. A file whose end was not
 // reached is no image: nothing is printed of it, and standard error says so.
-pub fn print_from(file: i32) {
+pub fn print_from(rt: &(impl Print + Eprint), file: &mut impl Read) -> io::Result<()> {
     let mut space = [0u8; ROOM];
-    let n = io::read_full(file, &mut space);
+    let n = input::read_full(file, &mut space);
     if n < ROOM {
         if !ended(file) {
-            io::write_all(
-                STDERR_FILENO,
-                b"mapdump: the input could not be read to its end\n",
-            );
-            return;
+            return rt.eprintln("mapdump: the input could not be read to its end");
         }
     }
-    show(&space[..n]);
+    show(rt, &space[..n])
 }

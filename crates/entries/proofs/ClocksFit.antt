@@ -55,5 +55,6 @@ module _ {ours theirs : List Dot} {e f : Entry} (h : Lawful ours) (k : Lawful th
     keep-fits = omega (arith, covered-length (lawful-keep ours theirs v.clock w.clock) (lawful-join h k) keep-covered)
 
 -- an entry's clock with a dot is no longer than the map's clock with it
-pub added-length : {seen : List Dot} {e : Entry} → Lawful seen → ValidEntry seen e → (d : Dot) → length (add_dot (dots_in e) d) ≤ length (add_dot seen d)
+pub added-length : {seen : List Dot} {e : Entry} → Lawful seen → ValidEntry seen e → (d : Dot)
+    → length (add_dot (dots_in e) d) ≤ length (add_dot seen d)
 added-length h v d = covered-length (lawful-add v.clock d) (lawful-add h d) (covers-adds h v.clock v.covered d)

@@ -31,7 +31,8 @@ pub cut-leaves : {seen : List Dot} {e : Entry} → ValidEntry seen e → (other 
 cut-leaves {e = e} v other n = not-true _ (stays-alone other e ∙ ap not n)
 
 -- one of both stays where something is kept
-stays-both : (ours theirs : List Dot) (e f : Entry) → stays (merge_both ours theirs e f) ≡ not (is_empty (keep_dots ours theirs (dots_in e) (dots_in f)))
+stays-both : (ours theirs : List Dot) (e f : Entry) → stays (merge_both ours theirs e f)
+    ≡ not (is_empty (keep_dots ours theirs (dots_in e) (dots_in f)))
 unfolding merge_both
 stays-both ours theirs e f =
     let keep = keep_dots ours theirs (dots_in e) (dots_in f) in

@@ -27,7 +27,8 @@ laid_entry h =
 
 -- the clocks that a merge of two entries makes fit: what it keeps, and both joined
 abbrev pub MergeFits : List Dot → List Dot → Entry → Entry → Type 0
-MergeFits ours theirs e f = (length (keep_dots ours theirs (dots_in e) (dots_in f)) ≤ dot_limit) × (length (join_dots (dots_in e) (dots_in f)) ≤ dot_limit)
+MergeFits ours theirs e f = (length (keep_dots ours theirs (dots_in e) (dots_in f)) ≤ dot_limit)
+    × (length (join_dots (dots_in e) (dots_in f)) ≤ dot_limit)
 
 -- what a merge leaves of an entry: nothing, or one
 abbrev pub survivor_of : List Entry → Survivor

@@ -1,5 +1,6 @@
 // Entries by key: a clock and a register each; and the update of one; on arrays with a count, by value.
 #![tactic(auto)]
+
 mod by_key;
 mod finished;
 mod one_entry;

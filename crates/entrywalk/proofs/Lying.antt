@@ -42,7 +42,8 @@ pub record RunSays (run : List ℕ) (d : List Dot) : Type 0 where
   pub short : length run ≤ dot_limit * 16
   pub lawful : Lawful (run_dots run)
 
-run-says : {s : List ℕ} (kind index key : ℕ) (d : List Dot) {r : Span} → RecordsLie s (dot_records kind index key d) r → length d ≤ dot_limit → Lawful d
+run-says : {s : List ℕ} (kind index key : ℕ) (d : List Dot) {r : Span} → RecordsLie s (dot_records kind index key d) r → length d ≤ dot_limit
+    → Lawful d
     → RunSays (between s r.from r.to) d
 run-says {s} kind index key d {r} h n p =
     let e : run_dots (between s r.from r.to) ≡ d = ap (map dot_of) (slice-part s r.from r.to h.order h.within ∙ h.records)
@@ -67,7 +68,8 @@ part_at : (s : List ℕ) (n i j : ℕ) → i + n < j → get_or (part s i j) n n
 part_at s zero i j h = let e : i + 0 ≡ i = omega arith in rw (part-on s i j (omega arith), e)
 part_at s (suc n) i j h = let e : i + suc n ≡ i + 1 + n = omega arith in rw (part-on s i j (omega arith), e) (part_at s n (i + 1) j (omega arith))
 
-value-at : (key i n : ℕ) (l : List Value) → n < length l → content_of (get_or (flat_from (value_records 3 key) i l) n no_record) ≡ (get_or l n no_value).value
+value-at : (key i n : ℕ) (l : List Value) → n < length l → content_of (get_or (flat_from (value_records 3 key) i l) n no_record)
+    ≡ (get_or l n no_value).value
 unfolding flat_from
 value-at key i n [] h = absurd (omega arith)
 value-at key i zero (v ∷ l) h = refl

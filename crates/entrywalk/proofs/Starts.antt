@@ -28,7 +28,8 @@ use Rattle.comparing.specs.Registers.{RunsOf}
 use Rattle.entrywalk.specs.Walking.{span_between, Runs}
 
 abbrev RunAt : List ℕ → ℕ → List Value → List ℕ → ℕ → Type 0
-RunAt s key l starts j = RecordsLie s (dot_records 4 j key (dots_of (get_or l j no_value).clock)) (span_between (get_or starts j 0) (get_or starts (j + 1) 0))
+RunAt s key l starts j = RecordsLie s (dot_records 4 j key (dots_of (get_or l j no_value).clock))
+    (span_between (get_or starts j 0) (get_or starts (j + 1) 0))
 
 -- the runs of the first i values are found, and those of the rest stand from `at` on
 pub record Started (s : List ℕ) (key end : ℕ) (l : List Value) (i at : ℕ) (starts : List ℕ) : Type 0 where

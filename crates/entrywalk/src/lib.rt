@@ -1,5 +1,6 @@
 // The entries of an image where they lie: a walk from one to the next, and the clock of one.
 #![tactic(auto)]
+
 ghost use Rattle.std.specs.Prelude.{◌≡◌, List, [], ℕ, ◌*◌, ◌≤◌, ◌<◌, length};
 ghost use Rattle.clock.specs.Dots.{dots_of, clock_of, cut_dots};
 ghost use Rattle.clock.specs.Lawful.{Lawful};

@@ -57,7 +57,8 @@ pair-exact v w p q t =
 
 often-means : (l m here : List Value) → as_often l m here ≡ true → (v : Value) → v ∈ here → times_in l v ≡ times_in m v
 unfolding as_often
-often-means l m here t v i = eqb-true (times_in l v) (times_in m v) (not-false _ (none-means (λ u. not (eqb (times_in l u) (times_in m u))) here t v i))
+often-means l m here t v i = eqb-true (times_in l v) (times_in m v)
+    (not-false _ (none-means (λ u. not (eqb (times_in l u) (times_in m u))) here t v i))
 
 module _ {l m : List Value} where
   -- "every pair occurs the same number of times in both, order ignored"

@@ -1,5 +1,6 @@
 // Equality of registers: every value under its clock as often in one as in the other, in whatever order.
 #![tactic(auto)]
+
 ghost use Rattle.std.specs.Prelude.{◌≡◌, ◌≤◌};
 ghost use Rattle.limits.specs.Limits.{value_limit};
 ghost use Rattle.register.specs.Values.{values_of};

@@ -1,11 +1,11 @@
 -- The peers' dots taken one after the other, as one sift; and what the walk ends in: the number of the first bad peer, or the floor.
 use mathlib.Core.Path.{◌≡◌, refl, ap, sym, subst, ◌∙◌}
-use mathlib.Core.Bool.{Bool, true, false, cond}
+use mathlib.Core.Bool.{true, false}
 use mathlib.Core.List.{List, [], ◌∷◌, map}
 use Prim.Native.Nat.{ℕ, min, ◌*◌, ◌^◌, ◌≤◌, ◌<◌}
 use native.Mathlib.Omega.{arith}
 use lib.Dec.{eqb, ltb}
-use lib.ListN.{length, take}
+use lib.ListN.{length}
 use lib.Seq.{take-length}
 use borrow.Author.Tests.{eqb-true, eqb-false, ne_eqb, le-ltb, lt-ltb, ltb-true, ltb-false}
 use Rattle.listlaws.specs.Sift.{sift}
@@ -25,8 +25,8 @@ use Rattle.answers.specs.Answer.{first_of}
 use Rattle.advance.specs.Advancing.{rising_dots, lent_number}
 use Rattle.advance.proofs.Risings.{rising-lawful}
 use Rattle.flooring.specs.declared.Floored.{Floored}
-use Rattle.flooring.specs.Floor.{peer_limit, smallest_at, floor_dot, counted, floor_dots, peers_number, floor_number, floored_clock}
-use Rattle.flooring.specs.Steps.{lower_dot, lowered_by, peers_read, begun_of, taken_of, bad_of, next_of, floored_to, floored_all}
+use Rattle.flooring.specs.Floor.{peer_limit, smallest_at, floor_dot, counted, floor_dots, floor_number, floored_clock}
+use Rattle.flooring.specs.Steps.{lower_dot, lowered_by, begun_of, taken_of, bad_of, next_of, floored_all}
 
 -- a clock that passes is one
 pub good-lawful : (c : Clock) → lent_number c ≡ 0 → Lawful (dots_of c)

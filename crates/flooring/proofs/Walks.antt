@@ -1,6 +1,5 @@
 -- The walk over the peers, as its loop meets it: where it starts, one peer more, and which peers it reads.
-use mathlib.Core.Path.{◌≡◌, refl, ap, sym, ◌∙◌}
-use mathlib.Core.Bool.{Bool, true, false}
+use mathlib.Core.Path.{◌≡◌, refl}
 use mathlib.Core.List.{List, [], ◌∷◌}
 use Prim.Native.Nat.{ℕ, zero, suc, ◌+◌, ◌≤◌, ◌<◌}
 use native.Mathlib.Numerals.{add-one}
@@ -10,7 +9,6 @@ use lib.ListN.{length, take, get_or}
 use Rattle.listlaws.specs.Fold.{fold}
 use Rattle.scan.proofs.Eachs.{decide}
 use Rattle.clock.specs.declared.Clock.{Clock}
-use Rattle.flooring.specs.declared.Floored.{Floored}
 use Rattle.flooring.specs.Floor.{peer_limit}
 use Rattle.flooring.specs.Steps.{peers_read, begun_of, next_of, floored_to}
 

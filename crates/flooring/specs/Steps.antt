@@ -1,5 +1,5 @@
 -- What a walk over the peers has in hand, one peer after the other.
-use Rattle.std.specs.Prelude.{Bool, true, false, cond, List, [], ℕ, min, ◌*◌, ◌^◌, eqb, ltb, length, take}
+use Rattle.std.specs.Prelude.{true, false, cond, List, [], ℕ, min, ◌*◌, ◌^◌, eqb, ltb, length, take}
 use Rattle.listlaws.specs.Sift.{sift}
 use Rattle.listlaws.specs.Fold.{fold}
 use Rattle.clock.specs.declared.Dot.{Dot}

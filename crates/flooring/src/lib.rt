@@ -1,5 +1,6 @@
 // The floor of some peers' clocks: one peer after the other, by value.
 #![tactic(auto)]
+
 ghost use Rattle.std.specs.Prelude.{◌≡◌, min};
 ghost use Rattle.clock.specs.Dots.{dots_of, clock_of};
 ghost use Rattle.flooring.specs.Steps.{lowered_by, begun_of, next_of};

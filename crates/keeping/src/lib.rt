@@ -1,5 +1,6 @@
 // What a merge keeps of the dots of two entries, and what it deletes.
 #![tactic(auto)]
+
 ghost use Rattle.std.specs.Prelude.{◌≡◌, cond, ◌+◌, ◌≤◌, ◌<◌, max, length, drop};
 ghost use Rattle.limits.specs.Limits.{dot_limit};
 ghost use Rattle.clock.specs.Dots.{dots_of, clock_of, cut_dots, join_dots};

@@ -1,5 +1,6 @@
 // A key's records where they lie, and the clock of its entry.
 #![tactic(auto)]
+
 ghost use Rattle.std.specs.Prelude.{◌≡◌, List, ℕ, ◌*◌, ◌≤◌, ◌<◌, length};
 ghost use Rattle.listlaws.specs.Order.{Ascending, by};
 ghost use Rattle.clock.specs.Dots.{clock_of};

@@ -135,7 +135,8 @@ module _ (s : List ℕ) (l : Layout) (p : Parted s l) (good : (length s ≤ map_
           (ek : k ≡ keys_good waits (replicate waiting_limit 0) 0 (part s l.sixth l.end)) where
         within-limits : (entries ≤ entry_limit) × (waits ≤ waiting_limit)
         within-limits =
-            decide (ltb entry_limit entries) (λ u. apart (rw u at t)) (λ u. (ltb-false entry_limit entries u, ltb-false waiting_limit waits (rw u at t)))
+            decide (ltb entry_limit entries) (λ u. apart (rw u at t))
+            (λ u. (ltb-false entry_limit entries u, ltb-false waiting_limit waits (rw u at t)))
 
         pub all_told : recognised_at s l ≡ k
         unfolding recognised

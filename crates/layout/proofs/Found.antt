@@ -90,7 +90,8 @@ waiting-kind m r i =
     let (d, j, e) = Memᴰ.of_map (dot_record 5 (0 + w.place) 0) (under_of w.source) w.given in ap (λ (x : Record). x.kind) (sym e)
 
 key-kind : (m : Map) (r : Record) → r ∈ waiting_keys (waiting_in m) → r.kind ≡ 6
-key-kind m r i = let (x, j, e) = Memᴰ.of_map number_record (in_order (flat_from key_numbers 0 (waiting_in m))) i in ap (λ (x : Record). x.kind) (sym e)
+key-kind m r i = let (x, j, e) = Memᴰ.of_map number_record (in_order (flat_from key_numbers 0 (waiting_in m))) i in ap (λ (x : Record). x.kind)
+    (sym e)
 
 -- records of a kind and those of higher kinds
 over : (n : ℕ) (x y : List Record) → ((r : Record) → r ∈ x → r.kind ≡ n) → ((r : Record) → r ∈ y → n + 1 ≤ r.kind) → (r : Record) → r ∈ (x ++ y)

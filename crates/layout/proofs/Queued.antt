@@ -66,7 +66,8 @@ unfolding flat_from places_from
 dots-same l i [] = refl
 dots-same l i (c ∷ cs) = rw (under-as c (keys_under i l)) (ap (λ y. fives i c ++ y) (dots-same l (i + 1) cs))
 
-removals-rise : (l : List Record) (i : ℕ) (cs : List (List Dot)) → Ascending clock_before cs → Ascending removal_before (places_from (removal_for l) i cs)
+removals-rise : (l : List Record) (i : ℕ) (cs : List (List Dot)) → Ascending clock_before cs
+    → Ascending removal_before (places_from (removal_for l) i cs)
 unfolding places_from
 removals-rise l i [] a = nil
 removals-rise l i (c ∷ cs) a =

@@ -59,14 +59,16 @@ module _ (a b c d e f : List Record) where
   pub sections-mean : recognised a b c d e f ≡ true → Found a b c d e f
   unfolding recognised
   sections-mean t =
-      let t1 = eqb-true (run_end (dot_test 1 0 0) 0 dot_limit 0 a) (length a) (both_left (eqb (run_end (dot_test 1 0 0) 0 dot_limit 0 a) (length a)) _ t) in
+      let t1 = eqb-true (run_end (dot_test 1 0 0) 0 dot_limit 0 a) (length a)
+      (both_left (eqb (run_end (dot_test 1 0 0) 0 dot_limit 0 a) (length a)) _ t) in
       let u = both_right (eqb (run_end (dot_test 1 0 0) 0 dot_limit 0 a) (length a)) _ t in
       let t2 = leb-true (entries_end (map dot_of a) entry_limit 0 0 b c d) entry_limit
       (both_left (leb (entries_end (map dot_of a) entry_limit 0 0 b c d) entry_limit) _ u) in
       let v = both_right (leb (entries_end (map dot_of a) entry_limit 0 0 b c d) entry_limit) _ u in
       let t3 = leb-true (waits_end waiting_limit 0 [] e) waiting_limit (both_left (leb (waits_end waiting_limit 0 [] e) waiting_limit) _ v) in
       let t4 = both_right (leb (waits_end waiting_limit 0 [] e) waiting_limit) _ v in
-      made (map dot_of a) (whole_run a t1) _ (entries-mean (map dot_of a) entry_limit 0 0 b c d t2) refl _ (waits-mean waiting_limit 0 [] e t3) refl t4
+      made (map dot_of a) (whole_run a t1) _ (entries-mean (map dot_of a) entry_limit 0 0 b c d t2) refl _
+      (waits-mean waiting_limit 0 [] e t3) refl t4
     where
       made : (ds : List Dot) → Lawful ds × (dot_records 1 0 0 ds ≡ a) × (length ds ≤ dot_limit) → (n : ℕ) (x : Entered ds entry_limit 0 0 b c d n)
           → entries_end (map dot_of a) entry_limit 0 0 b c d ≡ n

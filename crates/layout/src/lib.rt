@@ -1,5 +1,6 @@
 // A map's image recognised where it stands, and the places of its sections.
 #![tactic(auto)]
+
 ghost use Rattle.std.specs.Prelude.{◌≡◌, ◌+◌, ◌<◌};
 ghost use Rattle.records.specs.Records.{records_of};
 ghost use Rattle.maprecords.specs.Related.{read_map};

@@ -66,7 +66,8 @@ module _ (ours theirs : List Removal) (key : ℕ) (gone : List Dot) where
       (value_left ours theirs key gone) l
   unfolding cut_values
   values-thrice l =
-      ap (sift alive (cut_for ours key)) (sift-sift alive (cut_value gone) (cut_for theirs key) l (λ v i t. dead-cuts theirs key (cut_value gone v) t))
+      ap (sift alive (cut_for ours key)) (sift-sift alive (cut_value gone) (cut_for theirs key) l
+      (λ v i t. dead-cuts theirs key (cut_value gone v) t))
       ∙ sift-sift alive (λ v. cut_for theirs key (cut_value gone v)) (cut_for ours key) l
       (λ v i t. dead-cuts ours key (cut_for theirs key (cut_value gone v)) t)
       ∙ sift-same alive _ _ l (λ v i. value-thrice v)

@@ -1,5 +1,6 @@
 // What is drawn of an entry where it lies: what is left of its dots, and of its values.
 #![tactic(auto)]
+
 ghost use Rattle.std.specs.Prelude.{◌≡◌, true, cond, List, ◌++◌, ℕ, ◌+◌, ◌*◌, ◌≤◌, ◌<◌, length, get_or, take};
 ghost use Rattle.listlaws.specs.First.{some};
 ghost use Rattle.listlaws.specs.Sift.{sift};

@@ -16,7 +16,8 @@ use Rattle.removals.specs.declared.Removal.{Removal}
 use Rattle.removals.specs.Model.{under_of, listed_in}
 use Rattle.removals.specs.Waits.{listed, waits, removal_before, unite_into}
 use Rattle.removals.proofs.Uniting.{unite-afresh}
-use Rattle.levels.specs.MapOver.{EntryOf, MapOf, stays_of, cut_entry_of, remove_from_of, remove_of, afresh_of, put_entries_of, update_map_of, map_with}
+use Rattle.levels.specs.MapOver.{EntryOf, MapOf, stays_of, cut_entry_of, remove_from_of, remove_of, afresh_of, put_entries_of, update_map_of}
+use Rattle.levels.specs.MapOver.{map_with}
 use Rattle.rules.specs.OneEntry.{Holds}
 
 module _ {A O : Type 0} (r : Holds A O) where
@@ -40,7 +41,8 @@ module _ {A O : Type 0} (r : Holds A O) where
   run-gone [] e t = t
   run-gone (w ∷ ws) e t = run-gone ws (remove_from_of r w e) (dropped w e t)
 
-  remove-those : (w : Removal) (l : List (EntryOf A)) → sift stays_of (remove_from_of r w) (those stays_of l) ≡ those stays_of (map (remove_from_of r w) l)
+  remove-those : (w : Removal) (l : List (EntryOf A)) → sift stays_of (remove_from_of r w) (those stays_of l)
+      ≡ those stays_of (map (remove_from_of r w) l)
   remove-those w l =
       sift-sift stays_of (λ e. e) (remove_from_of r w) l (λ e i t. dropped w e t) ∙ sym (sift-map stays_of (λ e. e) (remove_from_of r w) l)
 

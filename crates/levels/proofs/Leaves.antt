@@ -30,7 +30,8 @@ module _ {A O : Type 0} (r : Holds A O) where
   abbrev pub woven_of : List Dot → List Dot → List (EntryOf A) → List (EntryOf A) → List (EntryOf A)
   woven_of ours theirs l m = weave (by (λ e. e.key)) (cut_alone_of r theirs) (cut_alone_of r ours) (merge_both_of r ours theirs) l m
 
-  pub merge-sifted : (ours theirs : List Dot) (l m : List (EntryOf A)) → merge_entries_of r ours theirs l m ≡ those stays_of (woven_of ours theirs l m)
+  pub merge-sifted : (ours theirs : List Dot) (l m : List (EntryOf A)) → merge_entries_of r ours theirs l m
+      ≡ those stays_of (woven_of ours theirs l m)
   unfolding merge_entries_of
   merge-sifted ours theirs l m =
       (λ i. flatten (weave (by (λ e. e.key)) (λ e. alone-sifted theirs e i) (λ e. alone-sifted ours e i)

@@ -22,7 +22,8 @@ use Rattle.asking.specs.declared.CmRDTValidation.TheVariants.{Fits, Missing}
 use Rattle.asking.specs.declared.CvRDTValidation.TheVariants.{Once, Twice}
 use Rattle.asking.specs.Asking.{following, first_spent, spent_under}
 use Rattle.levels.specs.MapOver.{EntryOf, MapOf, up, rm, entry_with, map_with, cut_entry_of, entry_at_of, cut_alone_of, merge_both_of, remove_from_of}
-use Rattle.levels.specs.MapOver.{put_entries_of, alone_of, together_of, merge_entries_of, remove_of, afresh_of, update_map_of, merge_of, reset_of, map_rules}
+use Rattle.levels.specs.MapOver.{put_entries_of, alone_of, together_of, merge_entries_of, remove_of, afresh_of, update_map_of, merge_of, reset_of}
+use Rattle.levels.specs.MapOver.{map_rules}
 use Rattle.levels.specs.Level.{Val, Op, rules_at}
 use Rattle.levels.specs.OverLimits.{rack_limits, over_dots_at, entries_within, over_values_at, waiting_within, over_keys_at, over_number_at}
 use Rattle.levels.specs.Validating.{order_at, spent_at}
@@ -131,9 +132,12 @@ pub record NestedExamples : Type 0 where
 
 -- the end theorem: the whole table
 pub nested : NestedExamples
-unfolding pad sift first_in fold total_of weave flatten is_empty counter_in covers order_of cut_dots join_dots common_dots add_dot yields outdone remaining
-    put_values cut_values ours_left merge_values listed waits clock_before union_keys unite_all reset_waiting keep_dots following first_spent spent_under
-    cut_entry_of entry_at_of cut_alone_of merge_both_of remove_from_of put_entries_of alone_of together_of merge_entries_of remove_of afresh_of update_map_of merge_of
+unfolding pad sift first_in fold total_of weave flatten is_empty counter_in covers order_of cut_dots join_dots common_dots add_dot yields outdone
+    remaining
+    put_values cut_values ours_left merge_values listed waits clock_before union_keys unite_all reset_waiting keep_dots following first_spent
+    spent_under
+    cut_entry_of entry_at_of cut_alone_of merge_both_of remove_from_of put_entries_of alone_of together_of merge_entries_of remove_of afresh_of
+    update_map_of merge_of
     reset_of
     map_rules rules_at over_dots_at entries_within over_values_at waiting_within over_keys_at over_number_at order_at spent_at
 nested = record {

@@ -169,12 +169,17 @@ open-merge m n =
     joined = join_dots (seen_by m) (seen_by n)
 
     start : Map
-    start = record { clock = m.clock; entries = entries_as (merge_entries (seen_by m) (seen_by n) (entries_in m) (entries_in n)); waiting = m.waiting }
+    start = record {
+      clock = m.clock;
+      entries = entries_as (merge_entries (seen_by m) (seen_by n) (entries_in m) (entries_in n));
+      waiting = m.waiting;
+    }
 
     under : Map
     under = fold remove start (waiting_in n)
 
-    entries : map opened (entries_in start) ≡ merge_entries_of registers (seen_by m) (seen_by n) (map opened (entries_in m)) (map opened (entries_in n))
+    entries : map opened (entries_in start) ≡ merge_entries_of registers (seen_by m) (seen_by n) (map opened (entries_in m))
+        (map opened (entries_in n))
     entries = ap (map opened) (entries-of (merge_entries (seen_by m) (seen_by n) (entries_in m) (entries_in n)))
         ∙ open-merged (seen_by m) (seen_by n) (entries_in m) (entries_in n)
 

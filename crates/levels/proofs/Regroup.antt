@@ -28,7 +28,8 @@ use Rattle.levels.proofs.Trades.{united-level, unite-assoc, unite-trade}
 use Rattle.removals.proofs.WaitingValid.{Ready, valid-none, valid-cut-removal, valid-unite-into}
 
 -- two removals under one clock are united in, one by one or as one
-unite-level : {y z : Removal} (l : List Removal) → ((x : Removal) → x ∈ l → ValidRemoval x) → ValidRemoval y → ValidRemoval z → under_of y ≡ under_of z
+unite-level : {y z : Removal} (l : List Removal) → ((x : Removal) → x ∈ l → ValidRemoval x) → ValidRemoval y → ValidRemoval z → under_of y
+    ≡ under_of z
     → unite_into (unite_into l y) z ≡ unite_into l (unite y z)
 unfolding unite_all
 unite-level {y} {z} l f h k e =
@@ -64,7 +65,8 @@ module _ (c : List Dot) where
   leave-trade : {w : List Removal} {x y : Removal} → ValidWaiting w → ValidRemoval x → ValidRemoval y → leave (leave w x) y ≡ leave (leave w y) x
   leave-trade {w} {x} {y} v h k = go (remains (cut_removal c x)) (remains (cut_removal c y))
     where
-      go : (a b : Bool) → cond b (unite_into (cond a (unite_into w (cut_removal c x)) w) (cut_removal c y)) (cond a (unite_into w (cut_removal c x)) w)
+      go : (a b : Bool) → cond b (unite_into (cond a (unite_into w (cut_removal c x)) w) (cut_removal c y))
+          (cond a (unite_into w (cut_removal c x)) w)
           ≡ cond a (unite_into (cond b (unite_into w (cut_removal c y)) w) (cut_removal c x)) (cond b (unite_into w (cut_removal c y)) w)
       go true true = unite-trade w v.each (valid-cut-removal h c) (valid-cut-removal k c)
       go true false = refl
@@ -109,7 +111,8 @@ module _ (c : List Dot) where
       rest : (z : Removal) → z ∈ s → ValidRemoval z
       rest z i = f z (Memᴰ.tail i)
 
-      go : (a b : Bool) → removal_before y x ≡ a → removal_before x y ≡ b → fold leave (leave w y) (unite_into s x) ≡ leave (fold leave (leave w y) s) x
+      go : (a b : Bool) → removal_before y x ≡ a → removal_before x y ≡ b → fold leave (leave w y) (unite_into s x)
+          ≡ leave (fold leave (leave w y) s) x
           → fold leave w (cond a (y ∷ unite_into s x) (cond b (x ∷ y ∷ map (λ z. z) s) (unite y x ∷ unite_all s [])))
           ≡ leave (fold leave (leave w y) s) x
       go true b t u e = e

@@ -22,7 +22,8 @@ use Rattle.levels.specs.Laws.{CutLaws}
 use Rattle.levels.proofs.Cuts.{cut_laws}
 
 module _ {A O : Type 0} {r : Holds A O} {Good : A → Type 0} (laws : CutLaws r Good) where
-  pub from-trade : (v w : Removal) (e : EntryOf A) → Good e.val → remove_from_of r v (remove_from_of r w e) ≡ remove_from_of r w (remove_from_of r v e)
+  pub from-trade : (v w : Removal) (e : EntryOf A) → Good e.val → remove_from_of r v (remove_from_of r w e)
+      ≡ remove_from_of r w (remove_from_of r v e)
   unfolding remove_from_of cut_entry_of
   from-trade v w e g = go (listed (listed_in v) e.key) (listed (listed_in w) e.key) refl refl
     where

@@ -8,7 +8,8 @@ use lib.Dec.{leb}
 use borrow.Author.Tests.{leb-true, le-leb}
 use Rattle.records.specs.declared.Record.{Record}
 use Rattle.scan.specs.Each.{each_after}
-use Rattle.scan.specs.Limits.{outer, middle, inner, Limits, outer_by, middle_by, inner_limits, limit_at, same_kind, same_outer, same_middle, tally, room_by}
+use Rattle.scan.specs.Limits.{outer, middle, inner, Limits, outer_by, middle_by, inner_limits, limit_at, same_kind, same_outer, same_middle, tally}
+use Rattle.scan.specs.Limits.{room_by}
 use Rattle.scan.specs.Limits.{within_by}
 use Rattle.scan.proofs.Eachs.{both, both_left, both_right}
 use Rattle.mapimage.specs.MapImage.{longest_by}

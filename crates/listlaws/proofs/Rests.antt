@@ -83,7 +83,8 @@ module _ {A B : Type 0} (before : A → A → Bool) (first second : A → B) (bo
     weave-second t u = rw (drop-step xs n i d h, drop-step ys m j d k, t, u)
 
     pub weave-both : before (get_or xs i d) (get_or ys j d) ≡ false → before (get_or ys j d) (get_or xs i d) ≡ false
-        → weave before first second both (drop i (take n xs)) (drop j (take m ys)) ≡ both (get_or xs i d) (get_or ys j d) ∷ weave before first second both
+        → weave before first second both (drop i (take n xs)) (drop j (take m ys))
+        ≡ both (get_or xs i d) (get_or ys j d) ∷ weave before first second both
         (drop (i + 1) (take n xs)) (drop (j + 1) (take m ys))
     unfolding weave
     weave-both t u = rw (drop-step xs n i d h, drop-step ys m j d k, t, u)

@@ -25,7 +25,8 @@ module _ {A B S : Type 0} {pack : List B → S} {before : A → A → Bool} {fir
 
   module _ {i j : ℕ} {s : S} (d : A) (g : Weaving pack before first second both xs n i ys m j s) (h : i < length (take n xs))
       (k : j < length (take m ys)) where
-    pub weaving-first : {t : S} → before (get_or xs i d) (get_or ys j d) ≡ true → ((l : List B) → s ≡ pack l → t ≡ pack (l ++ (first (get_or xs i d) ∷ [])))
+    pub weaving-first : {t : S} → before (get_or xs i d) (get_or ys j d) ≡ true
+        → ((l : List B) → s ≡ pack l → t ≡ pack (l ++ (first (get_or xs i d) ∷ [])))
         → Weaving pack before first second both xs n (i + 1) ys m j t
     weaving-first b f = record { growing = grow-add g.growing (weave_first before first second both xs n i ys m j d h k b) f }
 

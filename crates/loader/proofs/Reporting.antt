@@ -20,7 +20,8 @@ module _ (m : Map) where
       length-append (report_bytes (report_at m (after + 1))) (reports_after m (after + 1) n) ∙ omega (arith, length-reports (after + 1) n)
 
   -- one bay more
-  reports-more : (after n last : ℕ) → last ≡ after + n + 1 → reports_after m after (suc n) ≡ reports_after m after n ++ report_bytes (report_at m last)
+  reports-more : (after n last : ℕ) → last ≡ after + n + 1 → reports_after m after (suc n) ≡ reports_after m after n
+      ++ report_bytes (report_at m last)
   unfolding reports_after
   reports-more after zero last e =
       let q : last ≡ after + 1 = omega arith in rw q (append-nil (report_bytes (report_at m (after + 1))))

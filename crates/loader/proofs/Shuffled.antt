@@ -37,7 +37,8 @@ any_order map other number held =
     let one : (bay : ℕ) → bay_answer map bay ≡ bay_answer other bay =
     λ bay. ap₂ (λ n r. record { first = n; second = 0; own = bay_number bay; bytes = report_bytes r }) number (same bay) in
     let all : bays_answer map ≡ bays_answer other =
-    ap₂ (λ n l. record { first = n; second = 0; own = 0; bytes = l }) number (reports-same (read_map map).map (read_map other).map same 0 bay_count) in
+    ap₂ (λ n l. record { first = n; second = 0; own = 0; bytes = l }) number
+    (reports-same (read_map map).map (read_map other).map same 0 bay_count) in
     record {
       bay = λ bay out d e r s p q. same_answer p (subst (λ (a : Answer). Answered a out e s) (sym (one bay)) q);
       bays = λ out d e r s p q. same_answer p (subst (λ (a : Answer). Answered a out e s) (sym all) q);

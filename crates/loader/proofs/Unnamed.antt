@@ -40,5 +40,6 @@ pub origins-unread : (map other : List ℕ) → (read_map map).number ≡ (read_
 origins-unread image other number alike =
     any_order image other number
     (λ bay. subst (λ l. Permᴰ (pairs_of (values_in (entry_at bay (entries_in (read_map image).map)))) l)
-    (sym (held_same (read_map image).map bay) ∙ ap (λ m. pairs_of (values_in (entry_at bay (entries_in m)))) alike ∙ held_same (read_map other).map bay)
+    (sym (held_same (read_map image).map bay) ∙ ap (λ m. pairs_of (values_in (entry_at bay (entries_in m)))) alike
+    ∙ held_same (read_map other).map bay)
     (Permᴰ.refl _))

@@ -1,5 +1,6 @@
 // A map's image that comes in pieces: a reader in memory that is lent, changed in place, byte by byte.
 #![tactic(auto)]
+
 ghost use Rattle.std.specs.Prelude.{◌≡◌, ◌<◌, set};
 ghost use Rattle.memory.specs.Memory.{reader_room};
 ghost use Rattle.mailbox.specs.Machine.{record_in, byte_in, take_word, take_in, begun};

@@ -1,5 +1,6 @@
 // The three calls that make an operation: an update, and a removal of one key.
 #![tactic(auto)]
+
 ghost use Rattle.promises.specs.Promises.{UpdatePromise, RmGetPromise, RmReadCtxPromise};
 
 use asking::ReadCtx;

@@ -157,7 +157,12 @@ valid-apply {m} v {op} k = go op.up refl
 
 -- the map that a merge applies their waiting removals to, and all waiting removals
 unfoldable pub mingled : Map → Map → Map
-mingled m n = record { clock = m.clock; entries = entries_as (merge_entries (seen_by m) (seen_by n) (entries_in m) (entries_in n)); waiting = m.waiting }
+mingled m n = record {
+  clock = m.clock;
+  entries = entries_as (merge_entries (seen_by m) (seen_by n) (entries_in m) (entries_in n));
+  waiting
+      = m.waiting;
+}
 
 unfoldable pub merged : Map → Map → Map
 merged m n =

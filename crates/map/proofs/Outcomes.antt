@@ -73,7 +73,8 @@ module _ {m : Map} {u : Update} (i : Within m) (j : UpdateWithin u) (new : count
   abbrev pub grown_entries : List Entry
   grown_entries = sift stays (run (waiting_in m)) (put_entries u (entries_in m))
 
-  pub update-outcome : (a b d : Bool) → exceeding dot_limit grown_clock ≡ a → exceeding entry_limit grown_entries ≡ b → some overfull grown_entries ≡ d
+  pub update-outcome : (a b d : Bool) → exceeding dot_limit grown_clock ≡ a → exceeding entry_limit grown_entries ≡ b → some overfull grown_entries
+      ≡ d
       → judged (update m u) ≡ outcome a b d false false (map_as grown_clock grown_entries (those (waits grown_clock) (waiting_in m)))
   update-outcome a b d p q r =
       let x = update-closed u i.valid new in

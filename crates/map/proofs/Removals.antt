@@ -154,7 +154,8 @@ module _ {m n : Map} (h : Valid m) (k : Valid n) where
       ∙ those-same _ _ (waiting_in n) (λ r i. waits-less (seen_by m) joined r (covers-join-left h.clock k.clock)))
 
   pub merge-closed : merge m n ≡ map_as (join_dots (seen_by m) (seen_by n)) (sift stays (λ e. run (waiting_in m) (run (waiting_in n) e)) (mingled))
-      (unite_all (those (waits (join_dots (seen_by m) (seen_by n))) (waiting_in m)) (those (waits (join_dots (seen_by m) (seen_by n))) (waiting_in n)))
+      (unite_all (those (waits (join_dots (seen_by m) (seen_by n))) (waiting_in m))
+      (those (waits (join_dots (seen_by m) (seen_by n))) (waiting_in n)))
   unfolding merge
   merge-closed =
       ap (λ x. afresh (record { clock = clock_of joined; entries = x.entries; waiting = x.waiting })) under

@@ -57,7 +57,8 @@ small-over {m} v s = go (exceeding dot_limit (seen_by m)) refl
         (first-none (λ w. exceeding dot_limit (dots_of w.clock)) (λ w. true) false (values_in e)
         (λ w j. le-ltb dot_limit (length (dots_of w.clock)) ((s.entries e i).each w j)))
 
-    go : (b : Bool) → exceeding dot_limit (seen_by m) ≡ b → (b || (some wide (entries_in m) || some (λ r. exceeding dot_limit (under_of r)) (waiting_in m)))
+    go : (b : Bool) → exceeding dot_limit (seen_by m) ≡ b
+        → (b || (some wide (entries_in m) || some (λ r. exceeding dot_limit (under_of r)) (waiting_in m)))
         ≡ b
     go true t = refl
     go false t =
@@ -79,7 +80,8 @@ small-made = record { key = λ e h. tt; clock = λ e h. tt; values = λ e h. h.e
 
 pub small-rules : Rules (λ c. Unit {0}) SmallEntry SmallRemoval
 small-rules =
-    rules-of small-closed small-made (λ by r h. rw (take-pad no_dot dot_limit (cut_dots by (under_of r))) (omega (arith, cut-length by (under_of r), h)))
+    rules-of small-closed small-made (λ by r h. rw (take-pad no_dot dot_limit (cut_dots by (under_of r)))
+    (omega (arith, cut-length by (under_of r), h)))
     (λ x y v w h k. h)
 
 pub small-taken : (u : Update) → SmallValue u.put → Taken (λ c. Unit {0}) SmallEntry u

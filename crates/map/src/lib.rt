@@ -1,5 +1,6 @@
 // The map: a clock, entries by key, and removals that wait. The Rust's map.rs, on arrays with a count, by value.
 #![tactic(auto)]
+
 mod changes;
 
 use clock::Clock;

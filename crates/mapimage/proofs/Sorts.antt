@@ -146,8 +146,8 @@ split-least low m (y ∷ w) a i h f =
     ⊎_elim
     (λ (q : m ≡ y).
     rw (le-leb low y (omega arith), lt-leb (m + 1) y (omega arith), q)
-    (ap (λ t. y ∷ t) (those-same (leb low) (leb (y + 1)) w (λ x j. let k = ltb-true y x (head-before a x j) in
-    le-leb low x (omega arith) ∙ sym (le-leb (y + 1) x (omega arith))))))
+    (ap (λ t. y ∷ t) (those-same (leb low) (leb (m + 1)) w (λ x j. let k = ltb-true y x (head-before a x j) in
+    le-leb low x (omega arith) ∙ sym (le-leb (m + 1) x (omega arith))))))
     (λ j. let k = ltb-true y m (head-before a m j) in
     rw (lt-leb low y (passed k), lt-leb (m + 1) y (omega arith)) (split-least low m w (tail-ascends a) j h (λ x e. f x (Memᴰ.tail e))))
     (Memᴰ.cases_cons i)
@@ -162,7 +162,8 @@ none_left low (y ∷ w) f = rw (lt-leb low y (f y (Memᴰ.head refl))) (none_lef
 
 module _ (end low : ℕ) (l : List ℕ) (below : every (λ x. ltb x end) l ≡ true) where
   -- there is one left
-  pub next-least : least_from low end l < end → those (leb low) (in_order l) ≡ least_from low end l ∷ those (leb (least_from low end l + 1)) (in_order l)
+  pub next-least : least_from low end l < end → those (leb low) (in_order l)
+      ≡ least_from low end l ∷ those (leb (least_from low end l + 1)) (in_order l)
   next-least h =
       ⊎_elim
       (λ e. absurd (omega arith))

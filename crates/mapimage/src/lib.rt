@@ -1,5 +1,6 @@
 // Images of maps, written.
 #![tactic(auto)]
+
 ghost use Rattle.std.specs.Prelude.{◌≡◌, true, ◌+◌, ◌*◌, ◌^◌, ◌≤◌, ◌<◌, ltb, length};
 ghost use Rattle.scan.specs.Each.{every};
 ghost use Rattle.register.specs.Values.{values_of};

@@ -19,7 +19,8 @@ use Rattle.asking.specs.declared.CmRDTValidation.TheVariants.{Missing}
 use Rattle.entries.specs.Model.{entry_as}
 use Rattle.removals.specs.Model.{removal_as}
 use Rattle.map.specs.Model.{map_as, no_map}
-use Rattle.entries.specs.Entries.{cut_entry, remove_from, remove_entries, put_entry, entry_at, put_entries, cut_alone, alone, keep_dots, merge_both, together}
+use Rattle.entries.specs.Entries.{cut_entry, remove_from, remove_entries, put_entry, entry_at, put_entries, cut_alone, alone, keep_dots, merge_both}
+use Rattle.entries.specs.Entries.{together}
 use Rattle.entries.specs.Entries.{merge_entries}
 use Rattle.removals.specs.Waits.{listed, waits, clock_before, union_keys, unite_all, reset_waiting}
 use Rattle.map.specs.Removing.{remove, afresh}
@@ -70,9 +71,12 @@ pub record Settled : Type 0 where
 
 -- the end theorem: the whole table
 pub settled : Settled
-unfolding pad sift first_in fold weave is_empty counter_in covers order_of cut_dots join_dots common_dots add_dot yields outdone remaining put_values cut_values
-    ours_left merge_values cut_entry listed remove_from remove_entries waits clock_before union_keys unite_all remove afresh put_entry entry_at put_entries
-    update cut_alone alone keep_dots merge_both together flatten merge_entries merge reset_waiting reset over_dots over_entries over_values over_waiting
+unfolding pad sift first_in fold weave is_empty counter_in covers order_of cut_dots join_dots common_dots add_dot yields outdone remaining put_values
+    cut_values
+    ours_left merge_values cut_entry listed remove_from remove_entries waits clock_before union_keys unite_all remove afresh put_entry entry_at
+    put_entries
+    update cut_alone alone keep_dots merge_both together flatten merge_entries merge reset_waiting reset over_dots over_entries over_values
+    over_waiting
     over_keys over_number judged clock_at following validate_update add_context update_under make_update
 settled = record {
   w1 = refl;

@@ -22,7 +22,8 @@ use Rattle.limits.specs.Limits.{dot_limit, value_limit, entry_limit, key_limit}
 use Rattle.records.specs.declared.Record.{Record}
 use Rattle.records.specs.Kinds.{before, record_ok}
 use Rattle.scan.specs.Formed.{follows, well_formed}
-use Rattle.scan.specs.Limits.{outer, middle, Limits, today, outer_by, middle_limits, inner_limits, limit_at, same_kind, same_outer, same_middle, tally}
+use Rattle.scan.specs.Limits.{outer, middle, Limits, today, outer_by, middle_limits, inner_limits, limit_at, same_kind, same_outer, same_middle}
+use Rattle.scan.specs.Limits.{tally}
 use Rattle.scan.specs.Limits.{room_by, within_by, within}
 use Rattle.scan.specs.Numbers.{scan_number}
 use Rattle.scan.proofs.Eachs.{decide, both, both_left, both_right, every-at, each_snoc}

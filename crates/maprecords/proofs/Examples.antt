@@ -32,7 +32,8 @@ dot a n = record { actor = a; counter = n }
 -- M = clock {1:1}, entry 5 {1:1} holding ({1:1}, 40)
 m : Map
 unfolding dot
-m = map_as (dot 1 1 ∷ []) (entry_as 5 (dot 1 1 ∷ []) (record { clock = clock_of (dot 1 1 ∷ []); value = record { number = 40; origin = 0 } } ∷ []) ∷ [])
+m = map_as (dot 1 1 ∷ []) (entry_as 5 (dot 1 1 ∷ [])
+    (record { clock = clock_of (dot 1 1 ∷ []); value = record { number = 40; origin = 0 } } ∷ []) ∷ [])
     []
 
 row : ℕ → ℕ → ℕ → ℕ → ℕ → Record
@@ -48,7 +49,8 @@ unfolding m dot row m-records flat_from in_order fold pad
 m-writes = refl
 
 m-reads : judged_map m-records ≡ record { number = 0; map = m }
-unfolding m dot row m-records scan_number well_formed within each_after count_after tally every record_ok before related sift fold first_in places_from
+unfolding m dot row m-records scan_number well_formed within each_after count_after tally every record_ok before related sift fold
+    first_in places_from
     entry_keys waiting_count numbers_below ascend covers counter_in is_empty pad
 m-reads = refl
 

@@ -76,7 +76,8 @@ pub get-map : {B : Type 0} (f : ℕ → B) (ks : List ℕ) (i : ℕ) (d : B) →
 get-map f ks i d h = same-default (map f ks) i d (f 0) (rw (length-map ks f) h) ∙ get_or-map f ks i 0
 
 -- one of them changed
-pub map-changed : {B : Type 0} (d : B) (f g : ℕ → B) (ks : List ℕ) (j : ℕ) → Unique ks → j < length ks → ((k : ℕ) → (k ≡ get_or ks j 0 → ⊥) → g k ≡ f k)
+pub map-changed : {B : Type 0} (d : B) (f g : ℕ → B) (ks : List ℕ) (j : ℕ) → Unique ks → j < length ks
+    → ((k : ℕ) → (k ≡ get_or ks j 0 → ⊥) → g k ≡ f k)
     → map g ks ≡ set (map f ks) j (g (get_or ks j 0))
 map-changed d f g ks j u h same =
     ext_get_or d (map g ks) (set (map f ks) j (g (get_or ks j 0)))

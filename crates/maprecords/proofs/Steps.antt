@@ -110,7 +110,8 @@ module _ (l : List Record) (r : Record) where
 
   -- the entry of r's key stands at a place, and changes there
   module _ (j : ℕ) (in-keys : j < length (entry_keys l)) (key-at : get_or (entry_keys l) j 0 ≡ r.key) where
-    changed : entry_fits (entries_for l) r ≡ true → entry_keys all ≡ entry_keys l → {es : List Entry} → es ≡ set (entries_for l) j (entry_in all r.key)
+    changed : entry_fits (entries_for l) r ≡ true → entry_keys all ≡ entry_keys l → {es : List Entry} → es
+        ≡ set (entries_for l) j (entry_in all r.key)
         → EntriesNow l r false es
     changed fit same e = record { lost = rw fit; held = λ _. e ∙ entries-changed l r j in-keys key-at same }
 

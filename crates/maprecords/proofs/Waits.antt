@@ -92,7 +92,8 @@ waits-under t =
     by-records (λ m. each finds_place m ≡ true → well_formed 1 6 m ≡ true → within_by t m ≡ true → waiting_count m ≤ t.waiting)
     (λ p w h. omega arith) more
   where
-    more : (m : List Record) (r : Record) → (each finds_place m ≡ true → well_formed 1 6 m ≡ true → within_by t m ≡ true → waiting_count m ≤ t.waiting)
+    more : (m : List Record) (r : Record) → (each finds_place m ≡ true → well_formed 1 6 m ≡ true → within_by t m ≡ true
+        → waiting_count m ≤ t.waiting)
         → each finds_place (m ++ (r ∷ [])) ≡ true → well_formed 1 6 (m ++ (r ∷ [])) ≡ true → within_by t (m ++ (r ∷ [])) ≡ true
         → waiting_count (m ++ (r ∷ [])) ≤ t.waiting
     more m r h p w s =

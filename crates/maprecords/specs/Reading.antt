@@ -3,7 +3,6 @@ use Rattle.std.specs.Prelude.{ℕ, zero, suc, ◌+◌, max, Bool, cond, ◌&&◌
 use Rattle.listlaws.specs.Sift.{those}
 use Rattle.listlaws.specs.Fold.{fold}
 use Rattle.listlaws.specs.First.{some}
-use Rattle.clock.specs.declared.Dot.{Dot}
 use Rattle.clock.specs.Dots.{clock_of}
 use Rattle.register.specs.declared.Value.{Value}
 use Rattle.entries.specs.declared.Entry.{Entry}
@@ -13,7 +12,7 @@ use Rattle.removals.specs.Model.{removal_as}
 use Rattle.map.specs.declared.Map.{Map}
 use Rattle.map.specs.Model.{map_as}
 use Rattle.records.specs.declared.Record.{Record}
-use Rattle.records.specs.Kinds.{clock_dot_kind, entry_dot_kind, value_kind, value_dot_kind, waiting_dot_kind, waiting_key_kind}
+use Rattle.records.specs.Kinds.{entry_dot_kind, value_kind, value_dot_kind, waiting_dot_kind, waiting_key_kind}
 use Rattle.clockimage.specs.Image.{is_kind, content_of, dots_from}
 use Rattle.clockimage.specs.ClockImage.{clock_in}
 
@@ -57,7 +56,8 @@ unfoldable pub waiting_count : List Record → ℕ
 waiting_count l = fold (λ n r. cond (is_kind waiting_dot_kind r) (max n (r.index + 1)) n) 0 l
 
 abbrev pub waiting_removal_in : List Record → ℕ → Removal
-waiting_removal_in l index = removal_as (dots_from (under_index waiting_dot_kind index) l) (map (λ r. r.key) (those (under_index waiting_key_kind index) l))
+waiting_removal_in l index = removal_as (dots_from (under_index waiting_dot_kind index) l)
+    (map (λ r. r.key) (those (under_index waiting_key_kind index) l))
 
 -- 0, 1, .. n - 1
 unfoldable pub numbers_below : ℕ → List ℕ

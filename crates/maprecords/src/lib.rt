@@ -1,5 +1,6 @@
 // What an image was read as, and what its length alone is answered with.
 #![tactic(auto)]
+
 ghost use Rattle.std.specs.Prelude.{◌≡◌};
 ghost use Rattle.maprecords.specs.Related.{length_number};
 

@@ -1,5 +1,6 @@
 // Marks on the dots of a run, where it lies: which of them are left.
 #![tactic(auto)]
+
 ghost use Rattle.std.specs.Prelude.{◌≡◌, ◌+◌, ◌*◌, ◌≤◌, length, take};
 ghost use Rattle.listlaws.specs.First.{some};
 ghost use Rattle.limits.specs.Limits.{dot_limit};

@@ -32,7 +32,8 @@ use Rattle.records.proofs.RoundTrips.{Fitting}
 use Rattle.scan.specs.Numbers.{scan_number}
 use Rattle.scan.proofs.Eachs.{decide}
 use Rattle.clockimage.specs.Image.{dot_of, content_of, dots_from}
-use Rattle.maprecords.specs.Reading.{numbers_below, under_key, under_both, under_index, values_under, entry_in, entry_keys, entries_for, waiting_count}
+use Rattle.maprecords.specs.Reading.{numbers_below, under_key, under_both, under_index, values_under, entry_in, entry_keys, entries_for}
+use Rattle.maprecords.specs.Reading.{waiting_count}
 use Rattle.maprecords.specs.Reading.{waiting_removal_in, waiting_for}
 use Rattle.clockimage.specs.ClockImage.{clock_in}
 use Rattle.maprecords.specs.SoFar.{MapSoFar}
@@ -44,7 +45,8 @@ use Rattle.maprecords.proofs.Steps as steps
 use Rattle.maprecords.proofs.Waits as waits
 use Rattle.maprecords.proofs.Readers as readers
 use Rattle.memory.specs.Memory.{reader_room, lost_place, entries_place, waits_place, clock_place, clock_room, entry_room, removal_room, entry_place}
-use Rattle.memory.specs.Memory.{own_place, values_place, value_place, removal_place, keys_place, key_place, scan_at, dots_at, value_at, values_at, key_at}
+use Rattle.memory.specs.Memory.{own_place, values_place, value_place, removal_place, keys_place, key_place, scan_at, dots_at, value_at, values_at}
+use Rattle.memory.specs.Memory.{key_at}
 use Rattle.memory.specs.Memory.{entry_held_at, entry_count, entries_at, listed_at, removal_at, waiting_count_at, waiting_at}
 use Rattle.memory.specs.Putting.{dot_put, lose, entry_begun, value_put, value_dot_put, entry_place_of, known_put, entry_put, removal_begun, key_put}
 use Rattle.memory.specs.Putting.{waiting_put, record_put}
@@ -143,7 +145,8 @@ module _ (l : List Record) (v : List ℕ) (long : length v ≡ reader_room) (fou
         let t = lose-put in
         became all (touched-wide lost_place map_room t (omega arith) (omega arith)) m now-lost
         (sym (same-dots (above-touched clock_place clock_room t (omega arith)) clock_place (omega arith) (omega arith)))
-        (sym (same_entries (above-touched entries_place 1 t (omega arith)) (above-touched (entry_place 0) (entry_limit * entry_room) t (omega arith))))
+        (sym (same_entries (above-touched entries_place 1 t (omega arith))
+        (above-touched (entry_place 0) (entry_limit * entry_room) t (omega arith))))
         (sym (same-waiting (above-touched waits_place 1 t (omega arith))
         (above-touched (removal_place 0) (waiting_limit * removal_room) t (omega arith))))
 
@@ -283,7 +286,8 @@ module _ (l : List Record) (v : List ℕ) (long : length v ≡ reader_room) (fou
           refl
           (sym (same-waiting (above-touched waits_place 1 c (omega arith))
           (above-touched (removal_place 0) (waiting_limit * removal_room) c (omega arith))
-          ∙ same-waiting (below-touched waits_place 1 t (omega arith)) (above-touched (removal_place 0) (waiting_limit * removal_room) t (omega arith))))
+          ∙ same-waiting (below-touched waits_place 1 t (omega arith))
+          (above-touched (removal_place 0) (waiting_limit * removal_room) t (omega arith))))
 
     abbrev hit : ℕ → Bool
     hit j = eqb (key_at v j) r.key
@@ -335,7 +339,8 @@ module _ (l : List Record) (v : List ℕ) (long : length v ≡ reader_room) (fou
       removal-is : removal_at v k ≡ waiting_removal_in l k
       unfolding waiting_at
       removal-is =
-          sym (below_at (removal_at v) (waiting_count_at v) k no_removal h) ∙ ap (λ ws. get_or ws k no_removal) waiting-is ∙ waits.removal-at l r known
+          sym (below_at (removal_at v) (waiting_count_at v) k no_removal h) ∙ ap (λ ws. get_or ws k no_removal) waiting-is
+          ∙ waits.removal-at l r known
 
       removal-dots : dots_at v (removal_place k) ≡ dots_from (under_index 5 k) l
       removal-dots = dots-like _ _ (ap (λ x. x.clock) removal-is)
@@ -352,7 +357,8 @@ module _ (l : List Record) (v : List ℕ) (long : length v ≡ reader_room) (fou
           became all (touched-wide lost_place map_room t (omega arith) (omega arith)) (readers.grown-waiting l r g late refl n)
           (still-found (below-touched lost_place 1 t (omega arith)))
           (sym (same-dots (below-touched clock_place clock_room t (omega arith)) clock_place (omega arith) (omega arith)))
-          (sym (same_entries (below-touched entries_place 1 t (omega arith)) (below-touched (entry_place 0) (entry_limit * entry_room) t (omega arith))))
+          (sym (same_entries (below-touched entries_place 1 t (omega arith))
+          (below-touched (entry_place 0) (entry_limit * entry_room) t (omega arith))))
           refl
 
       removal-dot : r.kind ≡ 5 → Grown all v (dot_put (removal_place k) r v)
@@ -360,7 +366,8 @@ module _ (l : List Record) (v : List ℕ) (long : length v ≡ reader_room) (fou
           let e = waiting-dot-now k r v f long low-index (rw removal-dots (waiting-dots-room l r good five)) in
           removal-grown e
           (waits.dot-now l r known five
-          (removal-stored k e h ∙ ap₂ (λ ws x. set ws k x) waiting-is (ap₂ (λ ds ks. removal_as (ds ++ (dot_of r ∷ [])) ks) removal-dots removal-keys)))
+          (removal-stored k e h ∙ ap₂ (λ ws x. set ws k x) waiting-is
+          (ap₂ (λ ds ks. removal_as (ds ++ (dot_of r ∷ [])) ks) removal-dots removal-keys)))
 
       removal-key : r.kind ≡ 6 → Grown all v (key_put k r v)
       unfolding listed_at

@@ -21,7 +21,8 @@ use Rattle.clockimage.specs.Image.{dot_of, content_of}
 use Rattle.maprecords.specs.Reading.{numbers_below}
 use Rattle.memory.specs.Memory.{reader_room, clock_room, dot_room, value_room, entry_room, removal_room, entries_place, waits_place, entry_place}
 use Rattle.memory.specs.Memory.{own_place, values_place, value_place, removal_place, keys_place, key_place, count_at, dot_at, dots_at, content_at}
-use Rattle.memory.specs.Memory.{value_at, values_at, key_at, entry_held_at, entry_count, entries_at, listed_at, removal_at, waiting_count_at, waiting_at}
+use Rattle.memory.specs.Memory.{value_at, values_at, key_at, entry_held_at, entry_count, entries_at, listed_at, removal_at, waiting_count_at}
+use Rattle.memory.specs.Memory.{waiting_at}
 use Rattle.memory.specs.Putting.{put, dot_put, entry_begun, value_put, value_dot_put, removal_begun, key_put}
 use Rattle.memory.proofs.Regions.{Same, same-num, Touched, touched_none, touched-then, touched-wide, below-touched, above-touched}
 use Rattle.memory.proofs.Regions.{touched-put, put-read}
@@ -89,7 +90,8 @@ module _ (p : ℕ) (r : Record) (w : List ℕ) (f : Fitting r) (room : p + clock
         let was : count_at dot_limit p w ≡ n = omega arith in
         ap (λ c. map (λ i. dot_at counted (p + 1 + i * dot_room)) (numbers_below c)) now
         ∙ below_more (λ i. dot_at counted (p + 1 + i * dot_room)) n
-        ∙ ap₂ (λ l x. l ++ (x ∷ [])) (below-same (λ i. dot_at counted (p + 1 + i * dot_room)) (λ i. dot_at w (p + 1 + i * dot_room)) n old-dot) new-dot
+        ∙ ap₂ (λ l x. l ++ (x ∷ [])) (below-same (λ i. dot_at counted (p + 1 + i * dot_room)) (λ i. dot_at w (p + 1 + i * dot_room)) n old-dot)
+        new-dot
         ∙ ap (λ c. map (λ i. dot_at w (p + 1 + i * dot_room)) (numbers_below c) ++ (dot_of r ∷ [])) (sym was)
 
   pub dot-touched : Touched p clock_room w (dot_put p r w)
@@ -203,7 +205,8 @@ module _ (j : ℕ) (r : Record) (w : List ℕ) (f : Fitting r) (long : length w 
         let was : count_at value_limit (values_place j) w ≡ count = omega arith in
         ap (λ c. map (λ i. value_at valued (value_place j i)) (numbers_below c)) now
         ∙ below_more (λ i. value_at valued (value_place j i)) count
-        ∙ ap₂ (λ l x. l ++ (x ∷ [])) (below-same (λ i. value_at valued (value_place j i)) (λ i. value_at w (value_place j i)) count old_value) new-value
+        ∙ ap₂ (λ l x. l ++ (x ∷ [])) (below-same (λ i. value_at valued (value_place j i)) (λ i. value_at w (value_place j i)) count old_value)
+        new-value
         ∙ ap (λ c. map (λ i. value_at w (value_place j i)) (numbers_below c) ++ (record { clock = clock_of []; value = content_of r } ∷ [])) (sym was)
 
     pub value-now : count ≡ r.index → EntryNow j w (value_put j r w) (dots_at w (own_place j))
@@ -265,7 +268,8 @@ unfolding entries_at
 entry-stored j {w} {v} {ds} {vs} e h =
     let t = e.touched in
     let now : entry_held_at v j ≡ entry_as (key_at w j) ds vs = rw (e.key, e.dots, e.values) in
-    ap (λ c. map (entry_held_at v) (numbers_below c)) (same_count (below-touched entries_place 1 t (omega arith)) entry_limit entries_place (omega arith)
+    ap (λ c. map (entry_held_at v) (numbers_below c))
+    (same_count (below-touched entries_place 1 t (omega arith)) entry_limit entries_place (omega arith)
     (omega arith))
     ∙ below_set no_entry (entry_held_at w) (entry_held_at v) (entry_count w) j h others
     ∙ ap (set (map (entry_held_at w) (numbers_below (entry_count w))) j) now
@@ -363,7 +367,8 @@ module _ (r : Record) (w : List ℕ) (f : Fitting r) (long : length w ≡ reader
         let v = entry_begun n r w in
         let now : entry_held_at v n ≡ entry_as r.key (dot_of r ∷ []) [] = rw (begun-key, begun-dots, begun-values) in
         ap (λ c. map (entry_held_at v) (numbers_below c)) begun-count ∙ below_more (entry_held_at v) n
-        ∙ ap₂ (λ l x. l ++ (x ∷ [])) (below-same (entry_held_at v) (entry_held_at w) n (λ i h. same-entry (before i h) i (omega arith) (omega arith))) now
+        ∙ ap₂ (λ l x. l ++ (x ∷ [])) (below-same (entry_held_at v) (entry_held_at w) n
+        (λ i h. same-entry (before i h) i (omega arith) (omega arith))) now
         ∙ ap (λ c. map (entry_held_at w) (numbers_below c) ++ (entry_as r.key (dot_of r ∷ []) [] ∷ [])) (sym count)
 
 -- the waiting removal at a place changed, and nothing else
@@ -446,7 +451,8 @@ removal-stored k {w} {v} {ds} {ks} e h =
         let t = e.touched in
         decide (ltb i k)
         (λ x. let b = ltb-true i k x in same-removal (below-touched (removal_place i) removal_room t (omega arith)) i (omega arith) (omega arith))
-        (λ x. let b = ltb-false i k x in same-removal (above-touched (removal_place i) removal_room t (omega (arith, n))) i (omega arith) (omega arith))
+        (λ x. let b = ltb-false i k x in same-removal (above-touched (removal_place i) removal_room t (omega (arith, n))) i (omega arith)
+        (omega arith))
 
 -- a waiting removal behind the last
 module _ (r : Record) (w : List ℕ) (f : Fitting r) (long : length w ≡ reader_room) (n : ℕ) (few : n < waiting_limit) where

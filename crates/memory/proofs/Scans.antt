@@ -14,7 +14,7 @@ use Rattle.records.specs.Records.{record_from, record_bytes}
 use Rattle.records.proofs.RoundTrips.{Fitting, read-record, read_fits}
 use Rattle.scan.specs.declared.Scan.{Scan}
 use Rattle.scan.specs.Formed.{well_formed}
-use Rattle.scan.specs.Limits.{outer, middle, inner, within}
+use Rattle.scan.specs.Limits.{within}
 use Rattle.scan.specs.Numbers.{scan_number}
 use Rattle.scan.specs.Scanned.{Scanned, CountedUnder}
 use Rattle.scan.specs.Stepping.{behind_last, scan_on, under_on}
@@ -149,7 +149,8 @@ module _ (s : Scan) (w : List ℕ) (long : length w ≡ reader_room) (small : s.
       let b = ap (λ x. eqb x 1) (upto2 0 any_place (omega arith) ∙ put-read 0 any_place (flag_of s.any) one (flag_small s.any)
       (omega (arith, t1.long))) ∙ flag-read s.any in
       let d = upto4 1 counts_place (omega arith) ∙ put-read 1 counts_place (s.outer % 2 ^ 16) three (omega arith) (omega (arith, long3)) in
-      let e = upto5 1 (counts_place + 2) (omega arith) ∙ put-read 1 (counts_place + 2) (s.middle % 2 ^ 16) four (omega arith) (omega (arith, long4)) in
+      let e = upto5 1 (counts_place + 2) (omega arith)
+      ∙ put-read 1 (counts_place + 2) (s.middle % 2 ^ 16) four (omega arith) (omega (arith, long4)) in
       let g = put-read 1 (counts_place + 4) (s.inner % 2 ^ 16) five (omega arith) (omega (arith, long5)) in
       let c = last-read in
       λ i. record { number = a i; any = b i; last = c i; outer = d i; middle = e i; inner = g i }

@@ -16,7 +16,8 @@ use Rattle.clockimage.proofs.Dots.{map_snoc}
 use Rattle.maprecords.specs.Reading.{numbers_below}
 use Rattle.maprecords.proofs.Keys.{get-map, length-below, get-below}
 use Rattle.memory.specs.Memory.{clock_room, dot_room, value_room, entry_room, removal_room, entries_place, waits_place, entry_place, own_place}
-use Rattle.memory.specs.Memory.{values_place, value_place, removal_place, keys_place, key_place, count_at, dot_at, dots_at, value_at, values_at, key_at}
+use Rattle.memory.specs.Memory.{values_place, value_place, removal_place, keys_place, key_place, count_at, dot_at, dots_at, value_at, values_at}
+use Rattle.memory.specs.Memory.{key_at}
 use Rattle.memory.specs.Memory.{entry_held_at, entry_count, entries_at, listed_at, removal_at, waiting_count_at, waiting_at}
 use Rattle.memory.proofs.Regions.{Same, same-num}
 

@@ -1,5 +1,5 @@
 -- What a record, and what a scan says, does to the memory of a reader: for every content of it.
-use Rattle.std.specs.Prelude.{Bool, cond, ◌&&◌, List, ℕ, ◌+◌, ◌*◌, ◌%◌, ◌^◌, eqb, ltb}
+use Rattle.std.specs.Prelude.{cond, ◌&&◌, List, ℕ, ◌+◌, ◌*◌, ◌%◌, ◌^◌, eqb, ltb}
 use Rattle.listlaws.specs.First.{first_in}
 use Rattle.limits.specs.Limits.{dot_limit, value_limit, entry_limit, waiting_limit, key_limit}
 use Rattle.records.specs.declared.Record.{Record}

@@ -1,9 +1,11 @@
 // The memory of a reader of pieces, which is lent: where each part of the map stands in it, and where a record goes.
 #![tactic(auto)]
+
 ghost use Rattle.std.specs.Prelude.{◌≡◌, ◌+◌, ◌≤◌, ◌<◌};
 ghost use Rattle.limits.specs.Limits.{entry_limit, waiting_limit};
 ghost use Rattle.memory.specs.Memory.{reader_room, clock_room, count_at, entry_count, scan_at};
-ghost use Rattle.memory.specs.Putting.{dot_put, lose, entry_begun, value_put, value_dot_put, entry_place_of, known_put, entry_put, removal_begun, key_put};
+ghost use Rattle.memory.specs.Putting.{dot_put, lose, entry_begun, value_put, value_dot_put, entry_place_of, known_put, entry_put, removal_begun};
+ghost use Rattle.memory.specs.Putting.{key_put};
 ghost use Rattle.memory.specs.Putting.{waiting_put, record_put, scan_put};
 
 use limits::{DOTS, ENTRIES, KEYS, VALUES, WAITING};

@@ -46,7 +46,8 @@ module _ {k : List Record} {xs₀ : List MarkedRecord} where
     pub change-here : get_or xs i no_marked ≡ get_or xs₀ i no_marked
     change-here =
         let e : i + 0 ≡ i = omega arith in
-        ap (λ j. get_or xs j no_marked) (sym e) ∙ sym (get_or-drop i xs 0 no_marked) ∙ ap (λ l. get_or l 0 no_marked) g.ahead ∙ get_or-drop i xs₀ 0 no_marked
+        ap (λ j. get_or xs j no_marked) (sym e) ∙ sym (get_or-drop i xs 0 no_marked) ∙ ap (λ l. get_or l 0 no_marked) g.ahead
+        ∙ get_or-drop i xs₀ 0 no_marked
         ∙ ap (λ j. get_or xs₀ j no_marked) e
 
     more : (f : Fate) → renumbered k (plain_fate (get_or xs i no_marked)) ≡ f

@@ -82,7 +82,8 @@ module _ {marks s : List ℕ} {a b : ℕ} where
 
   module _ {i j : ℕ} (g : Comparing marks s a b i j) (h : i < length s / 16) (k : j < length s / 16) where
     both-dots : clock_before (waiting_clock (fourth_of marks s) a) (waiting_clock (fourth_of marks s) b)
-        ≡ clock_before (dot_of (record_from s (i * 16)) ∷ dots_after marks s a (i + 1)) (dot_of (record_from s (j * 16)) ∷ dots_after marks s b (j + 1))
+        ≡ clock_before (dot_of (record_from s (i * 16)) ∷ dots_after marks s a (i + 1))
+        (dot_of (record_from s (j * 16)) ∷ dots_after marks s b (j + 1))
     both-dots = g.rest ∙ ap₂ clock_before (g.first h) (g.second k)
 
     module _ {x y : Record} (e : x ≡ record_from s (i * 16)) (f : y ≡ record_from s (j * 16)) where

@@ -127,7 +127,8 @@ beside-from (m ∷ ms) (r ∷ l) {z} i =
     (λ (e : z ≡ record { mark = m; item = r }). Memᴰ.head (ap (λ y. y.item) e))
     (λ j. Memᴰ.tail (beside-from ms l j)) (Memᴰ.cases_cons i)
 
-pub byte-indexes : (marks s : List ℕ) → Bytes s → scan_number 1 6 (fourth_of marks s) ≡ 0 → (w : ℕ) → w ∈ waiting_indexes (fourth_of marks s) → w < 256
+pub byte-indexes : (marks s : List ℕ) → Bytes s → scan_number 1 6 (fourth_of marks s) ≡ 0 → (w : ℕ) → w ∈ waiting_indexes (fourth_of marks s)
+    → w < 256
 byte-indexes marks s b z w m =
     let (r, i, u) = index-from (fourth_of marks s) z w m in
     let (y, j, e) = Memᴰ.of_map (λ x. x.item) (those (is_left_at 5) (marked_of marks s)) i in

@@ -1,5 +1,6 @@
 // Step 5 of a salvage: waiting clocks united, and the index that each record takes.
 #![tactic(auto)]
+
 ghost use Rattle.std.specs.Prelude.{◌≡◌, not, ◌&&◌, ℕ, ◌/◌, ◌≤◌, ◌<◌, eqb, ltb, length, take, get_or};
 ghost use Rattle.listlaws.specs.Order.{◌∈◌};
 ghost use Rattle.listlaws.specs.Sift.{those};
@@ -10,7 +11,8 @@ ghost use Rattle.scan.specs.Numbers.{scan_number};
 ghost use Rattle.mapimage.specs.MapImage.{map_longest};
 ghost use Rattle.maprecords.specs.Reading.{under_key};
 ghost use Rattle.salvagerules.specs.Fates.{staying};
-ghost use Rattle.salvagerules.specs.Indexes.{waiting_clock, waiting_indexes, waiting_index, same_dots, lists_already, key_room, kept_by_five, new_index};
+ghost use Rattle.salvagerules.specs.Indexes.{waiting_clock, waiting_indexes, waiting_index, same_dots, lists_already, key_room, kept_by_five};
+ghost use Rattle.salvagerules.specs.Indexes.{new_index};
 ghost use Rattle.salvagerules.specs.Steps.{fates_of};
 ghost use Rattle.salvagelaws.proofs.Fourth.{Supplied};
 ghost use Rattle.culling.specs.Marks.{marked_of, left_items, Says, after_four};
@@ -228,7 +230,8 @@ fn mark_united(image: &[u8], marks: &mut [u16], leads: &[u16])
 // How many values that step 4 left have this key and a lower index.
 fn values_below(image: &[u8], marks: &[u16], key: u32, index: u8) -> u16
     requires { (length image.now / 16 ≤ length marks.now) × (length image.now ≤ map_longest) }
-    ensures { (result ≡ length (those (λ s. under_key value_kind key s && ltb s.index index) (fourth_of marks.now image.now))) × (result ≤ length image.now / 16) }
+    ensures { (result ≡ length (those (λ s. under_key value_kind key s && ltb s.index index) (fourth_of marks.now image.now)))
+        × (result ≤ length image.now / 16) }
 {
     let n = image.len() / 16;
     let mut count: u16 = 0;

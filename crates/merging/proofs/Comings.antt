@@ -125,7 +125,8 @@ module _ (s t : List ℕ) (l m : Layout) (mine yours : List Dot) (x y : Cursor) 
         keep = keep;
         gone = cut_dots keep (join_dots (dots_in e) (dots_in f));
         first = ap₂ (λ z w. woven mine yours z w) g.parts i.parts ∙ woven-both mine yours e f g.more i.more level
-            ∙ ap (λ z. entry_as z keep (cut_values (cut_dots keep (join_dots (dots_in e) (dots_in f))) (merge_values (values_in e) (values_in f))) ∷ woven mine
+            ∙ ap (λ z. entry_as z keep (cut_values (cut_dots keep (join_dots (dots_in e) (dots_in f))) (merge_values (values_in e) (values_in f))) ∷
+            woven mine
             yours g.more i.more) (sym same);
         kept = p;
         lost = q;

@@ -81,7 +81,12 @@ drawing-start {s} {t} {m} {n} h i none p =
       listed = keyed-image h;
       others = keyed-image i;
       few = omega arith;
-      grown = record { done = []; holds = p; parts = merged-woven (waiting_in m) (waiting_in n) (seen_by m) (seen_by n) (entries_in m) (entries_in n) };
+      grown = record {
+        done = [];
+        holds = p;
+        parts = merged-woven (waiting_in m) (waiting_in n) (seen_by m) (seen_by n) (entries_in m)
+            (entries_in n);
+      };
     }
 
 module _ {m n : Map} {s t : List ℕ} {l k : Layout} {out : Sketch} {f g : ℕ} {x y : Cursor} (d : Drawing m n s t l k out f g x y) where

@@ -1,5 +1,6 @@
 // The entries of a merge, drawn from two images where they lie.
 #![tactic(auto)]
+
 pub mod drawing;
 pub mod stepping;
 

@@ -31,7 +31,8 @@ use Rattle.scan.proofs.Eachs.{decide}
 use Rattle.clockimage.specs.Image.{is_kind, dot_of, dots_from, DotFits}
 use Rattle.opimage.specs.OpImage.{op_longest, no_record, record_of, keys_in, op_in, op_related, refused_op, judged_op, read_op}
 use Rattle.mapimage.specs.MapImage.{map_longest}
-use Rattle.maprecords.specs.Reading.{under_key, under_index, under_both, places_from, value_in, values_under, entry_in, entry_keys, entries_for, waiting_count}
+use Rattle.maprecords.specs.Reading.{under_key, under_index, under_both, places_from, value_in, values_under, entry_in, entry_keys, entries_for}
+use Rattle.maprecords.specs.Reading.{waiting_count}
 use Rattle.maprecords.specs.Reading.{waiting_removal_in, numbers_below, waiting_for, map_in}
 use Rattle.clockimage.specs.ClockImage.{clock_in}
 use Rattle.maprecords.specs.Related.{related, judged_map, read_map}

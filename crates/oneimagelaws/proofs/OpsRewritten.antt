@@ -29,7 +29,8 @@ use Rattle.scan.proofs.Builds.{formed-ascends}
 use Rattle.scan.proofs.Splits.{of_kind, from, split}
 use Rattle.clockimage.specs.Image.{is_kind, dot_of, dot_record, dot_records, content_of, content_record, dots_from}
 use Rattle.clockimage.proofs.RoundTrip.{accepted}
-use Rattle.opimage.specs.OpImage.{op_longest, key_record, removal_head, update_head, put_value, op_records, op_image, how_many, removes, updates, op_related}
+use Rattle.opimage.specs.OpImage.{op_longest, key_record, removal_head, update_head, put_value, op_records, op_image, how_many, removes, updates}
+use Rattle.opimage.specs.OpImage.{op_related}
 use Rattle.opimage.specs.OpImage.{no_record, record_of, keys_in, update_in, op_in, judged_op, refused_op, read_op}
 
 -- a list of no elements, and of one
@@ -132,7 +133,8 @@ module _ (l : List Record) (z : scan_number 7 12 l ≡ 0) where
       ∙ ap₂ (λ u h. removal_head ∷ (u ++ h)) (dots-again 8 refl refl) keys-again
       ∙ ap (λ h. h ∷ (of_kind 8 l ++ of_kind 9 l)) (sym head)
       ∙ ap (λ m. one.0 ∷ (of_kind 8 l ++ m)) (sym (append-nil (of_kind 9 l)))
-      ∙ sym (kinds ∙ joined one.1 (still (of_kind 8 l)) (still (of_kind 9 l)) (none_left (those (is_kind 10) l) b) (none_left (those (is_kind 11) l) c)
+      ∙ sym (kinds ∙ joined one.1 (still (of_kind 8 l)) (still (of_kind 9 l)) (none_left (those (is_kind 10) l) b)
+      (none_left (those (is_kind 11) l) c)
       (none_left (those (is_kind 12) l) d)))
 
   update-again : updates (λ k. how_many k l) ≡ true → op_records (op_in l) ≡ l

@@ -14,10 +14,10 @@ use Rattle.maprecords.proofs.Keys.{get-map, length-below, get-below}
 use Rattle.oneimagelaws.proofs.Stands.{Place, first, later, place-get}
 
 module _ {A B : Type 0} (f : ℕ → A → B) where
-  places-has-from : (i : ℕ) {x : A} {j : ℕ} {l : List A} → Place x j l → f (i + j) x ∈ places_from f i l
+  places-has-from : {x : A} (i : ℕ) {j : ℕ} {l : List A} → Place x j l → f (i + j) x ∈ places_from f i l
   unfolding places_from
   places-has-from i (first {y = y} e) = let same : i + 0 ≡ i = omega arith in Memᴰ.head (ap₂ f same e)
-  places-has-from i {x} (later {j = j} p) = let same : i + suc j ≡ i + 1 + j = omega arith in
+  places-has-from {x} i (later {j = j} p) = let same : i + suc j ≡ i + 1 + j = omega arith in
       Memᴰ.cast (ap (λ k. f k x) same) (Memᴰ.tail (places-has-from (i + 1) p))
 
   -- what f gives at a place

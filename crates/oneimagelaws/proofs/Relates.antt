@@ -1,5 +1,5 @@
 -- The records of a map's image are related: each finds what it needs among those before it.
-use mathlib.Core.Path.{◌≡◌, refl, ap, sym, ◌∙◌}
+use mathlib.Core.Path.{◌≡◌, refl, ap, sym, ◌∙◌, subst}
 use mathlib.Core.Bool.{Bool, true, false, not}
 use mathlib.Core.Logic.{⊎_elim}
 use mathlib.Core.List.Memᴰ
@@ -85,16 +85,17 @@ module _ (key : ℕ) where
       let same : a ≡ b = omega arith in
       absurd (omega (arith, f.actor refl refl same))) (λ f. f)
 
-  values-ahead : (i : ℕ) {v : Value} {j : ℕ} {l : List Value} → Place v j l
+  values-ahead : {v : Value} (i : ℕ) {j : ℕ} {l : List Value} → Place v j l
       → length (ahead (value_record key (i + j) v) (places_from (value_record key) i l)) ≡ j
   unfolding places_from sift
-  values-ahead i {v} (first {y = y} {l = l} e) =
+  values-ahead {v} i (first {y = y} {l = l} e) =
       ap length
       (those-none (λ s. before s (value_record key (i + 0) v)) (places_from (value_record key) i (y ∷ l))
       (λ z m. let r = places-means (value_record key) i (y ∷ l) z m in rw r.given (not-before (i + r.place) (i + 0) r.source v (omega arith))))
-  values-ahead i {v} (later {y = y} {l = l} {j = j} p) =
+  values-ahead {v} i (later {y = y} {l = l} {j = j} p) =
       let same : i + suc j ≡ i + 1 + j = omega arith in
-      rw (same, by_index (value_record key i y) (value_record key (i + 1 + j) v) refl refl (omega arith)) (ap suc (values-ahead (i + 1) p))
+      rw (by_index (value_record key i y) (value_record key (i + suc j) v) refl refl (omega arith)) (ap suc
+      (subst (λ k. length (ahead (value_record key k v) (places_from (value_record key) (i + 1) l)) ≡ j) (sym same) (values-ahead (i + 1) p)))
 
 pub neighbours-ascend : (l : List Removal) → Ascending removal_before l → ascend l ≡ true
 unfolding ascend
@@ -149,7 +150,8 @@ module _ {m : Map} (h : Within m) where
       (lt-ltb j _ (rw long (place-below p))))) refl
 
   -- the waiting removals before one, and one with keys, have dots
-  waiting-dot-placed : {q : Removal} (j : ℕ) → Place q j (waiting_in m) → (d : Dot) → finds_place (seen (dot_record 5 j 0 d)) (dot_record 5 j 0 d) ≡ true
+  waiting-dot-placed : {q : Removal} (j : ℕ) → Place q j (waiting_in m) → (d : Dot) → finds_place (seen (dot_record 5 j 0 d)) (dot_record 5 j 0 d)
+      ≡ true
   waiting-dot-placed zero p d = le-leb 0 (waiting_count (seen (dot_record 5 0 0 d))) (omega arith)
   waiting-dot-placed (suc j) p d =
       let r = dot_record 5 (suc j) 0 d in
@@ -188,4 +190,5 @@ module _ {m : Map} (h : Within m) where
 
   pub records-related : related (map_records m) ≡ true
   unfolding related
-  records-related = both (each finds_place (map_records m)) _ each_placed (both _ (ascend (waiting_for (map_records m))) entries-whole waiting-ascends)
+  records-related = both (each finds_place (map_records m)) _ each_placed
+      (both _ (ascend (waiting_for (map_records m))) entries-whole waiting-ascends)

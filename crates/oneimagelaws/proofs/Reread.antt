@@ -31,7 +31,8 @@ use Rattle.clockimage.specs.Image.{is_kind, dot_record, dot_of, dots_from}
 use Rattle.clockimage.proofs.RoundTrip.{dots-ascend}
 use Rattle.opimage.specs.OpImage.{key_record}
 use Rattle.mapimage.specs.MapImage.{value_record, key_number, number_record, map_records}
-use Rattle.maprecords.specs.Reading.{under_key, under_index, under_both, places_from, value_in, values_under, entry_in, entry_keys, entries_for, waiting_count}
+use Rattle.maprecords.specs.Reading.{under_key, under_index, under_both, places_from, value_in, values_under, entry_in, entry_keys, entries_for}
+use Rattle.maprecords.specs.Reading.{waiting_count}
 use Rattle.maprecords.specs.Reading.{waiting_removal_in, numbers_below, waiting_for, map_in}
 use Rattle.clockimage.specs.ClockImage.{clock_in}
 use Rattle.maprecords.proofs.Counts.{indexes-below}

@@ -26,7 +26,8 @@ use Rattle.scan.proofs.Befores.{fields-before}
 use Rattle.clockimage.specs.Image.{dot_record, dot_records}
 use Rattle.clockimage.proofs.RoundTrip.{dots-ascend}
 use Rattle.mapimage.specs.Sorted.{in_order}
-use Rattle.mapimage.specs.MapImage.{flat_from, value_record, value_records, entry_records, waiting_dots, key_numbers, number_record, waiting_keys, map_records}
+use Rattle.mapimage.specs.MapImage.{flat_from, value_record, value_records, entry_records, waiting_dots, key_numbers, number_record, waiting_keys}
+use Rattle.mapimage.specs.MapImage.{map_records}
 use Rattle.mapimage.proofs.Sorts.{order-ascends}
 
 -- what holds of all that f gives, at every place, holds of the whole
@@ -173,7 +174,8 @@ module _ {m : Map} (h : Within m) where
       (ahead 4 fours (flat-every (λ x. x.kind ≡ 4) (entry_records 4) 0 (entries_in m)
       (λ j e p b. flat-every (λ x. x.kind ≡ 4) (value_records 4 e.key) 0 (values_in e)
       (λ k v q c x d. (dot-fields 4 k e.key (dots_of v.clock) x d).kind-is)))
-      (ahead 5 waiting-ascend (flat-every (λ x. x.kind ≡ 5) waiting_dots 0 (waiting_in m) (λ j q p b x c. (dot-fields 5 j 0 (under_of q) x c).kind-is)) (
+      (ahead 5 waiting-ascend (flat-every (λ x. x.kind ≡ 5) waiting_dots 0 (waiting_in m)
+      (λ j q p b x c. (dot-fields 5 j 0 (under_of q) x c).kind-is)) (
         keys-rise,
         λ x i. let y = Memᴰ.of_map number_record (in_order (flat_from key_numbers 0 (waiting_in m))) i in
             let e = ap (λ (r : Record). r.kind) y.2 in omega arith,

@@ -24,7 +24,8 @@ use Rattle.scan.proofs.Eachs.{decide, both}
 use Rattle.scan.proofs.Rooms.{kind-range}
 use Rattle.clockimage.specs.Image.{is_kind, dot_of, dots_from}
 use Rattle.opimage.specs.OpImage.{no_record, keys_in}
-use Rattle.maprecords.specs.Reading.{under_key, under_index, under_both, value_in, values_under, entry_in, entries_for, waiting_count, waiting_removal_in}
+use Rattle.maprecords.specs.Reading.{under_key, under_index, under_both, value_in, values_under, entry_in, entries_for, waiting_count}
+use Rattle.maprecords.specs.Reading.{waiting_removal_in}
 use Rattle.maprecords.specs.Reading.{waiting_for}
 use Rattle.clockimage.specs.ClockImage.{clock_in}
 use Rattle.maprecords.specs.Related.{finds_place}

@@ -20,7 +20,8 @@ use Rattle.removals.specs.Model.{under_of, listed_in}
 use Rattle.records.specs.declared.Record.{Record}
 use Rattle.clockimage.specs.Image.{dot_record, dot_records}
 use Rattle.mapimage.specs.Sorted.{in_order}
-use Rattle.mapimage.specs.MapImage.{flat_from, value_record, value_records, entry_records, waiting_dots, key_number, key_numbers, number_record, records_in}
+use Rattle.mapimage.specs.MapImage.{flat_from, value_record, value_records, entry_records, waiting_dots, key_number, key_numbers, number_record}
+use Rattle.mapimage.specs.MapImage.{records_in}
 use Rattle.mapimage.proofs.Sorts.{order-has, order-from-list}
 
 -- x stands at place j, counted from 0
@@ -58,10 +59,10 @@ module _ {A : Type 0} where
 
 -- what f gives at a place stands in the whole, and nothing else
 module _ {A B : Type 0} (f : ℕ → A → List B) where
-  pub flat-has-from : (i : ℕ) {x : A} {j : ℕ} {l : List A} → Place x j l → (z : B) → z ∈ f (i + j) x → z ∈ flat_from f i l
+  pub flat-has-from : {x : A} (i : ℕ) {j : ℕ} {l : List A} → Place x j l → (z : B) → z ∈ f (i + j) x → z ∈ flat_from f i l
   unfolding flat_from
   flat-has-from i (first {l = l} e) z m = let same : i + 0 ≡ i = omega arith in Memᴰ.append_left (flat_from f (i + 1) l) (rw (e, same) at m)
-  flat-has-from i {x} (later {y = y} {l = l} {j = j} p) z m =
+  flat-has-from {x} i (later {y = y} {l = l} {j = j} p) z m =
       let same : i + suc j ≡ i + 1 + j = omega arith in Memᴰ.append_right (f i y) (flat-has-from (i + 1) p z (rw same at m))
 
   pub record Flat (i : ℕ) (l : List A) (z : B) : Type 0 where

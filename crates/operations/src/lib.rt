@@ -1,5 +1,6 @@
 // The operations of a list of bytes: where each ends, and how many there are.
 #![tactic(auto)]
+
 ghost use Rattle.std.specs.Prelude.{◌≡◌, ◌||◌, ◌<◌, eqb, length};
 ghost use Rattle.records.specs.Kinds.{removal_kind, update_kind};
 ghost use Rattle.promises.specs.CatchUp.{operations_of};

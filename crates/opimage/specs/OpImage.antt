@@ -3,7 +3,6 @@ use Rattle.std.specs.Prelude.{ℕ, ◌+◌, ◌*◌, List, ◌∷◌, ◌++◌, 
 use mathlib.Core.Bool.{Bool, cond, ◌&&◌, ◌||◌}
 use Rattle.listlaws.specs.Sift.{those}
 use Rattle.listlaws.specs.Fold.{fold}
-use Rattle.listlaws.specs.First.{some}
 use Rattle.limits.specs.Limits.{dot_limit, key_limit}
 use Rattle.clock.specs.Dots.{dots_of, clock_of}
 use Rattle.removals.specs.declared.Removal.{Removal}
@@ -55,7 +54,8 @@ abbrev pub removes : (ℕ → ℕ) → Bool
 removes n = eqb (n removal_kind) 1 && (eqb (n update_kind) 0 && (eqb (n put_value_kind) 0 && eqb (n put_dot_kind) 0))
 
 abbrev pub updates : (ℕ → ℕ) → Bool
-updates n = eqb (n update_kind) 1 && (eqb (n put_value_kind) 1 && (eqb (n removal_kind) 0 && (eqb (n removal_dot_kind) 0 && eqb (n removal_key_kind) 0)))
+updates n = eqb (n update_kind) 1 && (eqb (n put_value_kind) 1
+    && (eqb (n removal_kind) 0 && (eqb (n removal_dot_kind) 0 && eqb (n removal_key_kind) 0)))
 
 unfoldable pub op_related : List Record → Bool
 op_related l = removes (λ k. how_many k l) || updates (λ k. how_many k l)

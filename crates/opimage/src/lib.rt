@@ -1,5 +1,6 @@
 // Images of operations: read and written.
 #![tactic(auto)]
+
 ghost use Rattle.std.specs.Prelude.{◌≡◌, true, cond, List, [], ◌∷◌, ◌++◌, map, ℕ, ◌+◌, ◌*◌, ◌≤◌, ◌<◌, min, length, get_or, set};
 ghost use Rattle.limits.specs.Limits.{key_limit};
 ghost use Rattle.removals.specs.Model.{keys_of, keys_as};

@@ -102,7 +102,8 @@ module _ (s : List ℕ) where
   unfolding read_map old_map
   map-stands h = stands map_longest 1 6 (λ r. r.number) refused_map (λ n. refl) related (λ l. record { number = 0; map = map_in l }) s h
 
-  map-refuses : (read_map s).number ≡ 0 → (read_map s ≡ record { number = 0; map = map_in (records_of s) } → ((x : Record) → x ∈ records_of s → Unnamed x)
+  map-refuses : (read_map s).number ≡ 0 → (read_map s ≡ record { number = 0; map = map_in (records_of s) }
+      → ((x : Record) → x ∈ records_of s → Unnamed x)
       → ⊥) → old_map s ≡ refused_map 1
   unfolding read_map old_map
   map-refuses h f = refuses map_longest 1 6 (λ r. r.number) refused_map (λ n. refl) related (λ l. record { number = 0; map = map_in l }) s h f
@@ -112,7 +113,8 @@ module _ (s : List ℕ) where
   unfolding read_op old_op
   op-stands h = stands op_longest 7 12 (λ r. r.number) refused_op (λ n. refl) op_related (λ l. record { number = 0; op = op_in l }) s h
 
-  op-refuses : (read_op s).number ≡ 0 → (read_op s ≡ record { number = 0; op = op_in (records_of s) } → ((x : Record) → x ∈ records_of s → Unnamed x) → ⊥)
+  op-refuses : (read_op s).number ≡ 0 → (read_op s ≡ record { number = 0; op = op_in (records_of s) } → ((x : Record) → x ∈ records_of s → Unnamed x)
+      → ⊥)
       → old_op s ≡ refused_op 1
   unfolding read_op old_op
   op-refuses h f = refuses op_longest 7 12 (λ r. r.number) refused_op (λ n. refl) op_related (λ l. record { number = 0; op = op_in l }) s h f

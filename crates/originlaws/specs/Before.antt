@@ -57,4 +57,5 @@ old_map s =
     (old_judged today clock_dot_kind waiting_key_kind refused_map related (λ l. record { number = 0; map = map_in l })) s
 
 unfoldable pub old_op : List ℕ → ReadOp
-old_op s = image_of op_longest refused_op (old_judged today removal_kind put_dot_kind refused_op op_related (λ l. record { number = 0; op = op_in l })) s
+old_op s = image_of op_longest refused_op (old_judged today removal_kind put_dot_kind refused_op op_related
+    (λ l. record { number = 0; op = op_in l })) s

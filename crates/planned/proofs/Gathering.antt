@@ -43,7 +43,8 @@ module _ {s : List ℕ} {m : List (List Dot)} where
       next-clock : drop i m ≡ get_or m i [] ∷ drop (i + 1) m
       next-clock = rw add-one (drop-cons m i [] h)
 
-      pub gathers-on : is_empty (get_or m i []) ≡ false → {out : Ordered} → Lined s out (insert_clock g.done (get_or m i [])) → Gathers s m (i + 1) out
+      pub gathers-on : is_empty (get_or m i []) ≡ false → {out : Ordered} → Lined s out (insert_clock g.done (get_or m i []))
+          → Gathers s m (i + 1) out
       gathers-on t k = record {
         done = insert_clock g.done (get_or m i []);
         lined = k;

@@ -84,7 +84,8 @@ module _ (w v : List Removal) (fw : length w ≤ waiting_limit) (fv : length v �
   module _ (s t : List ℕ) (p : Plan) (over : p.over ≡ ltb waiting_limit (length result)) (count : p.over ≡ false → p.len ≡ length result)
       (lies : p.over ≡ false → (j : ℕ) → j < length result → HeldLies s t (get_or p.items j no_held) (get_or clocks j []))
       (ours : (a : ℕ) → p.over ≡ false → a < waiting_limit → get_or p.ours a waiting_limit ≡ place_among clocks (get_or (map under_of w) a []))
-      (theirs : (a : ℕ) → p.over ≡ false → a < waiting_limit → get_or p.theirs a waiting_limit ≡ place_among clocks (get_or (map under_of v) a [])) where
+      (theirs : (a : ℕ) → p.over ≡ false → a < waiting_limit → get_or p.theirs a waiting_limit
+      ≡ place_among clocks (get_or (map under_of v) a [])) where
     -- of one list: its table, and that its removals are brought
     module _ (u : List Removal) (table : List ℕ) (told : (a : ℕ) → p.over ≡ false → a < waiting_limit
         → get_or table a waiting_limit ≡ place_among clocks (get_or (map under_of u) a [])) (fu : length u ≤ waiting_limit) (f : p.over ≡ false) where

@@ -267,7 +267,8 @@ module _ (seen : List Dot) (l : List (List Dot)) (w : List Removal) where
       flip false t = refl
 
 module _ {seen : List Dot} {w v : List Removal} {s t : List ℕ} where
-  pub join-start : {items : List Held} → Joining seen w v s t 0 0 0 items (replicate waiting_limit waiting_limit) (replicate waiting_limit waiting_limit)
+  pub join-start : {items : List Held} → Joining seen w v s t 0 0 0 items (replicate waiting_limit waiting_limit)
+      (replicate waiting_limit waiting_limit)
   join-start = record {
     ahead = refl;
     within = omega arith;
@@ -300,7 +301,8 @@ module _ {seen : List Dot} {w v : List Removal} {s t : List ℕ} where
             within = let y = place-below p in omega arith;
             lies = λ few m y. decide (eqb m count)
                 (λ u. let r = eqb-true m count u in
-                rw (r, ← here few, get_or-set_same items k x no_held room) (rw (here few) (subst (λ d. HeldLies s t x d) (sym (place-reads [] p)) lx)))
+                rw (r, ← here few, get_or-set_same items k x no_held room)
+                (rw (here few) (subst (λ d. HeldLies s t x d) (sym (place-reads [] p)) lx)))
                 (λ u. let r = eqb-false m count u in
                 subst (λ o. HeldLies s t o (get_or (staying seen w v) m [])) (sym (get_or-set_other items k m x no_held (λ o. r (o ∙ here few))))
                 (g.lies few m (omega arith)));

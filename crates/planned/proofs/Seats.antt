@@ -60,7 +60,8 @@ insert-fresh (d ∷ l) c f =
     (ap (λ m. d ∷ m) (insert-fresh l c g)))
     (λ u. let g : clock_before c d ≡ true = rw u at f (omega arith) in rw (u, g))
 
-pub insert-there : (l : List (List Dot)) (c : List Dot) → seat_of c l < length l → clock_before c (get_or l (seat_of c l) []) ≡ false → insert_clock l c ≡ l
+pub insert-there : (l : List (List Dot)) (c : List Dot) → seat_of c l < length l → clock_before c (get_or l (seat_of c l) []) ≡ false
+    → insert_clock l c ≡ l
 unfolding insert_clock seat_of
 insert-there [] c h f = absurd (omega arith)
 insert-there (d ∷ l) c h f =

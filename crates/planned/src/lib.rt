@@ -1,5 +1,6 @@
 // The waiting removals of a result, planned from two images where they lie: no clock is taken out.
 #![tactic(auto)]
+
 ghost use Rattle.std.specs.Prelude.{◌≡◌, true, false, cond, ◌&&◌, ◌||◌, not, List, [], ℕ, ◌+◌, ◌*◌, ◌≤◌, ◌<◌, length};
 ghost use Rattle.listlaws.specs.Sift.{those};
 ghost use Rattle.clock.specs.Dots.{dots_of, is_empty, cut_dots};
@@ -189,7 +190,7 @@ pub fn reset_plan(s: &[u8], q: Queue, by: Clock) -> Plan
 // How many dots a result's waiting removals have.
 pub fn count_dots(p: Plan) -> usize
     requires { (p.over ≡ false) × ((s t : List ℕ) × (w v result : List Removal) × Plans s t w v result p) }
-    ensures* { λ r. ⌜ ((s t : List ℕ) (w v result : List Removal) → Plans s t w v result p → r ≡ length (flat_from waiting_dots 0 result)) ⌝ }
+    ensures { (s t : List ℕ) (w v united : List Removal) → Plans s t w v united p → result ≡ length (flat_from waiting_dots 0 united) }
 {
     let n = queued::places(p.len);
     let mut total: usize = 0;
@@ -218,9 +219,9 @@ fn write_held(out: &mut [u8], at: usize, index: u8, s: &[u8], t: &[u8], x: Held)
 pub fn write_clocks(out: &mut [u8], at: usize, s: &[u8], t: &[u8], p: Plan) -> usize
     requires { (p.over ≡ false) × ((w v result : List Removal) × Plans s.now t.now w v result p
         × (at + length (flat_from waiting_dots 0 result) * 16 ≤ length out.old)) }
-    ensures* { λ next. ⌜ ((w v result : List Removal) → Plans s.now t.now w v result p
-        → at + length (flat_from waiting_dots 0 result) * 16 ≤ length out.old
-        → Wrote at (bytes_of (flat_from waiting_dots 0 result)) out.old out.new next) ⌝ }
+    ensures { ((w v united : List Removal) → Plans s.now t.now w v united p
+        → at + length (flat_from waiting_dots 0 united) * 16 ≤ length out.old
+        → Wrote at (bytes_of (flat_from waiting_dots 0 united)) out.old out.new result) }
 {
     let n = queued::places(p.len);
     let mut next = at;

@@ -117,7 +117,8 @@ pub fn cut_all(s: &[u8], q: Queue, by: Clock) -> Ordered
 pub fn seats(s: &[u8], q: Queue, by: Clock, all: Ordered) -> [u8; WAITING]
     requires { ((w : List Removal) × Queued s.now q w) × (((l : List (List Dot)) × Lined s.now all l) × Lawful (dots_of by)) }
     ensures { (w : List Removal) (l : List (List Dot)) → Queued s.now q w → Lined s.now all l
-        → (a : ℕ) → a < waiting_limit → get_or result a waiting_limit ≡ place_among l (get_or (map under_of (map (cut_removal (dots_of by)) w)) a []) }
+        → (a : ℕ) → a < waiting_limit → get_or result a waiting_limit
+        ≡ place_among l (get_or (map under_of (map (cut_removal (dots_of by)) w)) a []) }
 {
     let n = queued::places(q.len);
     let mut out: [u8; WAITING] = [WAITING as u8; WAITING];

@@ -1,5 +1,6 @@
 -- CR 12, in its words: a list of operation images cut into operations, run from our map on, and held against their map.
-use Rattle.std.specs.Prelude.{Bool, true, false, cond, ◌&&◌, ◌||◌, List, [], ◌∷◌, ◌++◌, ℕ, zero, suc, ◌+◌, ◌/◌, eqb, leb, ltb, length, take, drop, get_or, replicate}
+use Rattle.std.specs.Prelude.{Bool, true, false, cond, ◌&&◌, ◌||◌, List, [], ◌∷◌, ◌++◌, ℕ, zero, suc, ◌+◌, ◌/◌, eqb, leb, ltb, length, take, drop}
+use Rattle.std.specs.Prelude.{get_or, replicate}
 use Rattle.records.specs.Kinds.{removal_kind, update_kind}
 use Rattle.mapimage.specs.MapImage.{map_longest}
 use Rattle.maprecords.specs.Related.{read_map}

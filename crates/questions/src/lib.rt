@@ -1,5 +1,6 @@
 // The file of cases that replay makes: decimal numbers in a fixed order, and between them whatever helps a reader.
 #![tactic(auto)]
+
 use clock::{Clock, Dot};
 use limits::{DOTS, ENTRIES, KEYS, VALUES, WAITING};
 use records::{CLOCK_DOT, Record};

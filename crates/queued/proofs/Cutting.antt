@@ -30,7 +30,8 @@ module _ (w : List Removal) (key : ℕ) where
 
     pub cut_on : {by next : Clock} → by ≡ clock_of (under_of (get_or w i no_removal)) → lists w i key ≡ true
         → next ≡ clock_of (cut_dots (dots_of by) (dots_of out)) → Cutting d (i + 1) next
-    cut_on b t n = folding-on no_removal f here (λ s p. n ∙ rw t (ap clock_of (ap₂ cut_dots (dots-of (under_of (get_or w i no_removal)) b) (dots-of s p))))
+    cut_on b t n = folding-on no_removal f here (λ s p. n
+        ∙ rw t (ap clock_of (ap₂ cut_dots (dots-of (under_of (get_or w i no_removal)) b) (dots-of s p))))
 
     pub cut-not : lists w i key ≡ false → Cutting d (i + 1) out
     cut-not t = folding-on no_removal f here (λ s p. p ∙ rw t)

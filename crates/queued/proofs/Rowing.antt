@@ -155,7 +155,8 @@ module _ {s : List ℕ} {i n : ℕ} {t : List ℕ} {j m a b key : ℕ} (ha : Hea
 
 -- the row of the next key
 module _ {s : List ℕ} {i n : ℕ} {t : List ℕ} {j m low : ℕ} {w v result : List Removal} {ours theirs : List ℕ}
-    (kw : Keyed s i n (key_number 0 low) w) (kv : Keyed t j m (key_number 0 low) v) (mv : Moves w v result ours theirs) {key : ℕ} (hw : Heads s i n key)
+    (kw : Keyed s i n (key_number 0 low) w) (kv : Keyed t j m (key_number 0 low) v) (mv : Moves w v result ours theirs) {key : ℕ}
+    (hw : Heads s i n key)
     (hv : Heads t j m key)
     (of : ((i < n) × (key ≡ (record_from s (i * 16)).key)) ⊎ ((j < m) × (key ≡ (record_from t (j * 16)).key))) where
   pub row-above : low ≤ key
@@ -201,7 +202,8 @@ module _ (key : ℕ) (under : List Bool) where
   unfolding row_records
   row-yes i h t = rw (drop-cons under i false h, t, add-one)
 
-  pub row-no : (i : ℕ) → i < length under → get_or under i false ≡ false → row_records key i (drop i under) ≡ row_records key (i + 1) (drop (i + 1) under)
+  pub row-no : (i : ℕ) → i < length under → get_or under i false ≡ false → row_records key i (drop i under)
+      ≡ row_records key (i + 1) (drop (i + 1) under)
   unfolding row_records
   row-no i h t = rw (drop-cons under i false h, t, add-one)
 
@@ -216,8 +218,8 @@ first-there x [] a i = absurd (Memᴰ.not-nil i)
 first-there x (z ∷ l) a i =
     ⊎_elim
     (λ (e : x ≡ z). rw (le-leb x z (omega arith), lt-leb (x + 1) z (omega arith), e)
-    (ap (λ k. z ∷ k) (those-same (leb z) (leb (z + 1)) l (λ y j. let k = ltb-true z y (head-before a y j) in
-    le-leb z y (omega arith) ∙ sym (le-leb (z + 1) y (omega arith))))))
+    (ap (λ k. z ∷ k) (those-same (leb x) (leb (x + 1)) l (λ y j. let k = ltb-true z y (head-before a y j) in
+    le-leb x y (omega arith) ∙ sym (le-leb (x + 1) y (omega arith))))))
     (λ j. let k = ltb-true z x (head-before a x j) in rw (lt-leb x z k, lt-leb (x + 1) z (omega arith)) (first-there x l (tail-ascends a) j))
     (Memᴰ.cases_cons i)
 
@@ -233,7 +235,8 @@ module _ (result : List Removal) (few : length result ≤ waiting_limit) where
       → map number_record (those (leb (key_number p key)) numbers) ≡ row_records key p l ++ map number_record
       (those (leb (key_number waiting_limit key)) numbers)
   unfolding row_records
-  row_from key p [] e f = let q : p ≡ waiting_limit = omega arith in rw q
+  row_from key p [] e f = let q : p ≡ waiting_limit = omega arith in
+      ap (λ (k : ℕ). map number_record (those (leb (key_number k key)) numbers)) q
   row_from key p (b ∷ l) e f =
       let low : p < waiting_limit = omega arith in
       let z : p + 0 ≡ p = omega arith in

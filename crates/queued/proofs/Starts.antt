@@ -74,7 +74,8 @@ rising-numbers (k ∷ l) a =
 numbers-one : (r : Removal) → Ascending (by (λ k. k)) (listed_in r) → numbers_of (r ∷ []) ≡ map (key_number 0) (listed_in r)
 unfolding flat_from
 numbers-one r rising =
-    same-members (by-strict (λ n. n)) (numbers_of (r ∷ [])) (map (key_number 0) (listed_in r)) (order-ascends (map (key_number 0) (listed_in r) ++ []))
+    same-members (by-strict (λ n. n)) (numbers_of (r ∷ [])) (map (key_number 0) (listed_in r))
+    (order-ascends (map (key_number 0) (listed_in r) ++ []))
     (rising-numbers (listed_in r) rising)
     (λ x i. back x (order-from-list (map (key_number 0) (listed_in r) ++ []) x i))
     (λ x i. order-has (map (key_number 0) (listed_in r) ++ []) x (rw (append-nil (map (key_number 0) (listed_in r))) i))

@@ -1,5 +1,6 @@
 // The waiting removals of an image where they lie: their clocks, and what those that list a key leave of a clock.
 #![tactic(auto)]
+
 ghost use Rattle.std.specs.Prelude.{◌≡◌, List, [], ℕ, ◌+◌, ◌*◌, ◌≤◌, ◌<◌, length, get_or};
 ghost use Rattle.clock.specs.declared.Dot.{Dot};
 ghost use Rattle.limits.specs.Limits.{dot_limit, waiting_limit};

@@ -66,10 +66,10 @@ fn row(
     theirs: [u8; WAITING],
 ) -> Row
     requires { ((i ≤ n) × (n * 16 ≤ length s.now)) × (((j ≤ m) × (m * 16 ≤ length t.now)) × (ltb i n || ltb j m ≡ true)) }
-    ensures* { λ r. ⌜ ((i ≤ r.i) × ((r.i ≤ n) × ((j ≤ r.j) × ((r.j ≤ m) × (i + j < r.i + r.j)))))
-        × ((low : ℕ) (w v result : List Removal) → Keyed s.now i n (key_number 0 low) w → Keyed t.now j m (key_number 0 low) v
-        → Moves w v result ours theirs
-        → RowLies s.now n t.now m low w v result r) ⌝ }
+    ensures { ((i ≤ result.i) × ((result.i ≤ n) × ((j ≤ result.j) × ((result.j ≤ m) × (i + j < result.i + result.j)))))
+        × ((low : ℕ) (w v united : List Removal) → Keyed s.now i n (key_number 0 low) w → Keyed t.now j m (key_number 0 low) v
+        → Moves w v united ours theirs
+        → RowLies s.now n t.now m low w v united result) }
 {
     let a = head(s, i, n);
     let b = head(t, j, m);
@@ -128,10 +128,10 @@ pub fn write_keys(
 ) -> usize
     requires { (w v result : List Removal) × Keyed s.now from n 0 w × Keyed t.now start m 0 v × Moves w v result ours theirs
         × (length result ≤ waiting_limit) × (at + length (waiting_keys result) * 16 ≤ length out.old) }
-    ensures* { λ next. ⌜ ((w v result : List Removal) → Keyed s.now from n 0 w → Keyed t.now start m 0 v
-        → Moves w v result ours theirs → length result ≤ waiting_limit
-        → at + length (waiting_keys result) * 16 ≤ length out.old
-        → Wrote at (bytes_of (waiting_keys result)) out.old out.new next) ⌝ }
+    ensures { ((w v united : List Removal) → Keyed s.now from n 0 w → Keyed t.now start m 0 v
+        → Moves w v united ours theirs → length united ≤ waiting_limit
+        → at + length (waiting_keys united) * 16 ≤ length out.old
+        → Wrote at (bytes_of (waiting_keys united)) out.old out.new result) }
 {
     let mut next = at;
     let mut i = from;
@@ -182,8 +182,8 @@ fn add_row(counts: [usize; WAITING], under: [bool; WAITING]) -> [usize; WAITING]
 
 // Whether a removal has too many keys.
 fn any_long(counts: [usize; WAITING]) -> bool
-    ensures* { λ b. ⌜ ((result : List Removal) → length result ≤ waiting_limit
-        → ((p : ℕ) → p < waiting_limit → get_or counts p 0 ≡ length (keys_at result p)) → b ≡ some overlong result) ⌝ }
+    ensures { ((united : List Removal) → length united ≤ waiting_limit
+        → ((p : ℕ) → p < waiting_limit → get_or counts p 0 ≡ length (keys_at united p)) → result ≡ some overlong united) }
 {
     let mut i: usize = 0;
     while i < WAITING {
@@ -209,9 +209,9 @@ pub fn count_keys(
 ) -> KeyTotals
     requires { (w v result : List Removal) × Keyed s.now from n 0 w × Keyed t.now start m 0 v × Moves w v result ours theirs
         × (length result ≤ waiting_limit) }
-    ensures* { λ r. ⌜ ((w v result : List Removal) → Keyed s.now from n 0 w → Keyed t.now start m 0 v
-        → Moves w v result ours theirs → length result ≤ waiting_limit → SoundRemovals result
-        → (r.over ≡ some overlong result) × (r.total ≡ length (waiting_keys result))) ⌝ }
+    ensures { ((w v united : List Removal) → Keyed s.now from n 0 w → Keyed t.now start m 0 v
+        → Moves w v united ours theirs → length united ≤ waiting_limit → SoundRemovals united
+        → (result.over ≡ some overlong united) × (result.total ≡ length (waiting_keys united))) }
 {
     let mut total: usize = 0;
     let mut counts: [usize; WAITING] = [0; WAITING];

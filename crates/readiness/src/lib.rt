@@ -1,5 +1,6 @@
 // The guard that is asked before an update is applied, on a map's clock.
 #![tactic(auto)]
+
 ghost use Rattle.std.specs.Prelude.{◌≡◌, ◌<◌};
 ghost use Rattle.clock.specs.Dots.{dots_of};
 ghost use Rattle.readiness.specs.Ready.{needed, first_lacking, ready_under, ready_at};

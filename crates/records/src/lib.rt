@@ -1,5 +1,6 @@
 // Records of 16 bytes in a lent slice, and the twelve kinds of record.
 #![tactic(auto)]
+
 ghost use Rattle.std.specs.Prelude.{◌≡◌, ◌+◌, ◌*◌, ◌≤◌, ◌<◌, length};
 ghost use Rattle.records.specs.Bytes.{num_at, num_bytes, placed, flag_of};
 ghost use Rattle.records.specs.Records.{record_from, record_bytes};

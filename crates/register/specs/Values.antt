@@ -1,5 +1,5 @@
 -- Registers, in the words and order of 01 "Register": an ordered list of values, of any length, each under a clock.
-use Rattle.std.specs.Prelude.{Bool, true, false, not, cond, List, [], ◌∷◌, ◌++◌, map, ℕ, length, take}
+use Rattle.std.specs.Prelude.{Bool, true, false, not, cond, List, [], ◌∷◌, ◌++◌, map, length, take}
 use Rattle.listlaws.specs.Pad.{pad}
 use Rattle.listlaws.specs.Sift.{sift, those}
 use Rattle.listlaws.specs.First.{some}

@@ -1,5 +1,6 @@
 // Registers: concurrent values in order, each under a clock. The Rust's mvreg.rs, on arrays with a count, by value.
 #![tactic(auto)]
+
 ghost use Rattle.std.specs.Prelude.{◌≡◌, List, [], ◌∷◌, ◌++◌, map, ◌≤◌, ◌<◌, ◌+◌, length};
 ghost use Rattle.listlaws.specs.Sift.{those};
 ghost use Rattle.clock.specs.Dots.{dots_of, fitted};

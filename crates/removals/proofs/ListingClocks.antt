@@ -86,7 +86,8 @@ over-reached : {c : List Dot} (ws : List Removal) → Lawful c → Clocked ws �
     → (counter_in (over c ws) a ≡ counter_in c a) ⊎ ((w : Removal) × (w ∈ ws) × (counter_in (over c ws) a ≡ counter_in (under_of w) a))
 unfolding fold
 over-reached [] h f a = inl refl
-over-reached {c} (w ∷ ws) h f a = go (over-reached {c = join_dots c (under_of w)} ws (lawful-join h k) (tail-clocked f) a) (ltb (counter_in c a) (counter_in (under_of w) a)) refl
+over-reached {c} (w ∷ ws) h f a = go (over-reached {c = join_dots c (under_of w)} ws (lawful-join h k) (tail-clocked f) a)
+    (ltb (counter_in c a) (counter_in (under_of w) a)) refl
   where
     k : Lawful (under_of w)
     k = f w (Memᴰ.head refl)
@@ -119,7 +120,8 @@ module _ {ws : List Removal} (f : Clocked ws) (k : ℕ) where
       over-each (those (λ v. listed (listed_in v) k) ws) lawful-nil among a w (those-holds (λ v. listed (listed_in v) k) i t)
 
   -- and the least such
-  pub sup_least : (a n : ℕ) → ((w : Removal) → w ∈ ws → listed (listed_in w) k ≡ true → counter_in (under_of w) a ≤ n) → counter_in (sup_of ws k) a ≤ n
+  pub sup_least : (a n : ℕ) → ((w : Removal) → w ∈ ws → listed (listed_in w) k ≡ true → counter_in (under_of w) a ≤ n)
+      → counter_in (sup_of ws k) a ≤ n
   unfolding sup_of
   sup_least a n g =
       over-least (those (λ v. listed (listed_in v) k) ws) lawful-nil among a n (omega (arith, counter-nil a))

@@ -64,7 +64,8 @@ valid-one {r} v n = record {
   some = λ s i. let same : s ≡ r = Memᴰ.eq_of_singleton i in rw same n;
 }
 
-pub valid-unite-into : {l : List Removal} {r : Removal} → ValidWaiting l → ValidRemoval r → is_empty (under_of r) ≡ false → ValidWaiting (unite_into l r)
+pub valid-unite-into : {l : List Removal} {r : Removal} → ValidWaiting l → ValidRemoval r → is_empty (under_of r) ≡ false
+    → ValidWaiting (unite_into l r)
 valid-unite-into v w n = unite-valid v (valid-one w n)
 
 -- removals under clocks that are not empty

@@ -1,5 +1,6 @@
 // Sets of keys, and removals of keys under a clock, which wait until a map's clock covers theirs; on arrays with a count, by value.
 #![tactic(auto)]
+
 mod by_clock;
 mod key_sets;
 

@@ -1,10 +1,13 @@
 // Replays a sample of the oracle's answers: makes each call of the file on the file's images, those that change a map also in their plain
 // form, and counts the answers that differ from the file's.
 #![tactic(auto)]
+
 mod calls;
 
-use libc::STDIN_FILENO;
+ghost use Rattle.std.specs.Prelude.{◌≡◌, length};
+
 use questions::{BUFFER, Question};
+use std::io;
 use tally::PLACES;
 
 // Every byte of an output buffer before a call.
@@ -28,7 +31,7 @@ fn agrees(
     (word == asked.word) & questions::same(&out, wanted)
 }
 
-fn replay(file: &[u8]) {
+fn replay(rt: &impl Print, file: &[u8]) -> io::Result<()> {
     let mut first = [0u8; BUFFER];
     let mut second = [0u8; BUFFER];
     let mut cases = [0u64; PLACES];
@@ -79,17 +82,26 @@ fn replay(file: &[u8]) {
             );
         }
     }
-    tally::print_calls(&cases, &differences, &first_case);
-    tally::print_numbers(&numbers);
+    tally::print_calls(rt, &cases, &differences, &first_case)?;
+    tally::print_numbers(rt, &numbers)
 }
 
 // The longest file.
 const LONGEST: usize = 524288;
 
 // One byte more than the file may have is read, so that a longer one is seen to be longer.
-fn main() {
-    let mut space = [0u8; LONGEST + 1];
-    let n = io::read_full(STDIN_FILENO, &mut space);
-    replay(&space[..n]);
-    tally::print_file(n, questions::sum(&space[..n]));
+const ROOM: usize = LONGEST + 1;
+
+// Zeros. The contract says their number alone, so that no proof above writes them out.
+fn room() -> [u8; ROOM]
+    ensures { 524289 ≡ length result }
+{
+    [0u8; ROOM]
+}
+
+fn main(rt: HostRuntime) -> io::Result<()> {
+    let mut space = room();
+    let n = input::read_full(&mut rt.stdin(), &mut space);
+    replay(&rt, &space[..n])?;
+    tally::print_file(&rt, n, questions::sum(&space[..n]))
 }

@@ -12,7 +12,8 @@ pub dots-none : (s : List ℕ) → map dot_of (records_from s 0 0) ≡ []
 unfolding records_from
 dots-none s = refl
 
-pub dots-next : (s : List ℕ) (i : ℕ) → map dot_of (records_from s 0 (i + 1)) ≡ map dot_of (records_from s 0 i) ++ (dot_of (record_from s (i * 16)) ∷ [])
+pub dots-next : (s : List ℕ) (i : ℕ) → map dot_of (records_from s 0 (i + 1)) ≡ map dot_of (records_from s 0 i)
+    ++ (dot_of (record_from s (i * 16)) ∷ [])
 unfolding records_from
 dots-next s i =
     let e : 0 + i * 16 ≡ i * 16 = omega arith in

@@ -1,5 +1,6 @@
 // What a run of records says: slices that start with a record and hold whole ones.
 #![tactic(auto)]
+
 ghost use Rattle.std.specs.Prelude.{◌≡◌, ◌+◌, ◌*◌, ◌≤◌, length};
 ghost use Rattle.limits.specs.Limits.{dot_limit};
 ghost use Rattle.clock.specs.Dots.{clock_of};

@@ -117,7 +117,8 @@ module _ (marks s : List ℕ) (room : length s / 16 ≤ length marks) where
         (get_or-map (λ z. (fate_of z).step) (marked_of marks s) i no_marked ∙ step_is (get_or (marked_of marks s) i no_marked)
         ∙ ap (λ (z : MarkedRecord). cond (ltb z.mark 8) z.mark 5) (marked-at marks s room i h)))
 
-    pub told_here : (get_or marks i 0 ≡ 0 → ⊥) → told_after marks s i ≡ record { place = i; step = cond (ltb (get_or marks i 0) 8) (get_or marks i 0) 5 }
+    pub told_here : (get_or marks i 0 ≡ 0 → ⊥) → told_after marks s i
+        ≡ record { place = i; step = cond (ltb (get_or marks i 0) 8) (get_or marks i 0) 5 }
         ∷ told_after marks s (i + 1)
     unfolding told_from
     told_here n = ap (told_from i) step ∙ rw (ne_eqb (cond (ltb (get_or marks i 0) 8) (get_or marks i 0) 5) 0 (other (ltb (get_or marks i 0) 8)))

@@ -1,5 +1,6 @@
 // The salvage of a damaged image: an accepted image of what can be kept, and a report of every record that was removed or changed.
 #![tactic(auto)]
+
 ghost use Rattle.std.specs.Prelude.{◌≡◌, cond, [], ◌∷◌, ℕ, ◌+◌, ◌*◌, ◌/◌, ◌≤◌, ◌<◌, ltb, length, get_or};
 ghost use Rattle.records.specs.Bytes.{num_bytes};
 ghost use Rattle.records.specs.Records.{records_of, bytes_of};

@@ -230,9 +230,11 @@ module _ (l m : List Record) (z : scan_number 1 6 l ≡ 0) (s : MapSentences l) 
       where
         again : {a b c d e f : List Record} → a ≡ b → c ≡ d → e ≡ f
             → entry_as key (map dot_of a)
-            (places_from (λ place r. record { clock = clock_of (map dot_of (those (λ (q : Record). eqb q.index place) e)); value = content_of r }) 0 c)
+            (places_from (λ place r. record { clock = clock_of (map dot_of (those (λ (q : Record). eqb q.index place) e)); value = content_of r }) 0
+            c)
             ≡ entry_as key (map dot_of b)
-            (places_from (λ place r. record { clock = clock_of (map dot_of (those (λ (q : Record). eqb q.index place) f)); value = content_of r }) 0 d)
+            (places_from (λ place r. record { clock = clock_of (map dot_of (those (λ (q : Record). eqb q.index place) f)); value = content_of r }) 0
+            d)
         again p q w i =
             entry_as key (map dot_of (p i))
             (places_from (λ place r. record {

@@ -221,11 +221,13 @@ module _ (k : List Record) where
   abbrev pub same_clock : ℕ → ℕ → Type 0
   same_clock i j = waiting_clock k i ≡ waiting_clock k j
 
-  pub lowest-means : (i : ℕ) → is_lowest k i ≡ true → (j : ℕ) → j ∈ waiting_indexes k → j < i → same_dots (waiting_clock k j) (waiting_clock k i) ≡ false
+  pub lowest-means : (i : ℕ) → is_lowest k i ≡ true → (j : ℕ) → j ∈ waiting_indexes k → j < i → same_dots (waiting_clock k j) (waiting_clock k i)
+      ≡ false
   unfolding is_lowest
   lowest-means i t j m h = rw (lt-ltb j i h) at (none-means (shares_below k i) (waiting_indexes k) t j m)
 
-  pub lowest-of : (i : ℕ) → ((j : ℕ) → j ∈ waiting_indexes k → j < i → same_dots (waiting_clock k j) (waiting_clock k i) ≡ false) → is_lowest k i ≡ true
+  pub lowest-of : (i : ℕ) → ((j : ℕ) → j ∈ waiting_indexes k → j < i → same_dots (waiting_clock k j) (waiting_clock k i) ≡ false) → is_lowest k i
+      ≡ true
   unfolding is_lowest
   lowest-of i h =
       none-holds (shares_below k i) (waiting_indexes k)
@@ -266,7 +268,8 @@ module _ (k : List Record) where
       last true = refl
       last false = refl
 
-  pub index-rises : (i j : ℕ) → i ∈ waiting_indexes k → clock_before (waiting_clock k i) (waiting_clock k j) ≡ true → waiting_index k i < waiting_index k j
+  pub index-rises : (i j : ℕ) → i ∈ waiting_indexes k → clock_before (waiting_clock k i) (waiting_clock k j) ≡ true
+      → waiting_index k i < waiting_index k j
   unfolding waiting_index
   index-rises i j m t =
       let (x, a, b, e) = lowest-has i m in
@@ -332,7 +335,8 @@ module _ (k : List Record) where
     row_counts : (i : ℕ) → waiting_index k i ≡ length (those (λ x. clock_first x i) row)
     unfolding waiting_index
     row_counts i =
-        ap length (sym (those-those (λ x. clock_first x i) (is_lowest k) (waiting_indexes k))) ∙ sym (order-count clock_first (λ x. clock_first x i) lows)
+        ap length (sym (those-those (λ x. clock_first x i) (is_lowest k) (waiting_indexes k)))
+        ∙ sym (order-count clock_first (λ x. clock_first x i) lows)
 
     pub index-filled : (i n : ℕ) → n < waiting_index k i → (j : ℕ) × (j ∈ waiting_indexes k) × (is_lowest k j ≡ true) × (waiting_index k j ≡ n)
     index-filled i n h =

@@ -1,8 +1,10 @@
 // Mends a damaged map image from standard input: the mended image goes to standard output, and a line for each record that was removed
 // or changed to standard error.
 #![tactic(auto)]
-use libc::{STDERR_FILENO, STDIN_FILENO, STDOUT_FILENO};
+
 use mapimage::MAP_LONGEST;
+use std::io;
+use std::io::Read;
 
 // Room for one byte more than the longest image.
 const ROOM: usize = MAP_LONGEST + 1;
@@ -10,104 +12,108 @@ const ROOM: usize = MAP_LONGEST + 1;
 // Room for the report of so many bytes: five for each record, and for a part of one.
 const REPORT: usize = (MAP_LONGEST / 16 + 1) * 5;
 
-fn say(words: &[u8]) {
-    io::write_all(STDERR_FILENO, words);
+fn say(to: &impl Print, words: &[u8]) -> io::Result<()> {
+    to.write_all(words)
 }
 
 // What a step does.
-fn say_step(step: u8) {
+fn say_step(to: &impl Print, step: u8) -> io::Result<()> {
     if step == 1 {
-        say(b"removed: only a part of a record\n");
-        return;
+        return say(to, b"removed: only a part of a record\n");
     }
     if step == 2 {
-        say(b"removed: bad by itself\n");
-        return;
+        return say(to, b"removed: bad by itself\n");
     }
     if step == 3 {
-        say(b"removed: not above the last one kept\n");
-        return;
+        return say(to, b"removed: not above the last one kept\n");
     }
     if step == 4 {
-        say(b"removed: what it needs is missing, or its limit is full\n");
-        return;
+        return say(
+            to,
+            b"removed: what it needs is missing, or its limit is full\n",
+        );
     }
-    say(b"another index, or removed: its waiting clock is united with an equal one\n");
+    say(
+        to,
+        b"another index, or removed: its waiting clock is united with an equal one\n",
+    )
 }
 
 // A line for a record of a report.
-fn say_told(place: u64, step: u8) {
-    say(b"record ");
-    io::print_decimal(STDERR_FILENO, place);
-    say(b", step ");
-    io::print_decimal(STDERR_FILENO, step as u64);
-    say(b", ");
-    say_step(step);
+fn say_told(to: &impl Print, place: u64, step: u8) -> io::Result<()> {
+    say(to, b"record ")?;
+    to.print(place)?;
+    say(to, b", step ")?;
+    to.print(step)?;
+    say(to, b", ")?;
+    say_step(to, step)
 }
 
 // A line for each record of a report.
-fn say_report(report: &[u8]) {
-    let n = report.len() / 5;
-    let mut i = 0;
-    while i < n {
-        say_told(records::read32(report, i * 5) as u64, report[i * 5 + 4]);
-        i += 1;
+fn say_report(to: &impl Print, report: &[u8]) -> io::Result<()> {
+    for i in 0..report.len() / 5 {
+        say_told(to, records::read32(report, i * 5) as u64, report[i * 5 + 4])?;
     }
+    Ok(())
 }
 
 // Whether a file has ended: a read that fails, as one that brings more, says that it has not.
-fn ended(file: i32) -> bool {
+fn ended(file: &mut impl Read) -> bool {
     let mut more = [0u8; 1];
-    let got = libc::read(file, &mut more);
-    got == 0
+    match file.read(&mut more) {
+        Ok(got) => got == 0,
+        Err(_) => false,
+    }
 }
 
 // Writes the first n bytes of an image.
-fn put_image(out: &[u8], n: usize) {
+fn put_image(to: &impl Print, out: &[u8], n: usize) -> io::Result<()> {
     if out.len() < n {
-        return;
+        return Ok(());
     }
-    io::write_all(STDOUT_FILENO, &out[..n]);
+    to.write_all(&out[..n])
 }
 
 // Says the first n bytes of a report.
-fn put_report(told: &[u8], n: usize) {
+fn put_report(to: &impl Print, told: &[u8], n: usize) -> io::Result<()> {
     if told.len() < n {
-        return;
+        return Ok(());
     }
-    say_report(&told[..n]);
+    say_report(to, &told[..n])
 }
 
-fn write_image(image: &[u8], out: &mut [u8]) {
+fn write_image(to: &impl Print, image: &[u8], out: &mut [u8]) -> io::Result<()> {
     let word = salvage::castribba_salvage(image, out);
-    put_image(out, word as usize);
+    put_image(to, out, word as usize)
 }
 
-fn write_report(image: &[u8], told: &mut [u8]) {
+fn write_report(to: &impl Print, image: &[u8], told: &mut [u8]) -> io::Result<()> {
     let word = salvage::castribba_salvage_report(image, told);
-    put_report(told, word as usize);
+    put_report(to, told, word as usize)
 }
 
-fn mend(image: &[u8]) {
+fn mend(rt: &HostRuntime, image: &[u8]) -> io::Result<()> {
     if MAP_LONGEST < image.len() {
-        say(b"refused: longer than an image can be\n");
-        return;
+        return say(&rt.stderr(), b"refused: longer than an image can be\n");
     }
     let mut out = [0u8; MAP_LONGEST];
-    write_image(image, &mut out);
+    write_image(rt, image, &mut out)?;
     let mut told = [0u8; REPORT];
-    write_report(image, &mut told);
+    write_report(&rt.stderr(), image, &mut told)
 }
 
 // One byte more than the longest image is read, so that a longer file is seen to be longer.
-fn main() {
+fn main(rt: HostRuntime) -> io::Result<()> {
     let mut space = [0u8; ROOM];
-    let n = io::read_full(STDIN_FILENO, &mut space);
+    let mut stdin = rt.stdin();
+    let n = input::read_full(&mut stdin, &mut space);
     if n < ROOM {
-        if !ended(STDIN_FILENO) {
-            say(b"salvager: the input could not be read to its end\n");
-            return;
+        if !ended(&mut stdin) {
+            return say(
+                &rt.stderr(),
+                b"salvager: the input could not be read to its end\n",
+            );
         }
     }
-    mend(&space[..n]);
+    mend(&rt, &space[..n])
 }

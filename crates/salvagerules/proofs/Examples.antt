@@ -112,12 +112,14 @@ torn : List ℕ
 torn = 1 ∷ 0 ∷ 1 ∷ 0 ∷ 0 ∷ 0 ∷ 0 ∷ 0 ∷ 0 ∷ 0 ∷ 0 ∷ 0 ∷ 0 ∷ 0 ∷ 0 ∷ 0 ∷ 1 ∷ 0 ∷ 1 ∷ 0 ∷ 0 ∷ 0 ∷ 0 ∷ 0 ∷ 9 ∷ 0 ∷ 0 ∷ 0 ∷ 0 ∷ 0 ∷ 0 ∷ 0 ∷ 4 ∷ 4 ∷ []
 
 torn-image : salvaged_image torn ≡ 1 ∷ 0 ∷ 1 ∷ 0 ∷ 0 ∷ 0 ∷ 0 ∷ 0 ∷ 9 ∷ 0 ∷ 0 ∷ 0 ∷ 0 ∷ 0 ∷ 0 ∷ 0 ∷ []
-unfolding torn salvaged_image record_from records_from bytes_of sift fold first_in clock_before record_ok before every each_after count_after tally taken_after
+unfolding torn salvaged_image record_from records_from bytes_of sift fold first_in clock_before record_ok before every each_after count_after tally
+    taken_after
     waiting_indexes same_dots is_lowest waiting_index step_two step_three step_four step_five fates_of insert_by in_order_by salvaged
 torn-image = refl
 
 torn-report : salvage_report torn ≡ 0 ∷ 0 ∷ 0 ∷ 0 ∷ 2 ∷ 2 ∷ 0 ∷ 0 ∷ 0 ∷ 1 ∷ []
-unfolding torn salvage_report told_from steps_of told_of told_bytes record_from records_from bytes_of sift fold first_in clock_before record_ok before every
+unfolding torn salvage_report told_from steps_of told_of told_bytes record_from records_from bytes_of sift fold first_in clock_before record_ok
+    before every
     each_after count_after tally taken_after waiting_indexes same_dots is_lowest waiting_index step_two step_three step_four step_five fates_of
 torn-report = refl
 
@@ -126,6 +128,7 @@ dot : List ℕ
 dot = 1 ∷ 0 ∷ 1 ∷ 0 ∷ 0 ∷ 0 ∷ 0 ∷ 0 ∷ 9 ∷ 0 ∷ 0 ∷ 0 ∷ 0 ∷ 0 ∷ 0 ∷ 0 ∷ []
 
 dot-report : salvage_report dot ≡ []
-unfolding dot salvage_report told_from steps_of told_of told_bytes record_from records_from bytes_of sift fold first_in clock_before record_ok before every
+unfolding dot salvage_report told_from steps_of told_of told_bytes record_from records_from bytes_of sift fold first_in clock_before record_ok before
+    every
     each_after count_after tally taken_after waiting_indexes same_dots is_lowest waiting_index step_two step_three step_four step_five fates_of
 dot-report = refl

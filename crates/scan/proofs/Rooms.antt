@@ -160,7 +160,8 @@ module _ (low high : ℕ) (l : List Record) (r : Record) (w : well_formed low hi
       fewer (same_middle r) inner (limit_at inner_limits r.kind) tells
       (both (same_outer r r) (eqb (middle r) (middle r)) (alike-outer r r plain refl refl) (eq-eqb (middle r) (middle r) refl)) inner-few
     where
-      tells : (s x : Record) → Before s x → record_ok low high x ≡ true → same_middle r s ≡ true → same_middle r x ≡ true → actor_of s ≡ actor_of x → ⊥
+      tells : (s x : Record) → Before s x → record_ok low high x ≡ true → same_middle r s ≡ true → same_middle r x ≡ true → actor_of s ≡ actor_of x
+          → ⊥
       tells s x b o gs gx e =
           let hs = alike r s plain (both_left (same_outer r s) (eqb (middle s) (middle r)) gs) in
           let hx = alike r x plain (both_left (same_outer r x) (eqb (middle x) (middle r)) gx) in

@@ -21,7 +21,8 @@ use Rattle.scan.proofs.Eachs.{both_left, both_right, both, decide, each_snoc, ev
 use Rattle.scan.proofs.Befores.{Before, before-fields, fields-before, before-trans}
 use Rattle.scan.proofs.Tallies.{tally-step}
 
-pub formed-snoc : (low high : ℕ) (l : List Record) (r : Record) → well_formed low high (l ++ (r ∷ [])) ≡ well_formed low high l && follows low high l r
+pub formed-snoc : (low high : ℕ) (l : List Record) (r : Record) → well_formed low high (l ++ (r ∷ [])) ≡ well_formed low high l
+    && follows low high l r
 unfolding well_formed
 formed-snoc low high l r = each_snoc (follows low high) l r
 

@@ -2,7 +2,7 @@
 use Rattle.std.specs.Prelude.{ℕ, ◌+◌, Bool, true, false, cond, not, ◌&&◌, ◌||◌, ltb, eqb}
 use Rattle.records.specs.declared.Record.{Record}
 use Rattle.records.specs.Kinds.{record_ok, before, waiting_key_kind}
-use Rattle.scan.specs.Limits.{outer, middle, inner, within_limits}
+use Rattle.scan.specs.Limits.{within_limits}
 use Rattle.scan.specs.declared.Scan.{Scan}
 
 -- the waiting keys under an index, with a record of a kind

@@ -1,5 +1,6 @@
 // What the records of an image show one after the other, before any is given a meaning: bad order (1), an excess (2).
 #![tactic(auto)]
+
 ghost use Rattle.std.specs.Prelude.{◌≡◌, List, [], ◌∷◌, ◌++◌, cond, eqb, ℕ};
 ghost use Rattle.records.specs.declared.Record.{Record};
 ghost use Rattle.records.specs.Kinds.{waiting_key_kind};

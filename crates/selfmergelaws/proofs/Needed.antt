@@ -99,8 +99,10 @@ record Computed : Type 0 where
   overtaken-fits : over_number overtaken ≡ 0
 
 computed : Computed
-unfolding pad sift first_in fold weave is_empty counter_in covers order_of cut_dots join_dots common_dots yields outdone cut_values ours_left merge_values
-    cut_entry listed remove_from remove_entries waits clock_before union_keys unite_all remove afresh cut_alone alone keep_dots merge_both together flatten
+unfolding pad sift first_in fold weave is_empty counter_in covers order_of cut_dots join_dots common_dots yields outdone cut_values ours_left
+    merge_values
+    cut_entry listed remove_from remove_entries waits clock_before union_keys unite_all remove afresh cut_alone alone keep_dots merge_both together
+    flatten
     merge_entries merge over_dots over_entries over_values over_waiting over_keys over_number
 computed = record {
   outdated-merged = refl;

@@ -1,5 +1,5 @@
 -- What stands on both sides: a list woven with itself, and a clock, a register, an entry, a removal met with itself.
-use mathlib.Core.Path.{◌≡◌, refl, ap, ap₂, sym, ◌∙◌}
+use mathlib.Core.Path.{◌≡◌, refl, ap, sym, ◌∙◌}
 use mathlib.Core.Bool.{Bool, true, false, not}
 use mathlib.Core.List.{List, [], ◌∷◌, ◌++◌, map, map-id, append-nil}
 use Prim.Native.Nat.{ℕ}

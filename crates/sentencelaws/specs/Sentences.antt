@@ -5,7 +5,8 @@ use Rattle.clock.specs.Dots.{counter_in}
 use Rattle.removals.specs.Waits.{clock_before}
 use Rattle.records.specs.declared.Record.{Record}
 use Rattle.records.specs.Records.{records_of}
-use Rattle.records.specs.Kinds.{entry_dot_kind, value_kind, value_dot_kind, waiting_dot_kind, waiting_key_kind, removal_kind, removal_dot_kind, removal_key_kind}
+use Rattle.records.specs.Kinds.{entry_dot_kind, value_kind, value_dot_kind, waiting_dot_kind, waiting_key_kind, removal_kind, removal_dot_kind}
+use Rattle.records.specs.Kinds.{removal_key_kind}
 use Rattle.records.specs.Kinds.{update_kind, put_value_kind, put_dot_kind}
 use Rattle.scan.specs.Formed.{well_formed}
 use Rattle.scan.specs.Limits.{within}

@@ -90,7 +90,8 @@ drawn_all s t sk = map (drawn s t) (items_of sk)
 
 -- the records of entries: dots, values, values' dots
 abbrev pub sections_of : List Entry → List Record
-sections_of l = flat_from (entry_records entry_dot_kind) 0 l ++ (flat_from (entry_records value_kind) 0 l ++ flat_from (entry_records value_dot_kind) 0 l)
+sections_of l = flat_from (entry_records entry_dot_kind) 0 l
+    ++ (flat_from (entry_records value_kind) 0 l ++ flat_from (entry_records value_dot_kind) 0 l)
 
 -- what is promised of an entry in a sketch, of a key, a clock and values: how many values, and the values where they are within the limit
 pub record Draws (s t : List ℕ) (key : ℕ) (d : List Dot) (l : List Value) (k : Sketched) : Type 0 where

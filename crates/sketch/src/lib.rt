@@ -1,5 +1,6 @@
 // The entries of a result: where they lie in the images that they are drawn from, how many records they have, and their image.
 #![tactic(auto)]
+
 pub mod apart;
 pub mod counting;
 pub mod growing;

@@ -1,5 +1,6 @@
 // The entries of an update, drawn from the map's image and the operation's where they lie.
 #![tactic(auto)]
+
 pub mod drawing;
 pub mod stepping;
 

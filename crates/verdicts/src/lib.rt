@@ -1,5 +1,6 @@
 // Both validations and the guard over images, and the numbers that they and the count carry.
 #![tactic(auto)]
+
 ghost use Rattle.std.specs.Prelude.{◌≡◌};
 ghost use Rattle.asking.specs.Asking.{order_number, order_start, order_end, spent_number};
 ghost use Rattle.promises.specs.Calls.{spent_actor, spent_counter, spent_ours, spent_theirs};

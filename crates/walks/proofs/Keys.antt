@@ -108,7 +108,8 @@ one-at-least r l c h = let k = rw (eq-eqb r.index r.index refl) at h in omega ar
 
 pub keys-hold : (n : ℕ) (counts : List ℕ) (low : ℕ) (l : List Record) → ((r : Record) → r ∈ l → KeyFields n r) → Ascending (by rank) l
     → ((r : Record) → r ∈ l → low ≤ rank r)
-    → ((j : ℕ) → j < length counts → get_or counts j 0 + length (those (under_one j) l) ≤ key_limit) → n ≤ length counts → keys_good n counts low l ≡ true
+    → ((j : ℕ) → j < length counts → get_or counts j 0 + length (those (under_one j) l) ≤ key_limit) → n ≤ length counts → keys_good n counts low l
+    ≡ true
 unfolding keys_good
 keys-hold n counts low [] f a g few z = refl
 keys-hold n counts low (r ∷ l) f a g few z =

@@ -186,7 +186,8 @@ module _ (c : List Dot) (s : List ℕ) (start third fourth fifth : ℕ) where
   enter-start = record { left = refl }
 
   module _ {own values dots n low : ℕ} (h : Entering c s start third fourth fifth own values dots n low) where
-    module _ (r : Record) (q : ℕ) (v : Passed) (e : r ≡ record_from s (own * 16)) (f : q ≡ run_end (own_test c r.key) 0 dot_limit 0 (part s own third))
+    module _ (r : Record) (q : ℕ) (v : Passed) (e : r ≡ record_from s (own * 16))
+        (f : q ≡ run_end (own_test c r.key) 0 dot_limit 0 (part s own third))
         (g : v ≡ values_end r.key value_limit 0 0 (part s values fourth) (part s dots fifth)) (few : n < entry_limit) (inside : own < third) where
       some : is_none (part s own third) ≡ false
       some = part_none s own third (omega arith) ∙ ne_eqb own third (λ e. omega arith)

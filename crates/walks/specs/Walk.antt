@@ -1,5 +1,6 @@
 -- An image's records walked section by section: how far a run of dots goes, the values of a key, the entries.
-use Rattle.std.specs.Prelude.{ℕ, zero, suc, ◌+◌, ◌*◌, ◌-◌, ◌≤◌, ◌<◌, Bool, true, false, cond, ◌&&◌, List, [], ◌∷◌, map, eqb, ltb, leb, length, take, drop, get_or, set}
+use Rattle.std.specs.Prelude.{ℕ, zero, suc, ◌+◌, ◌*◌, ◌-◌, ◌≤◌, ◌<◌, Bool, true, false, cond, ◌&&◌, List, [], ◌∷◌, map, eqb, ltb, leb, length, take}
+use Rattle.std.specs.Prelude.{drop, get_or, set}
 use Rattle.clock.specs.declared.Dot.{Dot}
 use Rattle.limits.specs.Limits.{dot_limit, value_limit, entry_limit, waiting_limit, key_limit}
 use Rattle.clock.specs.Dots.{counter_in}

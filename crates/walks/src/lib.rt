@@ -1,5 +1,6 @@
 // Walks along an image's records, section by section: how far a run of dots goes, the values of a key, the entries, what waits.
 #![tactic(auto)]
+
 ghost use Rattle.std.specs.Prelude.{◌≡◌, [], ℕ, ◌+◌, ◌*◌, ◌≤◌, ◌<◌, length, replicate};
 ghost use Rattle.limits.specs.Limits.{dot_limit, value_limit, entry_limit, waiting_limit};
 ghost use Rattle.clock.specs.Dots.{dots_of};

@@ -1,6 +1,5 @@
 -- `rises` meets its contract: each dot stands from the place behind the last actor on.
 use mathlib.Core.Path.{refl, sym, ◌∙◌}
-use Prim.Native.Nat.{◌-◌}
 use Rattle.clock.specs.Dots.{no_dot, dots_of}
 use Rattle.advance.proofs.Risings.{rising-stops, rising-goes, rising-end}
 use native.Mathlib.Omega.{arith}
@@ -20,8 +19,11 @@ returns-then-not-low-actor c =
 pub loop-i-preserved : goal.loop-i-preserved
 loop-i-preserved c =
     let s = c.before.before.before.before.before in
-    let a = s.args in
-    (omega arith, rising-goes a.clock.dots a.clock.len s.loop-i.i s.loop-i.low no_dot (omega arith) s.loop-i.invariant.1 (ap not c.if-not-low-actor.false))
+    let a = s.args in (
+      omega arith,
+      rising-goes a.clock.dots a.clock.len s.loop-i.i s.loop-i.low no_dot (omega arith) s.loop-i.invariant.1
+          (ap not c.if-not-low-actor.false),
+    )
 
 pub returns : goal.returns
 returns c =

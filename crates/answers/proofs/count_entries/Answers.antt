@@ -1,5 +1,4 @@
 -- `count_entries` meets its contract: the loop adds up what each has.
-use Prim.Native.Nat.{◌-◌}
 use Rattle.entries.specs.Model.{entries_of}
 use Rattle.entries.proofs.Packs.{none_read}
 use Rattle.answers.specs.Sizes.{entry_size}

@@ -1,5 +1,4 @@
 -- `count_values` meets its contract: the loop adds up what each has.
-use Prim.Native.Nat.{◌-◌}
 use Rattle.register.specs.Values.{values_of}
 use Rattle.register.proofs.Packs.{none_read}
 use Rattle.answers.specs.Sizes.{value_size}

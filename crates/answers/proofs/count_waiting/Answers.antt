@@ -1,5 +1,4 @@
 -- `count_waiting` meets its contract: the loop adds up what each has.
-use Prim.Native.Nat.{◌-◌}
 use Rattle.removals.specs.Model.{waiting_of}
 use Rattle.removals.proofs.Packs.{no_removal_read}
 use Rattle.answers.specs.Sizes.{removal_size}

@@ -2,11 +2,6 @@
 use native.Mathlib.Omega.{arith}
 use Rattle.answers.specs.Sizes.{map_size}
 use borrow.Author.Rules.{rules}
-use Rattle.answers.proofs.map_length.Reads as reads
-use Rattle.answers.proofs.map_length.Lts as lts
-use Rattle.answers.proofs.count_entries.Reads as count-entries-reads
-use Rattle.answers.proofs.count_waiting.Reads as count-waiting-reads
-use Rattle.clock.proofs.Clock.size.Reads as size-reads
 use Rattle.answers.proofs.map_length.Goals as goal
 
 pub size-requires : goal.size-requires

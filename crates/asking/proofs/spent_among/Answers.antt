@@ -1,6 +1,5 @@
 -- `spent_among` meets its contract: the loop looks for an entry that shares a dot.
 use mathlib.Core.Path.{sym, ◌∙◌}
-use Prim.Native.Nat.{◌-◌}
 use Rattle.entries.proofs.Packs.{none_read}
 use Rattle.asking.proofs.Askings.{searching-start, searching-here, searching-on, searching-end}
 use borrow.Author.Rules.{rules}

@@ -1,5 +1,4 @@
 -- `spent_under` meets its contract: the loop looks for a dot that both hold.
-use Prim.Native.Nat.{◌-◌}
 use borrow.Author.Tests.{eq-eqb, ne_eqb}
 use Rattle.listlaws.proofs.Passing.{passing-start, passing-here, passing-on, passing-end}
 use Rattle.clock.specs.Dots.{no_dot}

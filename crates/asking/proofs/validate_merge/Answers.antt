@@ -1,6 +1,5 @@
 -- `validate_merge` meets its contract: the loop looks for an entry of ours that shares a dot.
 use mathlib.Core.Path.{sym, ◌∙◌}
-use Prim.Native.Nat.{◌-◌}
 use Rattle.entries.proofs.Packs.{none_read}
 use Rattle.asking.specs.Asking.{validate_merge}
 use Rattle.asking.proofs.Askings.{searching-start, searching-here, searching-on, searching-end}

@@ -19,7 +19,8 @@ pub returns-then-count_operations-gt-OPERATIONS : goal.returns-then-count_operat
 returns-then-count_operations-gt-OPERATIONS c =
     let x = c.before.before.before in
     let y = x.before.before.before in
-    many-refused _ _ _ _ _ c.refused-then-count_operations-gt-OPERATIONS.ensures.0 c.refused-then-count_operations-gt-OPERATIONS.ensures.1 (sym y.lay_out-a.ensures.0 ∙ y.if-a-ne0.false)
+    many-refused _ _ _ _ _ c.refused-then-count_operations-gt-OPERATIONS.ensures.0 c.refused-then-count_operations-gt-OPERATIONS.ensures.1
+    (sym y.lay_out-a.ensures.0 ∙ y.if-a-ne0.false)
     (sym x.lay_out-b.ensures.0 ∙ x.if-b-ne0.false) refl
     (omega (arith, c.count_operations.ensures, c.if-count_operations-gt-OPERATIONS.true))
 

@@ -55,7 +55,7 @@ loop-at-preserved c =
     let n = c.operation_end-next in
     let t = c.step-w in (
       (n.ensures.within, omega (arith, n.ensures.past, l.invariant.0.1)),
-      (t.ensures.short c.if-w-ge4294967296.false, (omega (arith, t.auto.0, l.invariant.1), omega (arith, t.auto, l.invariant.1))),
+      (t.ensures.short c.if-w-ge4294967296.false, (omega (arith, t.auto.here, l.invariant.1), omega (arith, t.auto.there, l.invariant.1))),
       ran_on l.place _ _ _ (l.invariant.2 ∙ ap (outcome_from l.place (take l.left l.here)) n.ensures.cut) t.ensures c.if-w-ge4294967296.false,
     )
 

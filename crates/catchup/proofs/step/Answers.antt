@@ -17,7 +17,7 @@ copy_run-requires c =
     let z = c.before.before.before.before.before.before.before.before.before.before.before.before.before in
     let a = c.apply-w in
     let f = step_fits _ _ z.requires.1.1 a.ensures c.if-w-lt4294967296.true in
-    omega (arith, f, z.requires.1.0, length-take (a.result - 0) a.new.1.1.0)
+    omega (arith, f, z.requires.1.0, length-take (a.result - 0) a.new.out)
 
 pub returns-then-w-lt4294967296 : goal.returns-then-w-lt4294967296
 returns-then-w-lt4294967296 c =
@@ -26,7 +26,7 @@ returns-then-w-lt4294967296 c =
     let here = z.args.here.now in
     rw (part-first z.args.len here)
     (stepped _ _ z.requires.1.1 a.ensures here
-    (λ l. c.copy_run.ensures.left ∙ ap (λ s. placed 0 s here) (sym (part-first a.result a.new.1.1.0))))
+    (λ l. c.copy_run.ensures.left ∙ ap (λ s. placed 0 s here) (sym (part-first a.result a.new.out))))
 
 pub returns-else-w-lt4294967296 : goal.returns-else-w-lt4294967296
 returns-else-w-lt4294967296 c =

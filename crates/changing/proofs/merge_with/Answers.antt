@@ -16,15 +16,15 @@ returns-then-joined f =
 pub join_plan-plan-requires : goal.join_plan-plan-requires
 join_plan-plan-requires f =
     let c = f in
-    let p = c.before.before.before.before.before.before.before.before.before.before.before.before.requires in
+    let p = c.requires in
     let h = p.0.0 in
     let k = p.0.1 in
-    let j = c.before.before.before.before.before.before.join.ensures
+    let j = c.join-joined.ensures
     ∙ ap₂ (λ x y. fitted (join_dots (dots_of x) (dots_of y))) h.clock k.clock in
-    let t = c.before.before.before.before.before.if1.false in (
-      (_, c.before.queue-of.ensures),
+    let t = c.if-joined.false in (
+      (_, c.queue_of-q.ensures),
       (
-        (_, c.queue-of2.ensures),
+        (_, c.queue_of-p.ensures),
         rw (dots-of _ (within-clock _ j t))
             (lawful-join h.lies.within.valid.clock k.lies.within.valid.clock),
       ),

@@ -26,7 +26,7 @@ module _ (f : After-removal_waits-waiting) where
       f.removal_waits-waiting.result ≡ waits (dots_of a.a.clock) a.r
   told =
       let p = f.before.before.before.before.before.before.before.before in
-      f.removal_waits-waiting.ensures p.args.r lies ∙ ap (λ (c : Clock). waits (dots_of c) p.args.r) (sym p.pre.0.0.clock)
+      f.removal_waits-waiting.ensures p.args.r lies ∙ ap (λ (c : Clock). waits (dots_of c) p.args.r) (sym p.requires.0.0.clock)
 
 pub held_queue-p-requires : goal.held_queue-p-requires
 held_queue-p-requires f = (_, lies f.before)

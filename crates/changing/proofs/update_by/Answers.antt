@@ -29,12 +29,12 @@ returns-then-grown f =
 pub join_plan-plan-requires : goal.join_plan-plan-requires
 join_plan-plan-requires f =
     let c = f in
-    let p = c.before.before.before.before.before.before.before.before.before.before.before.before.before.before.requires in
+    let p = c.requires in
     let h = p.0.0 in
-    let u = c.before.before.before.before.before.before.before.before.before.before.before.before.before.before.args.u in
-    let j = c.before.before.before.before.before.add.ensures ∙ ap (λ x. fitted (add_dot (dots_of x) u.dot)) h.clock in
-    let t = c.before.before.before.before.if2.false in (
-      (_, c.before.queue-of.ensures),
+    let u = c.args.u in
+    let j = c.add-grown.ensures ∙ ap (λ x. fitted (add_dot (dots_of x) u.dot)) h.clock in
+    let t = c.if-grown.false in (
+      (_, c.queue_of-q.ensures),
       ((_, c.none.ensures _), rw (dots-of _ (within-clock _ j t)) (lawful-add h.lies.within.valid.clock u.dot)),
     )
 

@@ -1,7 +1,6 @@
 -- `write_dots` meets its contract: a record for each dot, one behind the other.
 use mathlib.Core.Path.{ap}
 use mathlib.Core.List.{[], ◌∷◌, map}
-use Prim.Native.Nat.{◌-◌}
 use lib.ListN.{get_or, length-map}
 use Rattle.listlaws.proofs.Rests.{map_on, drop-end}
 use Rattle.clock.specs.Dots.{no_dot, dots_of}

@@ -2,12 +2,12 @@
 use mathlib.Core.Path.{◌≡◌, refl, ap, ap₂, sym, ◌∙◌, subst}
 use mathlib.Core.Bool.{Bool, true, false, ◌&&◌}
 use mathlib.Core.List.{List}
-use mathlib.Core.Logic.{◌⊎◌, ⊎_elim, inl, inr, ⊎_swap}
-use Prim.Native.Nat.{ℕ, ◌≤◌, ◌<◌, ◌-◌, ◌+◌, ◌/◌}
+use mathlib.Core.Logic.{◌⊎◌, inl, inr, ⊎_swap}
+use Prim.Native.Nat.{ℕ, ◌≤◌, ◌<◌, ◌+◌, ◌/◌}
 use lib.Dec.{leb}
 use lib.ListN.{length, get_or}
 use lib.Seq.{take-length}
-use borrow.Author.Tests.{ltb-true, ltb-false, le-leb, lt-leb, not-true}
+use borrow.Author.Tests.{ltb-true, le-leb, lt-leb, not-true}
 use Rattle.clock.specs.declared.Dot.{Dot}
 use Rattle.clock.specs.declared.Order.TheVariants.{Concurrent}
 use Rattle.clock.specs.Dots.{no_dot, outcome, order_of, covers}
@@ -18,7 +18,7 @@ use Rattle.marks.proofs.Dots.{run_at, length_run, all}
 use borrow.Author.Rules.{rules}
 use native.Mathlib.Omega.{arith}
 use mathlib.Core.Bool.{not}
-use Rattle.comparing.proofs.compare_runs.Goals.{then-loop-i-test+else-j-m, else-loop-i-test, After-dot_at-e, At-loop-i, Left-loop-i}
+use Rattle.comparing.proofs.compare_runs.Goals.{then-loop-i-test+else-j-m, else-loop-i-test, After-dot_at-e, Left-loop-i}
 use Rattle.comparing.proofs.compare_runs.Goals as goal
 
 whole : {l : List Dot} → Lawful l → Lawful (all l)
@@ -48,7 +48,7 @@ level c =
     let s = c.before.before.before.before in
     let x = s.args.x.now in
     let y = s.args.y.now in
-    let k : s.loop-i.j < length y / 16 = ltb-true _ _ c.if-j-m.true in
+    let k : s.loop-i.j < length y / 16 = c.if-j-m.true in
     record {
       first = rw (take-length (run_dots x)) (omega (arith, length_run x));
       second = rw (take-length (run_dots y)) (omega (arith, length_run y));
@@ -75,83 +75,91 @@ apart-runs a b p q = rw (← covers-all a b, ← covers-all b a, p, q)
 
 -- where the walk stands, and what it walks along
 module _ (c : After-dot_at-e) where
-  abbrev at : At-loop-i
-  at = c.before.before.before.before
-
   abbrev ours : List Dot
-  ours = run_dots at.before.before.before.args.x.now
+  ours = run_dots c.args.x.now
 
   abbrev theirs : List Dot
-  theirs = run_dots at.before.before.before.args.y.now
+  theirs = run_dots c.args.y.now
 
-  in-second : at.loop.j < length at.before.before.before.args.y.now / 16
-  in-second = ltb-true _ _ c.if-j-m.true
+  in-second : c.loop-i.j < length c.args.y.now / 16
+  in-second = c.if-j-m.true
 
   -- an actor that only the first has
   module _ (e : c.dot_at-d.result.actor < c.dot_at-e.result.actor) where
-    first-over : Covering ours (length ours) (at.loop.i + 1) theirs (length theirs) at.loop.j at.loop.over
-    first-over = let q = level c in covering-past at.loop.inv.2 q.first q.second (rw (q.ours, q.theirs) e)
+    first-over : Covering ours (length ours) (c.loop-i.i + 1) theirs (length theirs) c.loop-i.j c.loop-i.over
+    first-over = let q = level c in covering-past c.loop-i.invariant.2 q.first q.second (rw (q.ours, q.theirs) e)
 
-    first_under : Covering theirs (length theirs) at.loop.j ours (length ours) (at.loop.i + 1) false
+    first_under : Covering theirs (length theirs) c.loop-i.j ours (length ours) (c.loop-i.i + 1) false
     first_under =
         let q = level c in
-        covering-missed at.loop.inv.3 (whole at.before.before.before.pre.0) q.second q.first (rw (q.ours, q.theirs) e)
+        covering-missed c.loop-i.invariant.3 (whole c.requires.0) q.second q.first (rw (q.ours, q.theirs) e)
 
   -- an actor that only the second has
   module _ (e : c.dot_at-e.result.actor < c.dot_at-d.result.actor) where
-    second-over : Covering ours (length ours) at.loop.i theirs (length theirs) (at.loop.j + 1) false
+    second-over : Covering ours (length ours) c.loop-i.i theirs (length theirs) (c.loop-i.j + 1) false
     second-over =
         let q = level c in
-        covering-missed at.loop.inv.2 (whole at.before.before.before.pre.1) q.first q.second (rw (q.ours, q.theirs) e)
+        covering-missed c.loop-i.invariant.2 (whole c.requires.1) q.first q.second (rw (q.ours, q.theirs) e)
 
-    second-under : Covering theirs (length theirs) (at.loop.j + 1) ours (length ours) at.loop.i at.loop.under
-    second-under = let q = level c in covering-past at.loop.inv.3 q.second q.first (rw (q.ours, q.theirs) e)
+    second-under : Covering theirs (length theirs) (c.loop-i.j + 1) ours (length ours) c.loop-i.i c.loop-i.under
+    second-under = let q = level c in covering-past c.loop-i.invariant.3 q.second q.first (rw (q.ours, q.theirs) e)
 
   -- an actor that both have
   module _ (e : c.dot_at-d.result.actor ≡ c.dot_at-e.result.actor) where
-    both-over : Covering ours (length ours) (at.loop.i + 1) theirs (length theirs) (at.loop.j + 1)
-        (at.loop.over && leb c.dot_at-e.result.counter c.dot_at-d.result.counter)
+    both-over : Covering ours (length ours) (c.loop-i.i + 1) theirs (length theirs) (c.loop-i.j + 1)
+        (c.loop-i.over && leb c.dot_at-e.result.counter c.dot_at-d.result.counter)
     both-over =
         let q = level c in
-        flagged (ap₂ (λ d e. at.loop.over && leb e.counter d.counter) q.ours q.theirs)
-        (covering-both at.loop.inv.2 q.first q.second (rw (q.ours, q.theirs) e))
+        flagged (ap₂ (λ d e. c.loop-i.over && leb e.counter d.counter) q.ours q.theirs)
+        (covering-both c.loop-i.invariant.2 q.first q.second (rw (q.ours, q.theirs) e))
 
-    both_under : Covering theirs (length theirs) (at.loop.j + 1) ours (length ours) (at.loop.i + 1)
-        (at.loop.under && leb c.dot_at-d.result.counter c.dot_at-e.result.counter)
+    both_under : Covering theirs (length theirs) (c.loop-i.j + 1) ours (length ours) (c.loop-i.i + 1)
+        (c.loop-i.under && leb c.dot_at-d.result.counter c.dot_at-e.result.counter)
     both_under =
         let q = level c in
-        flagged (ap₂ (λ d e. at.loop.under && leb d.counter e.counter) q.ours q.theirs)
-        (covering-both at.loop.inv.3 q.second q.first (rw (q.ours, q.theirs) (sym e)))
+        flagged (ap₂ (λ d e. c.loop-i.under && leb d.counter e.counter) q.ours q.theirs)
+        (covering-both c.loop-i.invariant.3 q.second q.first (rw (q.ours, q.theirs) (sym e)))
 
 pub returns-then-not-over : goal.returns-then-not-over
 returns-then-not-over c =
     let y = c.before.before.before.before in
-    apart-runs (ours y) (theirs y) (covering-gone (at y).loop.invariant.2 (not-true _ (ap not c.if-not-over.true)))
-    (covering-gone (first_under y c.if-d-e.true) refl)
+    apart-runs (ours (goal.at.returns-then-not-over c).After-dot_at-e) (theirs (goal.at.returns-then-not-over c).After-dot_at-e)
+    (covering-gone y.loop-i.invariant.2 (not-true _ (ap not c.if-not-over.true)))
+    (covering-gone (first_under (goal.at.returns-then-not-over c).After-dot_at-e c.if-d-e.true) refl)
 
 pub loop-i-preserved-then-d-e : goal.loop-i-preserved-then-d-e
-loop-i-preserved-then-d-e c = let y = c.before.before.before.before in let e = c.if-d-e.true in
-    (omega arith, search rules, first-over y e, first_under y e)
+loop-i-preserved-then-d-e c = let y = c.before.before.before.before in let e = c.if-d-e.true in (
+  omega arith,
+  search rules,
+  first-over (goal.at.loop-i-preserved-then-d-e c).After-dot_at-e e,
+  first_under (goal.at.loop-i-preserved-then-d-e c).After-dot_at-e e,
+)
 
 pub returns-then-not-under : goal.returns-then-not-under
 returns-then-not-under c =
     let y = c.before.before.before.before.before.before.before in
-    apart-runs (ours y) (theirs y) (covering-gone (second-over y c.if-e-d.true) refl)
-    (covering-gone (at y).loop.invariant.3 (not-true _ (ap not c.if-not-under.true)))
+    apart-runs (ours (goal.at.returns-then-not-under c).After-dot_at-e) (theirs (goal.at.returns-then-not-under c).After-dot_at-e)
+    (covering-gone (second-over (goal.at.returns-then-not-under c).After-dot_at-e c.if-e-d.true) refl)
+    (covering-gone y.loop-i.invariant.3 (not-true _ (ap not c.if-not-under.true)))
 
 pub loop-i-preserved-then-e-d : goal.loop-i-preserved-then-e-d
 loop-i-preserved-then-e-d c =
     let y = c.before.before.before.before.before.before.before in
-    let e = c.if-e-d.true in
-    (search rules, omega (arith, in-second y), second-over y e, second-under y e)
+    let e = c.if-e-d.true in (
+      search rules,
+      omega (arith, in-second (goal.at.loop-i-preserved-then-e-d c).After-dot_at-e),
+      second-over (goal.at.loop-i-preserved-then-e-d c).After-dot_at-e e,
+      second-under (goal.at.loop-i-preserved-then-e-d c).After-dot_at-e e,
+    )
 
 pub returns-then-not-under-2 : goal.returns-then-not-under-2
 returns-then-not-under-2 c =
     let y = c.before.before.before.before.before.before.before.before.before.before in
     let e : y.dot_at-d.result.actor ≡ y.dot_at-e.result.actor = omega
     (arith, c.if-e-d.false, c.if-d-e.false) in
-    apart-runs (ours y) (theirs y) (covering-gone (both-over y e) (and_no (at y).loop.over (lt-leb _ _ c.if-d-e-2.true)))
-    (covering-gone (at y).loop.invariant.3 (not-true _ (ap not c.if-not-under-2.true)))
+    apart-runs (ours (goal.at.returns-then-not-under-2 c).After-dot_at-e) (theirs (goal.at.returns-then-not-under-2 c).After-dot_at-e)
+    (covering-gone (both-over (goal.at.returns-then-not-under-2 c).After-dot_at-e e) (and_no y.loop-i.over (lt-leb _ _ c.if-d-e-2.true)))
+    (covering-gone y.loop-i.invariant.3 (not-true _ (ap not c.if-not-under-2.true)))
 
 pub loop-i-preserved-then-d-e-2 : goal.loop-i-preserved-then-d-e-2
 loop-i-preserved-then-d-e-2 c =
@@ -160,10 +168,10 @@ loop-i-preserved-then-d-e-2 c =
     (arith, c.if-e-d.false, c.if-d-e.false) in
     let k = c.if-d-e-2.true in (
       omega (arith, y.loop-i-test),
-      omega (arith, in-second y),
-      flagged (and_no (at y).loop.over (lt-leb _ _ k)) (both-over y e),
-      flagged (and_yes (at y).loop.under (le-leb y.dot_at-d.result.counter y.dot_at-e.result.counter (omega (arith, k))))
-          (both_under y e),
+      omega (arith, in-second (goal.at.loop-i-preserved-then-d-e-2 c).After-dot_at-e),
+      flagged (and_no y.loop-i.over (lt-leb _ _ k)) (both-over (goal.at.loop-i-preserved-then-d-e-2 c).After-dot_at-e e),
+      flagged (and_yes y.loop-i.under (le-leb y.dot_at-d.result.counter y.dot_at-e.result.counter (omega (arith, k))))
+          (both_under (goal.at.loop-i-preserved-then-d-e-2 c).After-dot_at-e e),
     )
 
 pub returns-then-not-over-2 : goal.returns-then-not-over-2
@@ -174,8 +182,9 @@ returns-then-not-over-2 c =
       c.if-e-d.false,
       c.if-d-e.false,
     ) in
-    apart-runs (ours y) (theirs y) (covering-gone (at y).loop.invariant.2 (not-true _ (ap not c.if-not-over-2.true)))
-    (covering-gone (both_under y e) (and_no (at y).loop.under (lt-leb _ _ c.if-e-d-2.true)))
+    apart-runs (ours (goal.at.returns-then-not-over-2 c).After-dot_at-e) (theirs (goal.at.returns-then-not-over-2 c).After-dot_at-e)
+    (covering-gone y.loop-i.invariant.2 (not-true _ (ap not c.if-not-over-2.true)))
+    (covering-gone (both_under (goal.at.returns-then-not-over-2 c).After-dot_at-e e) (and_no y.loop-i.under (lt-leb _ _ c.if-e-d-2.true)))
 
 pub loop-i-preserved-then-e-d-2 : goal.loop-i-preserved-then-e-d-2
 loop-i-preserved-then-e-d-2 c =
@@ -187,10 +196,10 @@ loop-i-preserved-then-e-d-2 c =
     ) in
     let k = c.if-e-d-2.true in (
       omega (arith, y.loop-i-test),
-      omega (arith, in-second y),
-      flagged (and_yes (at y).loop.over (le-leb y.dot_at-e.result.counter y.dot_at-d.result.counter (omega (arith, k))))
-          (both-over y e),
-      flagged (and_no (at y).loop.under (lt-leb _ _ k)) (both_under y e),
+      omega (arith, in-second (goal.at.loop-i-preserved-then-e-d-2 c).After-dot_at-e),
+      flagged (and_yes y.loop-i.over (le-leb y.dot_at-e.result.counter y.dot_at-d.result.counter (omega (arith, k))))
+          (both-over (goal.at.loop-i-preserved-then-e-d-2 c).After-dot_at-e e),
+      flagged (and_no y.loop-i.under (lt-leb _ _ k)) (both_under (goal.at.loop-i-preserved-then-e-d-2 c).After-dot_at-e e),
     )
 
 pub loop-i-preserved : goal.loop-i-preserved
@@ -202,9 +211,9 @@ loop-i-preserved c =
       c.if-d-e.false,
     ) in (
       omega (arith, y.loop-i-test),
-      omega (arith, in-second y),
-      flagged (and_yes (at y).loop.over (le-leb _ _ c.if-d-e-2.false)) (both-over y e),
-      flagged (and_yes (at y).loop.under (le-leb _ _ c.if-e-d-2.false)) (both_under y e),
+      omega (arith, in-second (goal.at.loop-i-preserved c).After-dot_at-e),
+      flagged (and_yes y.loop-i.over (le-leb _ _ c.if-d-e-2.false)) (both-over (goal.at.loop-i-preserved c).After-dot_at-e e),
+      flagged (and_yes y.loop-i.under (le-leb _ _ c.if-e-d-2.false)) (both_under (goal.at.loop-i-preserved c).After-dot_at-e e),
     )
 
 -- one of the two is used up
@@ -216,8 +225,8 @@ left_over c =
     let x = s.args.x.now in
     let y = s.args.y.now in
     elim c.loop-i-test.branch [
-      then-loop-i-test+else-j-m w ↦ inr (rw (take-length (run_dots y)) (omega (arith, w.if-j-m.false, length_run y)))
-    | else-loop-i-test w ↦ inl (rw (take-length (run_dots x)) (omega (arith, w.loop-i-test.false, length_run x)))
+      | then-loop-i-test+else-j-m w ↦ inr (rw (take-length (run_dots y)) (omega (arith, w.if-j-m.false, length_run y)))
+      | else-loop-i-test w ↦ inl (rw (take-length (run_dots x)) (omega (arith, w.loop-i-test.false, length_run x)))
     ]
 
 long : (s : List ℕ) → length s / 16 ≡ length (all (run_dots s))
@@ -230,7 +239,7 @@ returns c =
     let p = s.requires in
     let x = s.args.x.now in
     let y = s.args.y.now in
-    let e = left_over c.before in
+    let e = left_over (goal.at.returns c).Left-loop-i in
     c.outcome.ensures
     ∙ ap₂ outcome
     (ap (λ k. s.loop-i.over && leb k s.loop-i.j) (long y) ∙ covering-end s.loop-i.invariant.2 (whole p.1) e ∙ covers-all (run_dots x) (run_dots y))

@@ -30,7 +30,7 @@ returns-then-is_wanted c =
     let s = i.before in
     let p = s.requires in
     let a = s.args in
-    passing-here no_marked s.loop-i.invariant.1 (inside i)
+    passing-here no_marked s.loop-i.invariant.1 (inside (goal.at.returns-then-is_wanted c).In-loop-i)
     (found_at a.marks.now a.image.now p.1 s.loop-i.i (omega (arith, p.0)) a.from (is_wanted a.w)
     c.is_left.ensures c.read_record.ensures c.is_wanted.ensures
     ∙ both _ _ c.if-is_left.true c.if-is_wanted.true)
@@ -43,7 +43,7 @@ loop-i-preserved-else-is_wanted c =
     let p = s.requires in
     let a = s.args in (
       search rules,
-      passing-on no_marked s.loop-i.invariant.1 (inside i)
+      passing-on no_marked s.loop-i.invariant.1 (inside (goal.at.loop-i-preserved-else-is_wanted c).In-loop-i)
           (found_at a.marks.now a.image.now p.1 s.loop-i.i (omega (arith, p.0)) a.from (is_wanted a.w)
           c.is_left.ensures c.read_record.ensures c.is_wanted.ensures
           ∙ ap (λ b. c.is_left.result && b) c.if-is_wanted.false ∙ and-false
@@ -57,7 +57,7 @@ loop-i-preserved c =
     let p = s.requires in
     let a = s.args in (
       search rules,
-      passing-on no_marked s.loop-i.invariant.1 (inside i)
+      passing-on no_marked s.loop-i.invariant.1 (inside (goal.at.loop-i-preserved c).In-loop-i)
           (passed-at a.marks.now a.image.now p.1 s.loop-i.i (omega (arith, p.0)) a.from (is_wanted a.w)
           c.is_left.ensures c.if-is_left.false),
     )

@@ -106,7 +106,7 @@ pub offset_bounds-marks-k-else-met-more : goal.offset_bounds-marks-k-else-met-mo
 offset_bounds-marks-k-else-met-more c = omega (
   arith,
   c.loop-i-test.true,
-  c.well-formed,
+  c.well_formed,
   c.requires.0,
 )
 

@@ -18,7 +18,7 @@ pub returns-then-r-eq-ENTRY_DOT : goal.returns-then-r-eq-ENTRY_DOT
 returns-then-r-eq-ENTRY_DOT c =
     let a = c.args in
     let l = left_items 0 (take a.i (marked_of a.marks.now a.image.now)) in
-    rw (eq-eqb _ 2 c.if-r-eq-ENTRY_DOT.true) (c.Has-left.ensures ∙ ap (λ w. some (is_wanted w) l) c.of_dot.ensures
+    rw (eq-eqb _ 2 c.if-r-eq-ENTRY_DOT.true) (c.has_left.ensures ∙ ap (λ w. some (is_wanted w) l) c.of_dot.ensures
     ∙ by-dot l a.r)
 
 pub returns-then-r-eq-VALUE : goal.returns-then-r-eq-VALUE

@@ -13,7 +13,7 @@ use Rattle.cutting.proofs.draw_cut.Given as goal
 
 abbrev pub invariant-loop-x : goal.invariant-loop-x
 invariant-loop-x v = Walked v.s v.l (cut_where v.all (keys_of v.keys) (dots_of v.by)) (entries_in (read_map v.s).map) v.x
-    (record { v.items = v.items; v.sums = v.sums })
+    (record { items = v.items; sums = v.sums })
     × (length v.items ≡ entry_limit)
 
 abbrev pub decreases-loop-x : goal.decreases-loop-x

@@ -24,8 +24,11 @@ loop-best-smaller c =
 
 pub loop-best-preserved : goal.loop-best-preserved
 loop-best-preserved c =
-    let s = c.before.before in
-    (s.loop-best.invariant.0, (counting-on (2 ^ 40) _ s.loop-best.invariant.0 s.loop-best.invariant.1 c.loop-best-test.true _ c.least-best-in-loop-best.ensures.0).0)
+    let s = c.before.before in (
+      s.loop-best.invariant.0,
+      (counting-on (2 ^ 40) _ s.loop-best.invariant.0 s.loop-best.invariant.1 c.loop-best-test.true _
+          c.least-best-in-loop-best.ensures.0).0,
+    )
 
 pub returns : goal.returns
 returns c =

@@ -10,7 +10,8 @@ use Rattle.delivery.proofs.count_waiting.Given as goal
 
 abbrev pub invariant-loop-k : goal.invariant-loop-k
 invariant-loop-k l =
-    (l.k ≤ l.n) × ((l.total ≤ l.k * dot_limit) × (l.total + total_of (λ x. length (under_of x)) (drop l.k (waiting_at l.mem)) ≡ total_of (λ x. length (under_of x))
+    (l.k ≤ l.n) × ((l.total ≤ l.k * dot_limit) × (l.total + total_of (λ x. length (under_of x)) (drop l.k (waiting_at l.mem))
+    ≡ total_of (λ x. length (under_of x))
     (waiting_at l.mem)))
 
 abbrev pub decreases-loop-k : goal.decreases-loop-k

@@ -24,7 +24,11 @@ pub returns-then-d-actor : goal.returns-then-d-actor
 returns-then-d-actor c = let s = c.before.before.before.before in sym (s.loop-i.invariant.1 ∙ counter-here _ (next c.before.before) c.if-d-actor.true)
 
 pub loop-i-preserved : goal.loop-i-preserved
-loop-i-preserved c = let s = c.before.before.before.before in (omega arith, s.loop-i.invariant.1 ∙ counter-on _ (next c.before.before) c.if-d-actor.false)
+loop-i-preserved c = let s = c.before.before.before.before in (
+  omega arith,
+  s.loop-i.invariant.1
+      ∙ counter-on _ (next c.before.before) c.if-d-actor.false,
+)
 
 pub returns : goal.returns
 returns c =

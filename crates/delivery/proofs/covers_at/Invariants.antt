@@ -7,7 +7,8 @@ use Rattle.memory.specs.Memory.{dots_at}
 use Rattle.delivery.proofs.covers_at.Given as goal
 
 abbrev pub invariant-loop-i : goal.invariant-loop-i
-invariant-loop-i l = (l.i ≤ l.n) × (covers (dots_at l.mem l.at) (dots_at l.mem l.other) ≡ covers (dots_at l.mem l.at) (drop l.i (dots_at l.mem l.other)))
+invariant-loop-i l = (l.i ≤ l.n) × (covers (dots_at l.mem l.at) (dots_at l.mem l.other)
+    ≡ covers (dots_at l.mem l.at) (drop l.i (dots_at l.mem l.other)))
 
 abbrev pub decreases-loop-i : goal.decreases-loop-i
 decreases-loop-i l = l.n - l.i

@@ -9,7 +9,8 @@ use Rattle.delivery.proofs.entries_whole.Given as goal
 
 abbrev pub invariant-loop-j : goal.invariant-loop-j
 invariant-loop-j l =
-    (l.j ≤ l.n) × (every (entry_whole (dots_at l.mem clock_place)) (entries_at l.mem) ≡ every (entry_whole (dots_at l.mem clock_place)) (drop l.j (entries_at l.mem)))
+    (l.j ≤ l.n) × (every (entry_whole (dots_at l.mem clock_place)) (entries_at l.mem)
+    ≡ every (entry_whole (dots_at l.mem clock_place)) (drop l.j (entries_at l.mem)))
 
 abbrev pub decreases-loop-j : goal.decreases-loop-j
 decreases-loop-j l = l.n - l.j

@@ -8,7 +8,8 @@ use Rattle.delivery.proofs.write_entries.Given as goal
 
 abbrev pub invariant-loop-j : goal.invariant-loop-j
 invariant-loop-j l =
-    (l.j ≤ l.n) × Writing (flat_from (entry_records l.kind) 0 (entries_at l.mem)) (flat_from (entry_records l.kind) l.j (drop l.j (entries_at l.mem))) l.at l.initial.out l.out l.next
+    (l.j ≤ l.n) × Writing (flat_from (entry_records l.kind) 0 (entries_at l.mem))
+    (flat_from (entry_records l.kind) l.j (drop l.j (entries_at l.mem))) l.at l.initial.out l.out l.next
 
 abbrev pub decreases-loop-j : goal.decreases-loop-j
 decreases-loop-j l = l.n - l.j

@@ -14,7 +14,8 @@ use Rattle.memory.specs.Memory.{clock_place, dots_at, entries_at, waiting_at}
 use Rattle.delivery.specs.Delivery.{image_at}
 use Rattle.delivery.proofs.Lengths.{length-records}
 use native.Mathlib.Omega.{arith}
-use Rattle.delivery.proofs.write_image.Goals.{After-write_dots-arg-1, After-write_dots-first, After-write_entries-fourth, After-write_entries-second, After-write_entries-third, After-write_waiting-fifth, Start}
+use Rattle.delivery.proofs.write_image.Goals.{After-write_dots-arg-1, After-write_dots-first, After-write_entries-fourth, After-write_entries-second}
+use Rattle.delivery.proofs.write_image.Goals.{After-write_entries-third, After-write_waiting-fifth, Start}
 use Rattle.delivery.proofs.write_image.Goals as goal
 
 -- of each kind the records, and those from it on
@@ -50,7 +51,7 @@ clock-dots : (c : After-write_dots-arg-1) → dots_of c.clock_at-clock.result �
 clock-dots c = ap dots_of c.clock_at-clock.ensures ∙ take-pad no_dot dot_limit (dots_at (start c).args.mem.now clock_place)
 
 first : (c : After-write_dots-first) → let a = (start c.before).args in
-    Writing (from1 a.mem.now) (from2 a.mem.now) 0 a.out.now c.write_dots-first.new.0 c.write_dots-first.result
+    Writing (from1 a.mem.now) (from2 a.mem.now) 0 a.out.now c.write_dots-first.new.out c.write_dots-first.result
 first c = let w = (start c.before).args.mem.now in write-on _ _ _ (dots w) (none c.before) refl
     (rw (clock-dots c.before) at c.write_dots-first.ensures)
 
@@ -58,21 +59,21 @@ abbrev back2 : After-write_entries-second → After-write_dots-first
 back2 c = c.before.before.before.before
 
 second : (c : After-write_entries-second) → let a = (start (back2 c).before).args in
-    Writing (from1 a.mem.now) (from3 a.mem.now) 0 a.out.now c.write_entries-second.new.1.1.0 c.write_entries-second.result
+    Writing (from1 a.mem.now) (from3 a.mem.now) 0 a.out.now c.write_entries-second.new.out c.write_entries-second.result
 second c = let w = (start (back2 c).before).args.mem.now in write-on _ _ _ (entries 2 w) (first (back2 c)) refl c.write_entries-second.ensures
 
 abbrev back3 : After-write_entries-third → After-write_entries-second
 back3 c = c.before.before.before.before
 
 third : (c : After-write_entries-third) → let a = (start (back2 (back3 c)).before).args in
-    Writing (from1 a.mem.now) (from4 a.mem.now) 0 a.out.now c.write_entries-third.new.1.1.0 c.write_entries-third.result
+    Writing (from1 a.mem.now) (from4 a.mem.now) 0 a.out.now c.write_entries-third.new.out c.write_entries-third.result
 third c = let w = (start (back2 (back3 c)).before).args.mem.now in write-on _ _ _ (entries 3 w) (second (back3 c)) refl c.write_entries-third.ensures
 
 abbrev back4 : After-write_entries-fourth → After-write_entries-third
 back4 c = c.before.before.before.before
 
 fourth : (c : After-write_entries-fourth) → let a = (start (back2 (back3 (back4 c))).before).args in
-    Writing (from1 a.mem.now) (from5 a.mem.now) 0 a.out.now c.write_entries-fourth.new.1.1.0 c.write_entries-fourth.result
+    Writing (from1 a.mem.now) (from5 a.mem.now) 0 a.out.now c.write_entries-fourth.new.out c.write_entries-fourth.result
 fourth c = let w = (start (back2 (back3 (back4 c))).before).args.mem.now in
     write-on _ _ _ (entries 4 w) (third (back4 c)) refl c.write_entries-fourth.ensures
 
@@ -80,7 +81,7 @@ abbrev back5 : After-write_waiting-fifth → After-write_entries-fourth
 back5 c = c.before.before.before.before
 
 fifth : (c : After-write_waiting-fifth) → let a = (start (back2 (back3 (back4 (back5 c)))).before).args in
-    Writing (from1 a.mem.now) (waiting_keys (waiting_at a.mem.now)) 0 a.out.now c.write_waiting-fifth.new.1.0 c.write_waiting-fifth.result
+    Writing (from1 a.mem.now) (waiting_keys (waiting_at a.mem.now)) 0 a.out.now c.write_waiting-fifth.new.out c.write_waiting-fifth.result
 fifth c = let w = (start (back2 (back3 (back4 (back5 c)))).before).args.mem.now in
     write-on _ _ _ (flat_from waiting_dots 0 (waiting_at w)) (fourth (back5 c)) refl c.write_waiting-fifth.ensures
 
@@ -107,10 +108,10 @@ write_waiting_keys-requires c = last-room _ _ _ _ (fifth c.before.before.before)
 pub shape_of-out : goal.shape_of-out
 shape_of-out c =
     let k = c.before.before in
-    k.write_waiting_keys.auto.1.0 ∙ (write-room _ _ _ [] _ (fifth k.before.before.before.before) refl).1
+    k.write_waiting_keys.auto.out ∙ (write-room _ _ _ [] _ (fifth k.before.before.before.before.before) refl).1
 
 pub returns : goal.returns
 unfolding image_at
 returns c =
     let k = c.before.before in
-    write-last _ _ _ _ (fifth k.before.before.before.before) k.write_waiting_keys.ensures
+    write-last _ _ _ _ (fifth k.before.before.before.before.before) k.write_waiting_keys.ensures

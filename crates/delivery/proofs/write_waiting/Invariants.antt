@@ -8,7 +8,8 @@ use Rattle.delivery.proofs.write_waiting.Given as goal
 
 abbrev pub invariant-loop-k : goal.invariant-loop-k
 invariant-loop-k l =
-    (l.k ≤ l.n) × Writing (flat_from waiting_dots 0 (waiting_at l.mem)) (flat_from waiting_dots l.k (drop l.k (waiting_at l.mem))) l.at l.initial.out l.out l.next
+    (l.k ≤ l.n) × Writing (flat_from waiting_dots 0 (waiting_at l.mem))
+    (flat_from waiting_dots l.k (drop l.k (waiting_at l.mem))) l.at l.initial.out l.out l.next
 
 abbrev pub decreases-loop-k : goal.decreases-loop-k
 decreases-loop-k l = l.n - l.k

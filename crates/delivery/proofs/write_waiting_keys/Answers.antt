@@ -15,7 +15,8 @@ pub overflow_cast-r-in-loop-best : goal.overflow_cast-r-in-loop-best
 overflow_cast-r-in-loop-best c = omega arith
 
 pub write_record-next-requires : goal.write_record-next-requires
-write_record-next-requires c = let s = c.before.before in select-room (2 ^ 40) _ _ _ s.loop-best.invariant.0 s.loop-best.invariant.1 c.loop-best-test.true
+write_record-next-requires c = let s = c.before.before in select-room
+    (2 ^ 40) _ _ _ s.loop-best.invariant.0 s.loop-best.invariant.1 c.loop-best-test.true
 
 pub overflow_add-best : goal.overflow_add-best
 overflow_add-best c = omega arith

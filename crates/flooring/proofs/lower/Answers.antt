@@ -1,7 +1,7 @@
 -- `lower` meets its contract: the loop sifts the clock's dots.
 use mathlib.Core.Path.{◌≡◌, ap, ◌∙◌}
 use mathlib.Core.List.{List}
-use Prim.Native.Nat.{ℕ, ◌-◌, ◌<◌, min}
+use Prim.Native.Nat.{ℕ, ◌<◌, min}
 use borrow.Author.Tests.{lt-ltb, le-ltb}
 use Rattle.listlaws.proofs.Sifting.{sifting-start, sifting-keep, sifting-drop, sifting-room, sifting-end}
 use Rattle.listlaws.proofs.Sifts.{length-sift}

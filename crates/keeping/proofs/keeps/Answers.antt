@@ -89,8 +89,8 @@ keeping c =
     let g = s.loop-i.invariant.2.keeps in
     let e = l.kept_counter-k.ensures in
     elim c.if-k-gt0.branch [
-      then-k-gt0 w ↦ rw w.keep-is (keeps_on _ _ _ _ (step l) e g w.if-k-gt0.true s.requires.1.1)
-    | else-k-gt0 w ↦ rw w.keep-is (keeps-off _ _ _ _ (step l) e g w.if-k-gt0.false)
+      | then-k-gt0 w ↦ rw w.keep-is (keeps_on _ _ _ _ (step l) e g w.if-k-gt0.true s.requires.1.1)
+      | else-k-gt0 w ↦ rw w.keep-is (keeps-off _ _ _ _ (step l) e g w.if-k-gt0.false)
     ]
 
 pub loop-i-preserved-then-k-all : goal.loop-i-preserved-then-k-all

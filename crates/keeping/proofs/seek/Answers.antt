@@ -1,6 +1,5 @@
 -- `seek` meets its contract: the loop passes the dots of earlier actors.
 use mathlib.Core.Path.{refl, sym, ◌∙◌}
-use Prim.Native.Nat.{◌-◌}
 use borrow.Author.Tests.{eq-eqb, ne_eqb, lt-ltb, le-ltb}
 use Rattle.clock.specs.Dots.{no_dot, dots_of}
 use Rattle.keeping.proofs.Seeks.{sought-here, sought-later, sought-past, sought-end}

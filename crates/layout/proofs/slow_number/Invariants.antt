@@ -9,7 +9,7 @@ use Rattle.layout.proofs.slow_number.Given as goal
 
 abbrev pub invariant-loop-i : goal.invariant-loop-i
 invariant-loop-i l = (l.n ≡ length l.s / 16) × ((l.i ≤ l.n)
-    × ((length l.under ≡ 256) × Feeding Slow l.s l.i (record { l.scan = l.scan; l.under = l.under })))
+    × ((length l.under ≡ 256) × Feeding Slow l.s l.i (record { scan = l.scan; under = l.under })))
 
 abbrev pub decreases-loop-i : goal.decreases-loop-i
 decreases-loop-i l = l.n - l.i

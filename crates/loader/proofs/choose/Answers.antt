@@ -82,7 +82,8 @@ loop-i-preserved c =
       (omega arith, (omega arith, omega arith)),
       λ key l h r.
           let k : s.loop-i.i < length l = omega (arith, r.count) in
-          s.loop-i.invariant.1 key l h r ∙ ap report_on (sym (goes l s.loop-i.i k (sym (c.is_below.ensures l r) ∙ not-false _ (ap not c.if-not-is_below.false)))),
+          s.loop-i.invariant.1 key l h r ∙ ap report_on
+          (sym (goes l s.loop-i.i k (sym (c.is_below.ensures l r) ∙ not-false _ (ap not c.if-not-is_below.false)))),
     )
 
 pub returns : goal.returns

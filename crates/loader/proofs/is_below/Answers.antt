@@ -58,18 +58,19 @@ module _ (c : After-is_less) where
   at = c.before.before.before.before.before
 
   abbrev Met : List Value → Type 0
-  Met l = let a = at.before.before.args in
-      RunsOf a.map.now a.starts a.n l → yields false (get_or l a.k no_value) (get_or l at.loop.j no_value) ≡ c.is_less.result
+  Met l = let a = at.args in
+      RunsOf a.map.now a.starts a.n l → yields false (get_or l a.k no_value) (get_or l at.loop-j.j no_value) ≡ c.is_less.result
 
   met : (l : List Value) → Met l
-  met l r = told (r.each _ at.before.before.pre.0) (r.each _ (omega arith)) c.compare_runs-o.ensures c.is_less.ensures
+  met l r = told (r.each _ at.requires.0) (r.each _ (omega arith)) c.compare_runs-o.ensures c.is_less.ensures
 
 pub returns-then-is_less : goal.returns-then-is_less
 unfolding is_below
 returns-then-is_less c = λ l r.
     let k = c.before in
     let s = at k in
-    rw (take-length l) at (passing-here no_value (s.loop.inv.1 l r) (rw (take-length l) (omega (arith, r.count))) (met k l r ∙ c.if-is_less.true))
+    rw (take-length l) at (passing-here no_value (s.loop-j.invariant.1 l r) (rw (take-length l) (omega (arith, r.count)))
+    (met k l r ∙ c.if-is_less.true))
 
 pub loop-j-preserved : goal.loop-j-preserved
 loop-j-preserved c = (
@@ -77,7 +78,7 @@ loop-j-preserved c = (
   λ l r.
       let k = c.before in
       let s = at k in
-      passing-on no_value (s.loop.inv.1 l r) (rw (take-length l) (omega (arith, r.count))) (met k l r ∙ c.if-is_less.false),
+      passing-on no_value (s.loop-j.invariant.1 l r) (rw (take-length l) (omega (arith, r.count))) (met k l r ∙ c.if-is_less.false),
 )
 
 pub returns : goal.returns

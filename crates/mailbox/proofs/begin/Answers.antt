@@ -17,9 +17,9 @@ put8-requires c = search rules
 pub loop-i-init : goal.loop-i-init
 unfolding zeros
 loop-i-init c = let m = c.args.mem.now in
-    let kept : length c.put8.new.0 ≡ reader_room = ap length c.put8.ensures ∙ length-placed 0 (1 ∷ []) m (omega arith)
+    let kept : length c.put8.new.out ≡ reader_room = ap length c.put8.ensures ∙ length-placed 0 (1 ∷ []) m (omega arith)
     ∙ c.put8-arg-1.given.0.1 in
-    (omega arith, (kept, sym (placed-none length_place c.put8.new.0 (omega arith))))
+    (omega arith, (kept, sym (placed-none length_place c.put8.new.out (omega arith))))
 
 pub overflow_add-i : goal.overflow_add-i
 overflow_add-i c = omega arith
@@ -27,16 +27,13 @@ overflow_add-i c = omega arith
 pub clear-requires : goal.clear-requires
 clear-requires c = omega arith
 
-add-i : goal.overflow_add-i
-add-i c = omega arith
-
 pub loop-i-smaller : goal.loop-i-smaller
 loop-i-smaller c = omega arith
 
 pub loop-i-preserved : goal.loop-i-preserved
 unfolding zeros
 loop-i-preserved c = let s = c.before.before.before in
-    let m = s.put8.new.0 in
+    let m = s.put8.new.out in
     let i = s.loop-i.i in
     let room = s.loop-i.invariant.1.0 in
     let long = length-replicate {A = ℕ} i 0 in
@@ -54,7 +51,7 @@ pub returns : goal.returns
 unfolding begun
 returns c = let s = c.before in
     let e : s.loop-i.i ≡ clock_place = omega arith in
-    (refl, s.loop-i.invariant.1.1 ∙ ap (λ n. placed length_place (zeros n) s.put8.new.0) e ∙ rw s.put8.ensures)
+    (refl, s.loop-i.invariant.1.1 ∙ ap (λ n. placed length_place (zeros n) s.put8.new.out) e ∙ rw s.put8.ensures)
 
 pub overflow_add-i-in-loop-i : goal.overflow_add-i-in-loop-i
-overflow_add-i-in-loop-i c = add-i c
+overflow_add-i-in-loop-i c = omega arith

@@ -1,5 +1,4 @@
 -- `least` meets its contract: the loop holds each removal against the least so far.
-use Prim.Native.Nat.{◌-◌}
 use lib.ListN.{get_or}
 use Rattle.removals.specs.Model.{waiting_of}
 use Rattle.removals.proofs.Packs.{no_removal_read}

@@ -1,7 +1,7 @@
 -- `least_in` meets its contract: the loop holds each number against the least so far.
 use mathlib.Core.Path.{ap, ◌∙◌}
 use mathlib.Core.List.{map}
-use Prim.Native.Nat.{◌-◌, ◌^◌}
+use Prim.Native.Nat.{◌^◌}
 use borrow.Author.Tests.{lt-ltb}
 use Rattle.listlaws.proofs.Rests.{map_on, drop-end}
 use Rattle.removals.specs.Model.{keys_of}

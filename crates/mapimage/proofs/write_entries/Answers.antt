@@ -1,5 +1,4 @@
 -- `write_entries` meets its contract: one entry after the other.
-use Prim.Native.Nat.{◌-◌}
 use lib.ListN.{get_or}
 use Rattle.records.proofs.Writing.{write-start, write-room, write-on, write-end, write_kept}
 use Rattle.mapimage.specs.MapImage.{entry_records}

@@ -1,5 +1,4 @@
 -- `write_waiting` meets its contract: one clock after the other.
-use Prim.Native.Nat.{◌-◌}
 use lib.ListN.{get_or, length-map}
 use Rattle.records.proofs.Writing.{write-start, write-room, write-on, write-end, write_kept}
 use Rattle.mapimage.specs.MapImage.{waiting_dots}

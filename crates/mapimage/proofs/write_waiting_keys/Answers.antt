@@ -1,6 +1,5 @@
 -- `write_waiting_keys` meets its contract: the least number that is left, again and again.
-use mathlib.Core.Bool.{true}
-use Prim.Native.Nat.{◌-◌, ◌^◌}
+use Prim.Native.Nat.{◌^◌}
 use Rattle.mapimage.proofs.Selecting.{select-start, select-room, select-on, select-end, select_kept}
 use native.Mathlib.Omega.{arith}
 use Rattle.mapimage.proofs.write_waiting_keys.Goals as goal
@@ -15,7 +14,8 @@ pub overflow_cast-r-in-loop-best : goal.overflow_cast-r-in-loop-best
 overflow_cast-r-in-loop-best c = omega arith
 
 pub write_record-next-requires : goal.write_record-next-requires
-write_record-next-requires c = let s = c.before.before in select-room (2 ^ 40) _ _ _ s.loop-best.invariant.0 s.loop-best.invariant.1 c.loop-best-test.true
+write_record-next-requires c = let s = c.before.before in select-room
+    (2 ^ 40) _ _ _ s.loop-best.invariant.0 s.loop-best.invariant.1 c.loop-best-test.true
 
 pub overflow_add-best : goal.overflow_add-best
 overflow_add-best c = omega arith

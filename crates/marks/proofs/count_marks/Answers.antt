@@ -1,7 +1,7 @@
 -- `count_marks` meets its contract: the loop sifts the marks, and only their number is kept.
 use mathlib.Core.Path.{refl, ap, sym, ◌∙◌}
 use mathlib.Core.Bool.{false}
-use Prim.Native.Nat.{◌-◌, ◌+◌}
+use Prim.Native.Nat.{◌+◌}
 use lib.ListN.{length-take}
 use Rattle.listlaws.proofs.Pads.{length-snoc}
 use Rattle.listlaws.proofs.Sifting.{sifting-start, sifting-keep, sifting-drop, sifting-end}

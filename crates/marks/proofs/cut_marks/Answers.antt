@@ -1,9 +1,9 @@
 -- `cut_marks` meets its contract: the loop walks the clock beside the run.
 use mathlib.Core.Path.{◌≡◌, ap, sym, ◌∙◌}
 use mathlib.Core.Logic.{inl, inr}
-use Prim.Native.Nat.{◌<◌, ◌-◌}
+use Prim.Native.Nat.{◌<◌}
 use lib.ListN.{length, get_or}
-use borrow.Author.Tests.{ltb-true, ltb-false}
+use borrow.Author.Tests.{ltb-true}
 use Rattle.clock.specs.Dots.{no_dot, dots_of}
 use Rattle.runs.specs.Run.{run_dots}
 use Rattle.marks.proofs.Dots.{run_at, length_run, few-dots}
@@ -40,7 +40,7 @@ pub loop-i-preserved-then-e-d : goal.loop-i-preserved-then-e-d
 loop-i-preserved-then-e-d c =
     let y = c.before.before.before in
     let s = y.before.before.before.before in
-    let q = level y.before in (
+    let q = level (goal.at.loop-i-preserved-then-e-d c).After-e-1 in (
       search rules,
       omega (arith, q.theirs, s.size-m.ensures),
       s.loop-i.invariant.2,
@@ -52,7 +52,7 @@ pub loop-i-preserved-then-d-e : goal.loop-i-preserved-then-d-e
 loop-i-preserved-then-d-e c =
     let y = c.before.before.before.before.before.before in
     let s = y.before.before.before.before in
-    let q = level y.before in (
+    let q = level (goal.at.loop-i-preserved-then-d-e c).After-e-1 in (
       omega arith,
       search rules,
       s.loop-i.invariant.2,
@@ -60,26 +60,16 @@ loop-i-preserved-then-d-e c =
           (λ k. omega (arith, c.if-d-e.true, ap (λ x. x.actor) q.dot)),
     )
 
--- both have the actor
-same : (c : Else-d-e) → let y = c.before.before.before.before.before.before in
-    let s = y.before.before.before.before in
-    (get_or s.args.by.dots s.loop-i.j no_dot).actor
-    ≡ (get_or (run_dots s.args.run.now) s.loop-i.i no_dot).actor
-same c =
-    let t = c.before.before.before in
-    let q = level t.before.before.before.before in
-    omega (arith, c.if-d-e.false, t.if-e-d.false, ap (λ x. x.actor) q.dot)
-
 pub loop-i-preserved-then-d-e-2 : goal.loop-i-preserved-then-d-e-2
 loop-i-preserved-then-d-e-2 c =
     let t = c.before.before.before in
     let y = t.before.before.before.before.before.before in
     let s = y.before.before.before.before in
-    let q = level y.before in (
+    let q = level (goal.at.loop-i-preserved-then-d-e-2 c).After-e-1 in (
       omega arith,
       omega (arith, q.theirs, s.size-m.ensures),
       s.loop-i.invariant.2,
-      cutting-off s.loop-i.invariant.3 q.ours q.theirs (same t)
+      cutting-off s.loop-i.invariant.3 q.ours q.theirs (omega (arith, t.if-d-e.false, t.if-e-d.false, ap (λ x. x.actor) q.dot))
           (omega (arith, c.if-d-e-2.true, ap (λ x. x.counter) q.dot)) (omega (arith, s.loop-i.invariant.2)),
     )
 
@@ -88,18 +78,18 @@ loop-i-preserved c =
     let t = c.before.before.before in
     let y = t.before.before.before.before.before.before in
     let s = y.before.before.before.before in
-    let q = level y.before in (
+    let q = level (goal.at.loop-i-preserved c).After-e-1 in (
       omega arith,
       omega (arith, q.theirs, s.size-m.ensures),
       s.loop-i.invariant.2,
-      cutting-on s.loop-i.invariant.3 q.ours q.theirs (same t)
+      cutting-on s.loop-i.invariant.3 q.ours q.theirs (omega (arith, t.if-d-e.false, t.if-e-d.false, ap (λ x. x.actor) q.dot))
           (omega (arith, c.if-d-e-2.false, ap (λ x. x.counter) q.dot)),
     )
 
 pub returns-else-j-m : goal.returns-else-j-m
 returns-else-j-m c =
     let s = c.before.before in
-    cutting-end s.loop-i.invariant.3 (inr (omega (arith, ltb-false s.loop-i.j s.size-m.result c.if-j-m.false, s.size-m.ensures)))
+    cutting-end s.loop-i.invariant.3 (inr (omega (arith, c.if-j-m.false, s.size-m.ensures)))
     (few-dots s.args.run.now _ s.requires.0 s.loop-i.invariant.2)
 
 pub returns-after-loop-i : goal.returns-after-loop-i

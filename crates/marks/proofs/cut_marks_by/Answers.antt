@@ -1,10 +1,10 @@
 -- `cut_marks_by` meets its contract: the loop walks the clock's run beside the run.
 use mathlib.Core.Path.{◌≡◌, ap, sym, ◌∙◌}
 use mathlib.Core.Logic.{inl, inr}
-use Prim.Native.Nat.{◌≤◌, ◌<◌, ◌-◌, ◌/◌}
+use Prim.Native.Nat.{◌≤◌, ◌<◌, ◌/◌}
 use lib.ListN.{length, get_or}
 use lib.Seq.{take-length}
-use borrow.Author.Tests.{ltb-true, ltb-false}
+use borrow.Author.Tests.{ltb-true}
 use Rattle.clock.specs.Dots.{no_dot}
 use Rattle.runs.specs.Run.{run_dots}
 use Rattle.marks.proofs.Dots.{run_at, length_run, all, few-dots}
@@ -45,7 +45,7 @@ pub loop-i-preserved-then-seen-d : goal.loop-i-preserved-then-seen-d
 loop-i-preserved-then-seen-d c =
     let y = c.before.before.before in
     let s = y.before.before.before.before in
-    let q = level y.before in (
+    let q = level (goal.at.loop-i-preserved-then-seen-d c).After-dot_at-seen in (
       search rules,
       omega (arith, ltb-true),
       s.loop-i.invariant.2,
@@ -57,7 +57,7 @@ pub loop-i-preserved-then-d-seen : goal.loop-i-preserved-then-d-seen
 loop-i-preserved-then-d-seen c =
     let y = c.before.before.before.before.before.before in
     let s = y.before.before.before.before in
-    let q = level y.before in (
+    let q = level (goal.at.loop-i-preserved-then-d-seen c).After-dot_at-seen in (
       omega arith,
       search rules,
       s.loop-i.invariant.2,
@@ -65,26 +65,17 @@ loop-i-preserved-then-d-seen c =
           (λ k. omega (arith, c.if-d-seen.true, ap (λ x. x.actor) q.dot, ap (λ x. x.actor) q.other)),
     )
 
--- both have the actor
-same : (c : Else-d-seen) → let y = c.before.before.before.before.before.before in
-    let s = y.before.before.before.before in
-    (get_or (run_dots s.args.by.now) s.loop-i.j no_dot).actor
-    ≡ (get_or (run_dots s.args.run.now) s.loop-i.i no_dot).actor
-same c =
-    let t = c.before.before.before in
-    let q = level t.before.before.before.before in
-    omega (arith, c.if-d-seen.false, t.if-seen-d.false, ap (λ x. x.actor) q.dot, ap (λ x. x.actor) q.other)
-
 pub loop-i-preserved-then-d-seen-2 : goal.loop-i-preserved-then-d-seen-2
 loop-i-preserved-then-d-seen-2 c =
     let t = c.before.before.before in
     let y = t.before.before.before.before.before.before in
     let s = y.before.before.before.before in
-    let q = level y.before in (
+    let q = level (goal.at.loop-i-preserved-then-d-seen-2 c).After-dot_at-seen in (
       omega arith,
       omega (arith, ltb-true),
       s.loop-i.invariant.2,
-      cutting-off s.loop-i.invariant.3 q.ours q.theirs (same t)
+      cutting-off s.loop-i.invariant.3 q.ours q.theirs
+          (omega (arith, t.if-d-seen.false, t.if-seen-d.false, ap (λ x. x.actor) q.dot, ap (λ x. x.actor) q.other))
           (omega (arith, c.if-d-seen-2.true, ap (λ x. x.counter) q.dot, ap (λ x. x.counter) q.other)) (omega (arith, s.loop-i.invariant.2)),
     )
 
@@ -93,11 +84,12 @@ loop-i-preserved c =
     let t = c.before.before.before in
     let y = t.before.before.before.before.before.before in
     let s = y.before.before.before.before in
-    let q = level y.before in (
+    let q = level (goal.at.loop-i-preserved c).After-dot_at-seen in (
       omega arith,
       omega (arith, ltb-true),
       s.loop-i.invariant.2,
-      cutting-on s.loop-i.invariant.3 q.ours q.theirs (same t)
+      cutting-on s.loop-i.invariant.3 q.ours q.theirs
+          (omega (arith, t.if-d-seen.false, t.if-seen-d.false, ap (λ x. x.actor) q.dot, ap (λ x. x.actor) q.other))
           (omega (arith, c.if-d-seen-2.false, ap (λ x. x.counter) q.dot, ap (λ x. x.counter) q.other)),
     )
 
@@ -106,7 +98,7 @@ returns-else-j-m c =
     let s = c.before.before in
     let by = s.args.by.now in
     let h : length (all (run_dots by)) ≤ s.loop-i.j = rw (take-length (run_dots by))
-    (omega (arith, ltb-false s.loop-i.j (length by / 16) c.if-j-m.false, length_run by)) in
+    (omega (arith, c.if-j-m.false, length_run by)) in
     cutting-end s.loop-i.invariant.3 (inr h) (few-dots s.args.run.now _ s.requires.0
     s.loop-i.invariant.2) ∙ rw (take-length (run_dots by))
 

@@ -1,7 +1,7 @@
 -- `pick_clock` meets its contract: the loop adds each dot whose mark is set.
 use mathlib.Core.Path.{◌≡◌, ap, sym, ◌∙◌}
 use mathlib.Core.List.{◌∷◌}
-use Prim.Native.Nat.{◌<◌, ◌-◌, ◌+◌}
+use Prim.Native.Nat.{◌<◌, ◌+◌}
 use lib.ListN.{drop}
 use Rattle.listlaws.proofs.Growing.{grow-start, grow-add, grow-skip, grow-end, grow-room}
 use Rattle.clock.specs.Dots.{no_dot}

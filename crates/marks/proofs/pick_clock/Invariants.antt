@@ -11,7 +11,8 @@ use Rattle.marks.proofs.pick_clock.Given as goal
 
 abbrev pub invariant-loop-i : goal.invariant-loop-i
 invariant-loop-i l =
-    (l.i ≤ l.n) × (length l.marks ≡ dot_limit) × Growing clock_of (picked l.marks (run_dots l.run)) (picked (drop l.i l.marks) (drop l.i (run_dots l.run))) l.clock
+    (l.i ≤ l.n) × (length l.marks ≡ dot_limit) × Growing clock_of (picked l.marks (run_dots l.run))
+    (picked (drop l.i l.marks) (drop l.i (run_dots l.run))) l.clock
 
 abbrev pub decreases-loop-i : goal.decreases-loop-i
 decreases-loop-i l = l.n - l.i

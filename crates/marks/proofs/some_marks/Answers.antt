@@ -1,6 +1,5 @@
 -- `some_marks` meets its contract: the loop looks for a mark that is set.
-use mathlib.Core.Bool.{true, false}
-use Prim.Native.Nat.{◌-◌}
+use mathlib.Core.Bool.{false}
 use lib.ListN.{length-take}
 use Rattle.listlaws.proofs.Passing.{passing-start, passing-here, passing-on, passing-end}
 use borrow.Author.Rules.{rules}

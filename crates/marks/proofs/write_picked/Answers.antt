@@ -1,7 +1,7 @@
 -- `write_picked` meets its contract: a record for each dot whose mark is set, one behind the other.
 use mathlib.Core.Path.{◌≡◌, ap, sym, ◌∙◌}
 use mathlib.Core.List.{[], ◌∷◌}
-use Prim.Native.Nat.{◌-◌, ◌+◌}
+use Prim.Native.Nat.{◌+◌}
 use lib.ListN.{drop, length-map}
 use Rattle.clock.specs.Dots.{no_dot}
 use Rattle.records.proofs.Writing.{write-start, write-room, write-on, write-end, wrote_one, write_kept}
@@ -45,14 +45,18 @@ set-mark c =
 pub write_record-next-requires : goal.write_record-next-requires
 write_record-next-requires c =
     let t = c.before in
-    omega (arith, (write-room _ _ _ (_ ∷ []) _ t.loop-i.invariant.2 (set-mark t.before)).0)
+    omega (arith, (write-room _ _ _ (_ ∷ []) _ t.loop-i.invariant.2 (set-mark (goal.at.write_record-next-requires c).Then-left)).0)
 
 pub loop-i-preserved-then-left : goal.loop-i-preserved-then-left
 loop-i-preserved-then-left c =
     let w = c.write_record-next in
     let t = c.before.before.before.before in
-    let s = t.before.before.before in
-    (omega arith, s.loop-i.invariant.1, write-on _ _ _ (_ ∷ []) s.loop-i.invariant.2 (set-mark t.before) (wrote_one _ _ _ _ _ w.ensures))
+    let s = t.before.before.before in (
+      omega arith,
+      s.loop-i.invariant.1,
+      write-on _ _ _ (_ ∷ []) s.loop-i.invariant.2 (set-mark (goal.at.loop-i-preserved-then-left c).Then-left)
+          (wrote_one _ _ _ _ _ w.ensures),
+    )
 
 pub loop-i-preserved : goal.loop-i-preserved
 loop-i-preserved c =

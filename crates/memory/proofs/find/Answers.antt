@@ -1,6 +1,5 @@
 -- `find` meets its contract.
 use mathlib.Core.Path.{sym, ◌∙◌}
-use Prim.Native.Nat.{◌-◌}
 use borrow.Author.Tests.{eq-eqb, ne_eqb}
 use native.Mathlib.Omega.{arith}
 use Rattle.listlaws.proofs.Passing.{passing-start}
@@ -24,9 +23,6 @@ returns-then-read32-key c = let s = c.before.before.before.before in
     look-here _ _ _ _ s.loop-j.invariant.1 c.loop-j-test.true s.requires
     (eq-eqb _ _ (sym c.read32.ensures ∙ c.if-read32-key.true))
 
-add-j : goal.overflow_add-j
-add-j c = omega arith
-
 pub loop-j-smaller : goal.loop-j-smaller
 loop-j-smaller c = omega arith
 
@@ -42,4 +38,4 @@ pub returns : goal.returns
 returns c = look-end _ _ _ _ c.loop-j.invariant.1 c.requires (omega arith)
 
 pub overflow_add-j-in-loop-j : goal.overflow_add-j-in-loop-j
-overflow_add-j-in-loop-j c = add-j c
+overflow_add-j-in-loop-j c = omega arith

@@ -19,7 +19,7 @@ returns-then-not-has_left c =
     let p = c.requires in
     led-none (fourth_of a.marks.now a.image.now) p.2 a.index
     (unused-means (fourth_of a.marks.now a.image.now) p.2 a.index
-    (used-told a.marks.now a.image.now p.0 a.index c.of_index.ensures c.Has-left.ensures
+    (used-told a.marks.now a.image.now p.0 a.index c.of_index.ensures c.has_left.ensures
     ∙ not-true _ (ap not c.if-not-has_left.true)))
 
 pub loop-i-init : goal.loop-i-init
@@ -47,7 +47,7 @@ returns-then-waits_same c =
     (used-means k p.2 a.index
     (used-told a.marks.now a.image.now p.0 a.index
     c.of_index.ensures
-    c.Has-left.ensures ∙ not-false _
+    c.has_left.ensures ∙ not-false _
     (ap not c.if-not-has_left.false)))
 
 pub loop-i-preserved-else-waits_same : goal.loop-i-preserved-else-waits_same
@@ -84,4 +84,4 @@ returns c =
     (λ j h. s.loop-i.invariant.2 j (omega (arith, c.loop-i-test.false)))
     (used-means k p.2 a.index
     (used-told a.marks.now a.image.now p.0 a.index c.of_index.ensures
-    c.Has-left.ensures ∙ not-false _ (ap not c.if-not-has_left.false)))
+    c.has_left.ensures ∙ not-false _ (ap not c.if-not-has_left.false)))

@@ -43,7 +43,7 @@ pub offset_bounds-marks-k-then-index-r : goal.offset_bounds-marks-k-then-index-r
 offset_bounds-marks-k-then-index-r c = omega (
   arith,
   c.loop-i-test.true,
-  c.well-formed,
+  c.well_formed,
   c.requires.0,
   c.requires.1,
 )

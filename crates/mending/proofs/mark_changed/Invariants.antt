@@ -11,7 +11,8 @@ use Rattle.mending.proofs.mark_changed.Given as goal
 
 abbrev pub invariant-loop-i : goal.invariant-loop-i
 invariant-loop-i l = (l.i ≤ l.n) × (length l.marks ≡ length l.initial.marks)
-    × Changing (staying (after_four (records_of l.image))) (marked_of l.initial.marks l.image) l.i (marked_of l.marks l.image) × ((j : ℕ) → j < l.i → get_or l.marks j 0 < 264)
+    × Changing (staying (after_four (records_of l.image))) (marked_of l.initial.marks l.image) l.i (marked_of l.marks l.image)
+    × ((j : ℕ) → j < l.i → get_or l.marks j 0 < 264)
 
 abbrev pub decreases-loop-i : goal.decreases-loop-i
 decreases-loop-i l = l.n - l.i

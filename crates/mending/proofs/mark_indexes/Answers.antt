@@ -41,7 +41,7 @@ pub mark_changed-requires : goal.mark_changed-requires
 mark_changed-requires c =
     let a = c.args in
     let p = c.requires in (
-      omega (arith, p.0, c.mark_united.auto.1.0),
+      omega (arith, p.0, c.mark_united.auto.marks),
       p.1,
       c.mark_united.ensures.0,
       c.mark_united.ensures.1,

@@ -43,7 +43,7 @@ pub offset_bounds-marks-k-then-not-is_united : goal.offset_bounds-marks-k-then-n
 offset_bounds-marks-k-then-not-is_united c = omega (
   arith,
   c.loop-i-test.true,
-  c.well-formed,
+  c.well_formed,
   c.requires.0,
 )
 

@@ -13,7 +13,8 @@ use Rattle.mending.proofs.rank_of.Given as goal
 
 abbrev pub invariant-loop-i : goal.invariant-loop-i
 invariant-loop-i l = (l.i ≤ 256) × (l.count ≤ l.i) × (l.count ≡ length (those
-    (λ j. eqb (get_or l.leads j 0) j && clock_before (waiting_clock (fourth_of l.marks l.image) j) (waiting_clock (fourth_of l.marks l.image) l.index))
+    (λ j. eqb (get_or l.leads j 0) j && clock_before (waiting_clock (fourth_of l.marks l.image) j)
+    (waiting_clock (fourth_of l.marks l.image) l.index))
     (numbers_below l.i)))
 
 abbrev pub decreases-loop-i : goal.decreases-loop-i

@@ -3,7 +3,7 @@ use mathlib.Core.Logic.{⊎_elim}
 use Prim.Native.Nat.{◌<◌, ◌-◌, ◌/◌}
 use native.Mathlib.Omega.{arith}
 use lib.ListN.{length}
-use borrow.Author.Tests.{ltb-true, ltb-false}
+use borrow.Author.Tests.{ltb-true, ltb-false, lt-ltb}
 use Rattle.mending.proofs.Dots.{compare-start, compare-actor, compare-counter, compare-on, compare-first, compare-second}
 use Rattle.mending.proofs.waits_before.Goals.{then-loop-i-test+else-j-n, else-loop-i-test}
 use Rattle.mending.proofs.waits_before.Goals as goal
@@ -26,7 +26,7 @@ pub returns-then-x-y : goal.returns-then-x-y
 returns-then-x-y c =
     let s = c.before.before.before.before.before.before.before.before.before in
     let a = c.args in
-    let k : s.loop-i.j < length a.image.now / 16 = ltb-true _ _ c.if-j-n.true in
+    let k : s.loop-i.j < length a.image.now / 16 = c.if-j-n.true in
     compare-actor s.loop-i.invariant.2 (omega (arith, c.loop-i-test.true)) k
     c.read_record-x.ensures
     c.read_record-y.ensures c.if-x-y.true
@@ -36,7 +36,7 @@ returns-then-x-y-2 c =
     let s = c.before.before.before.before.before.before.before.before.before.before.before.before in
     let a = c.args in
     let k : s.loop-i.j < length a.image.now / 16 = ltb-true _ _
-    c.if-j-n.true in
+    (lt-ltb _ _ c.if-j-n.true) in
     compare-counter s.loop-i.invariant.2 (omega (
       arith,
       c.loop-i-test.true,
@@ -50,7 +50,7 @@ pub overflow_add-i : goal.overflow_add-i
 overflow_add-i c = omega (
   arith,
   c.loop-i-test.true,
-  c.well-formed,
+  c.well_formed,
 )
 
 pub dot_from-i-requires-in-loop-i : goal.dot_from-i-requires-in-loop-i
@@ -63,18 +63,18 @@ pub overflow_add-j : goal.overflow_add-j
 overflow_add-j c =
     let a = c.args in
     let k : c.loop-i.j < length
-    a.image.now / 16 = ltb-true _ _ c.if-j-n.true in
+    a.image.now / 16 = c.if-j-n.true in
     omega (
       arith,
       k,
-      c.well-formed,
+      c.well_formed,
     )
 
 pub dot_from-j-requires-in-loop-i : goal.dot_from-j-requires-in-loop-i
 dot_from-j-requires-in-loop-i c =
     let a = c.args in
     let k : c.loop-i.j < length
-    a.image.now / 16 = ltb-true _ _ c.if-j-n.true in (
+    a.image.now / 16 = c.if-j-n.true in (
       omega (arith, k),
       c.requires,
     )
@@ -92,7 +92,7 @@ loop-i-preserved c =
     let s = c.before.before.before.before.before.before.before.before.before.before.before.before in
     let a = c.args in
     let k : s.loop-i.j < length a.image.now / 16 = ltb-true _ _
-    c.if-j-n.true in (
+    (lt-ltb _ _ c.if-j-n.true) in (
       c.dot_from-i-in-loop-i.ensures.inside,
       c.dot_from-j-in-loop-i.ensures.inside,
       compare-on s.loop-i.invariant.2 (omega (
@@ -109,6 +109,6 @@ pub returns : goal.returns
 returns c =
     let s = c.before in
     elim c.loop-i-test.branch [
-      then-loop-i-test+else-j-n w ↦ compare-second c.requires s.loop-i.invariant.2 w.if-j-n.false
-    | else-loop-i-test w ↦ compare-first c.requires s.loop-i.invariant.2 (omega (arith, w.loop-i-test.false))
+      | then-loop-i-test+else-j-n w ↦ compare-second c.requires s.loop-i.invariant.2 w.if-j-n.false
+      | else-loop-i-test w ↦ compare-first c.requires s.loop-i.invariant.2 (omega (arith, w.loop-i-test.false))
     ]

@@ -1,6 +1,5 @@
 -- `read_op` meets its contract: every record is handed to the reader, which is then asked.
 use mathlib.Core.Path.{refl}
-use Prim.Native.Nat.{◌-◌}
 use borrow.Author.Tests.{lt-ltb, le-ltb, eq-eqb, ne_eqb}
 use Rattle.records.proofs.Feeding.{feed-start, feed-on, feed-end}
 use Rattle.opimage.specs.OpImage.{read_op}

@@ -1,7 +1,6 @@
 -- `write_keys` meets its contract: a record for each key, one behind the other.
 use mathlib.Core.Path.{ap}
 use mathlib.Core.List.{[], ◌∷◌, map}
-use Prim.Native.Nat.{◌-◌}
 use lib.ListN.{get_or, length-map}
 use Rattle.listlaws.proofs.Rests.{map_on, drop-end}
 use Rattle.removals.specs.Model.{keys_of}

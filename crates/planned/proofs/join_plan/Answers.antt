@@ -74,7 +74,8 @@ lies-of c w v q p =
     (ap (λ (x : Held). x.second) c.whole-x.ensures) (ap (λ (x : Held). x.second) c.whole-y.ensures)
 
 -- the walk comes nearer to the end
-near : (c : After-passed-j) → let u = c.before.before.before.before.before.before.before in let t = u.before.before.before.before.before.before.before.before.before.before in
+near : (c : After-passed-j) → let u = c.before.before.before.before.before.before.before in let t
+    = u.before.before.before.before.before.before.before.before.before.before in
     let n = t.places-n.result in let m = t.places-m.result in
     let o = c.passed-i.result in let p = c.passed-j.result in
     ((o ≤ n) × (p ≤ m)) × (((n - o) + (m - p) < (n - t.loop-i.i) + (m - t.loop-i.j)) × (t.loop-i.i + t.loop-i.j < o + p))
@@ -206,9 +207,9 @@ overflow_add-count c =
     let t = c.before.before.before.before.before.before.before.before.before.before.before.before.before.before.before.before.before.before.before in
     omega (
       arith,
-      t.loop-i.inv.0.0,
-      t.loop-i.inv.0.1,
-      t.loop-i.inv.0.2,
+      t.loop-i.invariant.0.0,
+      t.loop-i.invariant.0.1,
+      t.loop-i.invariant.0.2,
       t.places-m.ensures.0.0,
       t.places-n.ensures.0.0,
     )

@@ -13,7 +13,8 @@ use Rattle.planned.proofs.join_plan.Given as goal
 
 abbrev pub invariant-loop-i : goal.invariant-loop-i
 invariant-loop-i l =
-    ((l.i ≤ l.n) × (l.j ≤ l.m) × (l.count ≤ l.i + l.j) × (length l.ours ≡ waiting_limit) × (length l.theirs ≡ waiting_limit) × (length l.items ≡ waiting_limit))
+    ((l.i ≤ l.n) × (l.j ≤ l.m) × (l.count ≤ l.i + l.j) × (length l.ours ≡ waiting_limit) × (length l.theirs ≡ waiting_limit)
+    × (length l.items ≡ waiting_limit))
     × ((w v : List Removal) → Queued l.s l.q w → Queued l.t l.p v → ValidWaiting w → ValidWaiting v
     → Joining (dots_of l.seen) w v l.s l.t l.i l.j l.count l.items l.ours l.theirs)
 

@@ -10,7 +10,8 @@ use Rattle.planned.proofs.write_clocks.Given as goal
 
 abbrev pub invariant-loop-i : goal.invariant-loop-i
 invariant-loop-i l =
-    (l.i ≤ l.n) × ((w v result : List Removal) → Plans l.s l.t w v result l.p → l.at + length (flat_from waiting_dots 0 result) * 16 ≤ length l.initial.out
+    (l.i ≤ l.n) × ((w v result : List Removal) → Plans l.s l.t w v result l.p
+    → l.at + length (flat_from waiting_dots 0 result) * 16 ≤ length l.initial.out
     → Writing (flat_from waiting_dots 0 result) (flat_from waiting_dots l.i (drop l.i result)) l.at l.initial.out l.out l.next)
 
 abbrev pub decreases-loop-i : goal.decreases-loop-i

@@ -1,5 +1,4 @@
 -- `first_lacking` meets its contract: the loop looks for the first dot whose needed counter was not seen.
-use Prim.Native.Nat.{◌-◌}
 use borrow.Author.Tests.{lt-ltb, le-ltb}
 use Rattle.listlaws.proofs.Passing.{passing-start, passing-here, passing-on, passing-end}
 use Rattle.clock.specs.Dots.{no_dot}

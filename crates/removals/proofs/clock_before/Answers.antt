@@ -1,10 +1,9 @@
 -- `clock_before` meets its contract: the loop passes equal dots.
 use mathlib.Core.Path.{◌≡◌, refl, ◌∙◌}
-use mathlib.Core.Logic.{⊎_elim}
 use mathlib.Core.List.{◌∷◌}
-use Prim.Native.Nat.{◌≤◌, ◌<◌, ◌-◌, ◌+◌}
+use Prim.Native.Nat.{◌≤◌, ◌<◌, ◌+◌}
 use lib.ListN.{length, drop, get_or}
-use borrow.Author.Tests.{le-ltb, ltb-true, ltb-false}
+use borrow.Author.Tests.{le-ltb, ltb-true}
 use Rattle.listlaws.proofs.Rests.{drop-step, drop-end}
 use Rattle.clock.specs.Dots.{no_dot, dots_of}
 use Rattle.removals.specs.Waits.{clock_before}
@@ -71,10 +70,10 @@ returns c =
     let a = s.args in
     let i = s.loop-i.i in
     elim c.loop-i-test.branch [
-      then-loop-i-test+else-i-m w ↦
-        let h : s.size-m.result ≤ i = w.if-i-m.false in
-        rw (s.loop-i.invariant.2, drop-end (dots_of a.b) i (omega (arith, s.size-m.ensures))) (le-ltb _ _ h)
-    | else-loop-i-test w ↦
-      rw (s.loop-i.invariant.2, drop-end (dots_of a.a) i (omega (arith, w.loop-i-test.false, s.size-n.ensures)), s.size-m.ensures.0)
-      (before-prefix (dots_of a.b) i)
+      | then-loop-i-test+else-i-m w ↦
+          let h : s.size-m.result ≤ i = w.if-i-m.false in
+          rw (s.loop-i.invariant.2, drop-end (dots_of a.b) i (omega (arith, s.size-m.ensures))) (le-ltb _ _ h)
+      | else-loop-i-test w ↦
+          rw (s.loop-i.invariant.2, drop-end (dots_of a.a) i (omega (arith, w.loop-i-test.false, s.size-n.ensures)), s.size-m.ensures.0)
+          (before-prefix (dots_of a.b) i)
     ]

@@ -1,7 +1,7 @@
 -- `copy_run` meets its contract: the loop copies a byte a turn.
 use mathlib.Core.Path.{◌≡◌, refl, ap, ◌∙◌}
 use mathlib.Core.List.{append_assoc}
-use Prim.Native.Nat.{suc, ◌+◌, ◌-◌}
+use Prim.Native.Nat.{suc, ◌+◌}
 use lib.ListN.{length, take, drop, get_or, set, length-set}
 use lib.Seq.{paste, paste-zero, paste-suc, take-length}
 use native.Mathlib.Omega.{arith}

@@ -8,7 +8,8 @@ use Rattle.salvage.proofs.write_kept.Given as goal
 
 abbrev pub invariant-loop-i : goal.invariant-loop-i
 invariant-loop-i l = (l.i ≤ l.n)
-    × Writing (select_from l.n no_record (kept_of (marked_of l.marks l.image))) (select_from (l.n - l.i) l.last (kept_of (marked_of l.marks l.image))) 0 l.initial.out l.out l.next
+    × Writing (select_from l.n no_record (kept_of (marked_of l.marks l.image)))
+    (select_from (l.n - l.i) l.last (kept_of (marked_of l.marks l.image))) 0 l.initial.out l.out l.next
 
 abbrev pub decreases-loop-i : goal.decreases-loop-i
 decreases-loop-i l = l.n - l.i

@@ -1,7 +1,7 @@
 -- `against` meets its contract: the loop compares the run with one value after the other.
 use mathlib.Core.Path.{◌≡◌, refl, sym, ◌∙◌}
 use mathlib.Core.List.{List}
-use Prim.Native.Nat.{◌<◌, ◌-◌, ◌+◌}
+use Prim.Native.Nat.{◌<◌, ◌+◌}
 use lib.ListN.{get_or}
 use Rattle.clock.specs.declared.Order.{Order}
 use Rattle.clock.specs.declared.Order.TheVariants.{Equal, Greater, Less, Concurrent}
@@ -33,7 +33,7 @@ found c =
 
 pub compare_runs-o-requires : goal.compare_runs-o-requires
 compare_runs-o-requires c =
-    let r = (found c.before).1 in
+    let r = (found (goal.at.compare_runs-o-requires c).In-loop-j).1 in
     (c.requires.0, rw (run-dots r) r.lawful)
 
 -- how the run's value stands to the one that the walk has come to
@@ -56,7 +56,8 @@ loop-j-preserved-in-Equal c =
       omega arith,
       s.loop-j.invariant.1,
       λ v l e r. passed-off (s.loop-j.invariant.2 v l e r) (omega (arith, r.count))
-          (met k v l Equal e r c.in-Equal.is) refl refl (omega (arith, s.loop-j.invariant.1, (found k.before.before).0)),
+          (met (goal.at.loop-j-preserved-in-Equal c).After-compare_runs-o v l Equal e r c.in-Equal.is) refl refl
+          (omega (arith, s.loop-j.invariant.1, (found (goal.at.loop-j-preserved-in-Equal c).In-loop-j).0)),
     )
 
 pub loop-j-preserved-in-Greater : goal.loop-j-preserved-in-Greater
@@ -66,7 +67,8 @@ loop-j-preserved-in-Greater c =
       omega arith,
       s.loop-j.invariant.1,
       λ v l e r. passed-off (s.loop-j.invariant.2 v l e r) (omega (arith, r.count))
-          (met k v l Greater e r c.in-Greater.is) refl refl (omega (arith, s.loop-j.invariant.1, (found k.before.before).0)),
+          (met (goal.at.loop-j-preserved-in-Greater c).After-compare_runs-o v l Greater e r c.in-Greater.is) refl refl
+          (omega (arith, s.loop-j.invariant.1, (found (goal.at.loop-j-preserved-in-Greater c).In-loop-j).0)),
     )
 
 pub loop-j-preserved : goal.loop-j-preserved
@@ -76,44 +78,48 @@ loop-j-preserved c =
       omega arith,
       s.loop-j.invariant.1,
       λ v l e r. passed_on (s.loop-j.invariant.2 v l e r) (omega (arith, r.count))
-          (met k v l Concurrent e r c.in-Concurrent.is) refl refl,
+          (met (goal.at.loop-j-preserved c).After-compare_runs-o v l Concurrent e r c.in-Concurrent.is) refl refl,
     )
 
 pub returns-in-Less : goal.returns-in-Less
 returns-in-Less c = λ v l e r.
     let k = c.before.before in
-    let s = k.before.before.before in
-    (passed-stops (s.loop-j.invariant.2 v l e r) (omega (arith, r.count)) (met k v l Less e r c.in-Less.is) refl, refl)
+    let s = k.before.before.before in (
+      passed-stops (s.loop-j.invariant.2 v l e r) (omega (arith, r.count))
+          (met (goal.at.returns-in-Less c).After-compare_runs-o v l Less e r c.in-Less.is) refl,
+      refl,
+    )
 
 pub returns : goal.returns
-returns c = λ v l e r. let s = c.before in passed-end (s.loop-j.invariant.2 v l e r) (omega (arith, r.count)) (omega (arith, r.few, s.loop-j.invariant.1))
+returns c = λ v l e r. let s = c.before in passed-end (s.loop-j.invariant.2 v l e r) (omega (arith, r.count))
+    (omega (arith, r.few, s.loop-j.invariant.1))
 
 pub offset_bounds-starts-k : goal.offset_bounds-starts-k
-offset_bounds-starts-k c = omega (arith, found c)
+offset_bounds-starts-k c = let r = c.requires.1.1 in omega (arith, r.count, r.few, r.each c.loop-j.j (omega arith))
 
 pub bounds-starts-k : goal.bounds-starts-k
-bounds-starts-k c = omega (arith, found c)
+bounds-starts-k c = let r = c.requires.1.1 in omega (arith, r.count, r.few, r.each c.loop-j.j (omega arith))
 
 pub overflow_mul-p : goal.overflow_mul-p
-overflow_mul-p c = omega (arith, found c)
+overflow_mul-p c = let r = c.requires.1.1 in omega (arith, r.count, r.few, r.each c.loop-j.j (omega arith))
 
 pub overflow_add-q : goal.overflow_add-q
-overflow_add-q c = omega (arith, found c)
+overflow_add-q c = let r = c.requires.1.1 in omega (arith, r.count, r.few, r.each c.loop-j.j (omega arith))
 
 pub offset_bounds-starts-k-in-loop-j : goal.offset_bounds-starts-k-in-loop-j
-offset_bounds-starts-k-in-loop-j c = omega (arith, found c)
+offset_bounds-starts-k-in-loop-j c = let r = c.requires.1.1 in omega (arith, r.count, r.few, r.each c.loop-j.j (omega arith))
 
 pub bounds-starts-k-in-loop-j : goal.bounds-starts-k-in-loop-j
-bounds-starts-k-in-loop-j c = omega (arith, found c)
+bounds-starts-k-in-loop-j c = let r = c.requires.1.1 in omega (arith, r.count, r.few, r.each c.loop-j.j (omega arith))
 
 pub overflow_mul-q : goal.overflow_mul-q
-overflow_mul-q c = omega (arith, found c)
+overflow_mul-q c = let r = c.requires.1.1 in omega (arith, r.count, r.few, r.each c.loop-j.j (omega arith))
 
 pub slice_bounds-compare_runs-count : goal.slice_bounds-compare_runs-count
-slice_bounds-compare_runs-count c = omega (arith, found c)
+slice_bounds-compare_runs-count c = let r = c.requires.1.1 in omega (arith, r.count, r.few, r.each c.loop-j.j (omega arith))
 
 pub slice_bounds-compare_runs-start : goal.slice_bounds-compare_runs-start
-slice_bounds-compare_runs-start c = omega (arith, found c)
+slice_bounds-compare_runs-start c = let r = c.requires.1.1 in omega (arith, r.count, r.few, r.each c.loop-j.j (omega arith))
 
 pub slice_bounds-compare_runs-end : goal.slice_bounds-compare_runs-end
-slice_bounds-compare_runs-end c = omega (arith, found c)
+slice_bounds-compare_runs-end c = let r = c.requires.1.1 in omega (arith, r.count, r.few, r.each c.loop-j.j (omega arith))

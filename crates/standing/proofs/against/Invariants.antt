@@ -14,7 +14,8 @@ use Rattle.standing.proofs.against.Given as goal
 abbrev pub invariant-loop-j : goal.invariant-loop-j
 invariant-loop-j live =
     (live.j ≤ live.n) × (length live.initial.left ≡ value_limit) ×
-    ((v : Value) (l : List Value) → run_dots live.run ≡ dots_of v.clock → RunsOf live.s live.starts live.n l → Passed v l live.initial.left live.j live.left)
+    ((v : Value) (l : List Value) → run_dots live.run ≡ dots_of v.clock → RunsOf live.s live.starts live.n l
+    → Passed v l live.initial.left live.j live.left)
 
 abbrev pub decreases-loop-j : goal.decreases-loop-j
 decreases-loop-j l = l.n - l.j

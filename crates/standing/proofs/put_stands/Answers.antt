@@ -2,7 +2,7 @@
 use mathlib.Core.Path.{◌≡◌, refl, sym, ◌∙◌}
 use mathlib.Core.Bool.{Bool, true, false, ◌||◌}
 use mathlib.Core.List.{List}
-use Prim.Native.Nat.{◌<◌, ◌-◌, ◌+◌}
+use Prim.Native.Nat.{◌<◌, ◌+◌}
 use lib.ListN.{get_or}
 use Rattle.clock.specs.declared.Order.{Order}
 use Rattle.clock.specs.declared.Order.TheVariants.{Equal, Greater, Less, Concurrent}
@@ -34,7 +34,7 @@ found c =
 
 pub compare_runs-o-requires : goal.compare_runs-o-requires
 compare_runs-o-requires c =
-    let r = (found c.before).1 in
+    let r = (found (goal.at.compare_runs-o-requires c).In-loop-i).1 in
     (rw (run-dots r) r.lawful, c.requires.1)
 
 -- how the value that the walk has come to stands to the put
@@ -50,8 +50,9 @@ loop-i-preserved-in-Less c =
     let k = c.before.before in
     let s = k.before.before.before in (
       omega arith,
-      λ l v r e. putting-off (s.loop-i.invariant.1 l v r e) (omega (arith, r.count)) (met k l v Less r e c.in-Less.is) refl
-          (found k.before.before).0,
+      λ l v r e. putting-off (s.loop-i.invariant.1 l v r e) (omega (arith, r.count))
+          (met (goal.at.loop-i-preserved-in-Less c).After-compare_runs-o l v Less r e c.in-Less.is) refl
+          (found (goal.at.loop-i-preserved-in-Less c).In-loop-i).0,
     )
 
 pub loop-i-preserved-in-Equal : goal.loop-i-preserved-in-Equal
@@ -59,8 +60,9 @@ loop-i-preserved-in-Equal c =
     let k = c.before.before in
     let s = k.before.before.before in (
       omega arith,
-      λ l v r e. putting-off (s.loop-i.invariant.1 l v r e) (omega (arith, r.count)) (met k l v Equal r e c.in-Equal.is) refl
-          (found k.before.before).0,
+      λ l v r e. putting-off (s.loop-i.invariant.1 l v r e) (omega (arith, r.count))
+          (met (goal.at.loop-i-preserved-in-Equal c).After-compare_runs-o l v Equal r e c.in-Equal.is) refl
+          (found (goal.at.loop-i-preserved-in-Equal c).In-loop-i).0,
     )
 
 or-true : (b : Bool) → true ≡ (b || true)
@@ -76,7 +78,8 @@ loop-i-preserved-in-Greater c =
     let k = c.before.before in
     let s = k.before.before.before in (
       omega arith,
-      λ l v r e. putting-on (s.loop-i.invariant.1 l v r e) (omega (arith, r.count)) (met k l v Greater r e c.in-Greater.is) refl
+      λ l v r e. putting-on (s.loop-i.invariant.1 l v r e) (omega (arith, r.count))
+          (met (goal.at.loop-i-preserved-in-Greater c).After-compare_runs-o l v Greater r e c.in-Greater.is) refl
           (or-true s.loop-i.yields),
     )
 
@@ -86,44 +89,44 @@ loop-i-preserved c =
     let s = k.before.before.before in (
       omega arith,
       λ l v r e. putting-on (s.loop-i.invariant.1 l v r e) (omega (arith, r.count))
-          (met k l v Concurrent r e c.in-Concurrent.is) refl (or-false s.loop-i.yields),
+          (met (goal.at.loop-i-preserved c).After-compare_runs-o l v Concurrent r e c.in-Concurrent.is) refl (or-false s.loop-i.yields),
     )
 
 pub returns : goal.returns
 returns c = λ l v r e. putting-end (c.loop-i.invariant.1 l v r e) (omega (arith, r.count)) r.few
 
 pub offset_bounds-starts-k : goal.offset_bounds-starts-k
-offset_bounds-starts-k c = omega (arith, found c)
+offset_bounds-starts-k c = let r = c.requires.0.1 in omega (arith, r.count, r.few, r.each c.loop-i.i (omega arith))
 
 pub bounds-starts-k : goal.bounds-starts-k
-bounds-starts-k c = omega (arith, found c)
+bounds-starts-k c = let r = c.requires.0.1 in omega (arith, r.count, r.few, r.each c.loop-i.i (omega arith))
 
 pub overflow_mul-p : goal.overflow_mul-p
-overflow_mul-p c = omega (arith, found c)
+overflow_mul-p c = let r = c.requires.0.1 in omega (arith, r.count, r.few, r.each c.loop-i.i (omega arith))
 
 pub overflow_add-q : goal.overflow_add-q
-overflow_add-q c = omega (arith, found c)
+overflow_add-q c = let r = c.requires.0.1 in omega (arith, r.count, r.few, r.each c.loop-i.i (omega arith))
 
 pub offset_bounds-starts-k-in-loop-i : goal.offset_bounds-starts-k-in-loop-i
-offset_bounds-starts-k-in-loop-i c = omega (arith, found c)
+offset_bounds-starts-k-in-loop-i c = let r = c.requires.0.1 in omega (arith, r.count, r.few, r.each c.loop-i.i (omega arith))
 
 pub bounds-starts-k-in-loop-i : goal.bounds-starts-k-in-loop-i
-bounds-starts-k-in-loop-i c = omega (arith, found c)
+bounds-starts-k-in-loop-i c = let r = c.requires.0.1 in omega (arith, r.count, r.few, r.each c.loop-i.i (omega arith))
 
 pub overflow_mul-q : goal.overflow_mul-q
-overflow_mul-q c = omega (arith, found c)
+overflow_mul-q c = let r = c.requires.0.1 in omega (arith, r.count, r.few, r.each c.loop-i.i (omega arith))
 
 pub slice_bounds-compare_runs-count : goal.slice_bounds-compare_runs-count
-slice_bounds-compare_runs-count c = omega (arith, found c)
+slice_bounds-compare_runs-count c = let r = c.requires.0.1 in omega (arith, r.count, r.few, r.each c.loop-i.i (omega arith))
 
 pub slice_bounds-compare_runs-start : goal.slice_bounds-compare_runs-start
-slice_bounds-compare_runs-start c = omega (arith, found c)
+slice_bounds-compare_runs-start c = let r = c.requires.0.1 in omega (arith, r.count, r.few, r.each c.loop-i.i (omega arith))
 
 pub slice_bounds-compare_runs-end : goal.slice_bounds-compare_runs-end
-slice_bounds-compare_runs-end c = omega (arith, found c)
+slice_bounds-compare_runs-end c = let r = c.requires.0.1 in omega (arith, r.count, r.few, r.each c.loop-i.i (omega arith))
 
 pub bounds-remain-k : goal.bounds-remain-k
-bounds-remain-k c = omega (arith, found c.before.before.before.before)
+bounds-remain-k c = omega (arith, found (goal.at.bounds-remain-k c).In-loop-i)
 
 pub bounds-remain-k-in-Equal : goal.bounds-remain-k-in-Equal
-bounds-remain-k-in-Equal c = omega (arith, found c.before.before.before.before)
+bounds-remain-k-in-Equal c = omega (arith, found (goal.at.bounds-remain-k-in-Equal c).In-loop-i)

@@ -11,7 +11,8 @@ use Rattle.standing.proofs.put_stands.Given as goal
 
 abbrev pub invariant-loop-i : goal.invariant-loop-i
 invariant-loop-i live =
-    (live.i ≤ live.n) × ((l : List Value) (v : Value) → RunsOf live.s live.starts live.n l → run_dots live.put ≡ dots_of v.clock → Putting l v live.i live.remain live.yields)
+    (live.i ≤ live.n) × ((l : List Value) (v : Value) → RunsOf live.s live.starts live.n l → run_dots live.put ≡ dots_of v.clock
+    → Putting l v live.i live.remain live.yields)
 
 abbrev pub decreases-loop-i : goal.decreases-loop-i
 decreases-loop-i l = l.n - l.i

@@ -1,5 +1,5 @@
 -- `stands` meets its contract: the loop takes our values one after the other.
-use Prim.Native.Nat.{◌<◌, ◌-◌, ◌+◌}
+use Prim.Native.Nat.{◌<◌, ◌+◌}
 use lib.ListN.{get_or}
 use Rattle.limits.specs.Limits.{value_limit}
 use Rattle.register.specs.Values.{no_value}
@@ -26,7 +26,7 @@ found c =
 
 pub against-st-requires : goal.against-st-requires
 against-st-requires c =
-    let r = (found c.before).1 in
+    let r = (found (goal.at.against-st-requires c).In-loop-i).1 in
     (rw (run-dots r) r.lawful, c.requires.1)
 
 pub loop-i-preserved-then-st : goal.loop-i-preserved-then-st
@@ -35,7 +35,8 @@ loop-i-preserved-then-st c =
     let s = g.before.before.before in (
       omega arith,
       λ l k p q. let f = g.against-st.ensures (get_or l s.loop-i.i no_value) k (run-dots (p.each s.loop-i.i (omega arith))) q in
-          merging-off (s.loop-i.invariant.1 l k p q) (omega (arith, p.count)) f.0 f.1 c.if-st.true (found g.before.before).0,
+          merging-off (s.loop-i.invariant.1 l k p q) (omega (arith, p.count)) f.0 f.1 c.if-st.true
+          (found (goal.at.loop-i-preserved-then-st c).In-loop-i).0,
     )
 
 pub loop-i-preserved : goal.loop-i-preserved
@@ -51,31 +52,31 @@ pub returns : goal.returns
 returns c = λ l k p q. merging-end (c.loop-i.invariant.1 l k p q) (omega (arith, p.count)) p.few
 
 pub offset_bounds-xs-k : goal.offset_bounds-xs-k
-offset_bounds-xs-k c = omega (arith, found c)
+offset_bounds-xs-k c = let r = c.requires.0.1 in omega (arith, r.count, r.few, r.each c.loop-i.i (omega arith))
 
 pub bounds-xs-k : goal.bounds-xs-k
-bounds-xs-k c = omega (arith, found c)
+bounds-xs-k c = let r = c.requires.0.1 in omega (arith, r.count, r.few, r.each c.loop-i.i (omega arith))
 
 pub overflow_mul-p : goal.overflow_mul-p
-overflow_mul-p c = omega (arith, found c)
+overflow_mul-p c = let r = c.requires.0.1 in omega (arith, r.count, r.few, r.each c.loop-i.i (omega arith))
 
 pub overflow_add-q : goal.overflow_add-q
-overflow_add-q c = omega (arith, found c)
+overflow_add-q c = let r = c.requires.0.1 in omega (arith, r.count, r.few, r.each c.loop-i.i (omega arith))
 
 pub offset_bounds-xs-k-in-loop-i : goal.offset_bounds-xs-k-in-loop-i
-offset_bounds-xs-k-in-loop-i c = omega (arith, found c)
+offset_bounds-xs-k-in-loop-i c = let r = c.requires.0.1 in omega (arith, r.count, r.few, r.each c.loop-i.i (omega arith))
 
 pub bounds-xs-k-in-loop-i : goal.bounds-xs-k-in-loop-i
-bounds-xs-k-in-loop-i c = omega (arith, found c)
+bounds-xs-k-in-loop-i c = let r = c.requires.0.1 in omega (arith, r.count, r.few, r.each c.loop-i.i (omega arith))
 
 pub overflow_mul-q : goal.overflow_mul-q
-overflow_mul-q c = omega (arith, found c)
+overflow_mul-q c = let r = c.requires.0.1 in omega (arith, r.count, r.few, r.each c.loop-i.i (omega arith))
 
 pub slice_bounds-against-count : goal.slice_bounds-against-count
-slice_bounds-against-count c = omega (arith, found c)
+slice_bounds-against-count c = let r = c.requires.0.1 in omega (arith, r.count, r.few, r.each c.loop-i.i (omega arith))
 
 pub slice_bounds-against-start : goal.slice_bounds-against-start
-slice_bounds-against-start c = omega (arith, found c)
+slice_bounds-against-start c = let r = c.requires.0.1 in omega (arith, r.count, r.few, r.each c.loop-i.i (omega arith))
 
 pub slice_bounds-against-end : goal.slice_bounds-against-end
-slice_bounds-against-end c = omega (arith, found c)
+slice_bounds-against-end c = let r = c.requires.0.1 in omega (arith, r.count, r.few, r.each c.loop-i.i (omega arith))

@@ -1,6 +1,6 @@
 -- `count_entries` meets its contract: the loop follows the definition.
 use mathlib.Core.Path.{◌≡◌, sym, ◌∙◌}
-use Prim.Native.Nat.{ℕ, ◌≤◌, ◌<◌, ◌-◌}
+use Prim.Native.Nat.{ℕ, ◌≤◌, ◌<◌}
 use borrow.Author.Rules.{rules}
 use borrow.Author.Tests.{not-true, not-false, ltb-true, ltb-false, lt-ltb}
 use mathlib.Core.Bool.{true, false, ◌&&◌}

@@ -1,5 +1,5 @@
 -- `keys_good` meets its contract: the loop follows the definition.
-use Prim.Native.Nat.{◌+◌, ◌*◌, ◌-◌}
+use Prim.Native.Nat.{◌+◌, ◌*◌}
 use borrow.Author.Rules.{rules}
 use borrow.Author.Tests.{not-true, not-false}
 use native.Mathlib.Omega.{arith}
@@ -32,7 +32,8 @@ pub overflow_add-counts : goal.overflow_add-counts
 overflow_add-counts c =
     let s = c.before.before.before.before.before.before.before.before in
     let r = c.read_record-r.result in
-    let k = count_room s.loop-i.low (r.key * 256 + r.index) (get_or s.loop-i.counts r.index 0) (not-false _ (ap not c.if-not-low-x.false)) in omega arith
+    let k = count_room s.loop-i.low (r.key * 256 + r.index) (get_or s.loop-i.counts r.index 0)
+    (not-false _ (ap not c.if-not-low-x.false)) in omega arith
 
 pub bounds-counts-k-in-loop-i : goal.bounds-counts-k-in-loop-i
 bounds-counts-k-in-loop-i c = let k = key-index c.args.n

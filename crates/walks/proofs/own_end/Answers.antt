@@ -1,9 +1,7 @@
 -- `own_end` meets its contract: the loop follows the definition.
-use Prim.Native.Nat.{◌-◌}
 use borrow.Author.Rules.{rules}
 use borrow.Author.Tests.{not-true, not-false}
 use native.Mathlib.Omega.{arith}
-use Rattle.walks.specs.Walk.{own_test}
 use Rattle.walks.proofs.Loops.{run-start, run_on, run-fails, run-stops}
 use mathlib.Core.Bool.{not}
 use mathlib.Core.Path.{ap}
@@ -34,6 +32,6 @@ loop-i-preserved c =
 
 pub returns : goal.returns
 returns c = (
-  run-stops _ _ _ _ c.loop-i.invariant.1.1 (λ k. let e = c.lower-top.ensures.1 (omega arith) in omega arith),
+  run-stops _ _ _ _ c.loop-i.invariant.1.1 (λ k. let e = c.lower-top.ensures.value (omega arith) in omega arith),
   omega arith,
 )

@@ -1,5 +1,4 @@
 -- `values_end` meets its contract: the loop follows the definition.
-use Prim.Native.Nat.{◌-◌}
 use borrow.Author.Rules.{rules}
 use borrow.Author.Tests.{not-true, not-false}
 use native.Mathlib.Omega.{arith}
@@ -45,7 +44,7 @@ loop-i-preserved c =
 
 pub returns : goal.returns
 returns c = (
-  values-stop _ _ _ _ _ _ c.loop-i.invariant.1.1.1 (λ k. let e = c.lower-top.ensures.1 (omega arith) in
+  values-stop _ _ _ _ _ _ c.loop-i.invariant.1.1.1 (λ k. let e = c.lower-top.ensures.value (omega arith) in
       omega arith),
   (omega arith, omega arith),
 )

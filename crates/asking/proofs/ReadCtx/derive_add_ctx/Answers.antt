@@ -26,4 +26,9 @@ returns c =
     let a = i.before in
     let g = a.before.before in
     let few = rw g.get-c.ensures at (within-means _ a.add-grown.ensures i.if-grown.false) in
-    rw (lt-leb _ _ (rw g.get-c.ensures at a.if-c-ge18446744073709551615.false), le-ltb _ _ few, within-clock _ a.add-grown.ensures i.if-grown.false, g.get-c.ensures)
+    rw (
+      lt-leb _ _ (rw g.get-c.ensures at a.if-c-ge18446744073709551615.false),
+      le-ltb _ _ few,
+      within-clock _ a.add-grown.ensures i.if-grown.false,
+      g.get-c.ensures,
+    )

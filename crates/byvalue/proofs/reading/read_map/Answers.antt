@@ -8,7 +8,7 @@ use Rattle.byvalue.proofs.Taken.{came-whole, refused-read, map_read}
 use Rattle.byvalue.proofs.reading.read_map.Goals.{After-take}
 use Rattle.byvalue.proofs.reading.read_map.Goals as goal
 
-came : (c : After-take) → let a = c.args in Came a.bytes.now c.take.new.0
+came : (c : After-take) → let a = c.args in Came a.bytes.now c.take.new.mem
 came c =
     let m = c.before.before.before in
     came-whole _ (λ i. (m.shared_slice_known-1.given i).fits) (length-replicate {A = ℕ} reader_room 0) (zeros-small reader_room)
@@ -17,9 +17,9 @@ came c =
 pub returns-then-number-ne0 : goal.returns-then-number-ne0
 returns-then-number-ne0 c =
     let n = c.before.before in
-    refused-read (came n.before.before) n.number_of_lem.ensures c.if-number-ne0.true c.refused.ensures
+    refused-read (came n.before.before) n.number_of-number.ensures c.if-number-ne0.true c.refused.ensures
 
 pub returns : goal.returns
 returns c =
     let n = c.before.before.before in
-    map_read (came n.before.before) n.number_of_lem.ensures c.if-number-ne0.false c.map_of-map.ensures
+    map_read (came n.before.before) n.number_of-number.ensures c.if-number-ne0.false c.map_of-map.ensures

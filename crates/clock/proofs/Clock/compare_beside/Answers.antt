@@ -1,11 +1,11 @@
 -- `Clock::compare_beside` meets its contract: the loop walks both clocks side by side, and keeps what each covers of the other.
 use mathlib.Core.Path.{ap, ap₂, ◌∙◌}
 use mathlib.Core.Bool.{◌&&◌}
-use mathlib.Core.Logic.{◌⊎◌, ⊎_elim, inl, inr, ⊎_swap}
-use Prim.Native.Nat.{◌≤◌, ◌<◌, ◌-◌}
+use mathlib.Core.Logic.{◌⊎◌, inl, inr, ⊎_swap}
+use Prim.Native.Nat.{◌≤◌, ◌<◌}
 use lib.Dec.{leb}
 use lib.ListN.{length}
-use borrow.Author.Tests.{ltb-true, ltb-false}
+use borrow.Author.Tests.{ltb-true}
 use Rattle.clock.specs.Dots.{dots_of, outcome, order_of}
 use Rattle.clock.proofs.Walks.{covering-start, covering-past, covering-both, covering-missed, covering-end, covering-gone, both-gone}
 use borrow.Author.Rules.{rules}
@@ -90,8 +90,8 @@ left_over : (c : Left-loop-i) → let s = c.before in
 left_over c =
     let s = c.before in
     elim c.loop-i-test.branch [
-      then-loop-i-test+else-j-m w ↦ inr (omega (arith, w.if-j-m.false, s.size-m.ensures))
-    | else-loop-i-test w ↦ inl (omega (arith, w.loop-i-test.false, s.size-n.ensures))
+      | then-loop-i-test+else-j-m w ↦ inr (omega (arith, w.if-j-m.false, s.size-m.ensures))
+      | else-loop-i-test w ↦ inl (omega (arith, w.loop-i-test.false, s.size-n.ensures))
     ]
 
 pub returns : goal.returns

@@ -1,7 +1,6 @@
 -- `Clock::compare_level` meets its contract: the walk over both clocks meets the same actor at each place.
 use mathlib.Core.Path.{◌≡◌, refl, ap₂, ◌∙◌}
-use mathlib.Core.Bool.{true}
-use Prim.Native.Nat.{◌<◌, ◌-◌}
+use Prim.Native.Nat.{◌<◌}
 use lib.ListN.{length}
 use Rattle.listlaws.proofs.Alike.{alike-here, alike-length, alike-ascends, alike_turned}
 use Rattle.clock.specs.Dots.{no_dot, dots_of, outcome, order_of}

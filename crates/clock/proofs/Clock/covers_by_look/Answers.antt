@@ -1,6 +1,4 @@
 -- `Clock::covers_by_look` meets its contract: the loop looks for a dot that is beyond.
-use mathlib.Core.Bool.{true, false}
-use Prim.Native.Nat.{◌-◌}
 use borrow.Author.Tests.{lt-ltb, le-ltb}
 use Rattle.listlaws.proofs.Passing.{passing-start, passing-here, passing-on, passing-end}
 use Rattle.clock.specs.Dots.{no_dot, covers}

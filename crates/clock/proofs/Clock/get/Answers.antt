@@ -1,5 +1,4 @@
 -- `Clock::get` meets its contract: the loop looks for the actor's dot.
-use Prim.Native.Nat.{◌-◌}
 use borrow.Author.Tests.{eq-eqb, ne_eqb}
 use Rattle.listlaws.proofs.Passing.{passing-start, passing-here, passing-on, passing-end}
 use Rattle.clock.specs.Dots.{no_dot, counter_in}

@@ -1,6 +1,5 @@
 -- `Clock::is_lawful` meets its contract: each dot stands from the place behind the last actor on.
 use mathlib.Core.Path.{refl, sym, ◌∙◌}
-use Prim.Native.Nat.{◌-◌}
 use lib.Dec.{ltb}
 use Rattle.listlaws.proofs.Rising.{rising-stops, rising-goes, rising-end}
 use Rattle.clock.specs.Dots.{no_dot, dots_of}

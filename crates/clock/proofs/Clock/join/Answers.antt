@@ -1,9 +1,9 @@
 -- `Clock::join` meets its contract: the loop walks both clocks side by side, and the rest of one goes behind.
 use mathlib.Core.Path.{ap, sym, ◌∙◌}
-use mathlib.Core.Logic.{◌⊎◌, ⊎_elim, inl, inr}
-use Prim.Native.Nat.{◌≤◌, ◌<◌, ◌-◌}
+use mathlib.Core.Logic.{◌⊎◌, inl, inr}
+use Prim.Native.Nat.{◌≤◌, ◌<◌}
 use lib.ListN.{length}
-use borrow.Author.Tests.{lt-ltb, le-ltb, ltb-true, ltb-false}
+use borrow.Author.Tests.{lt-ltb, le-ltb, ltb-true}
 use Rattle.listlaws.proofs.Weaving.{weaving-start, weaving-first, weaving-second, weaving-both, weaving-end}
 use Rattle.clock.specs.Dots.{no_dot, dots_of, fitted, join_dots}
 use borrow.Author.Rules.{rules}
@@ -73,8 +73,8 @@ left_over : (c : Left-loop-i) → let s = c.before in
 left_over c =
     let s = c.before in
     elim c.loop-i-test.branch [
-      then-loop-i-test+else-j-m w ↦ inr (omega (arith, w.if-j-m.false, s.size-m.ensures))
-    | else-loop-i-test w ↦ inl (omega (arith, w.loop-i-test.false, s.size-n.ensures))
+      | then-loop-i-test+else-j-m w ↦ inr (omega (arith, w.if-j-m.false, s.size-m.ensures))
+      | else-loop-i-test w ↦ inl (omega (arith, w.loop-i-test.false, s.size-n.ensures))
     ]
 
 pub returns : goal.returns

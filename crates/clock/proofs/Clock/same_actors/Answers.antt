@@ -1,6 +1,6 @@
 -- `Clock::same_actors` meets its contract: at each place both have the same actor, behind the last one.
 use mathlib.Core.Path.{refl, sym, ◌∙◌}
-use Prim.Native.Nat.{◌<◌, ◌-◌}
+use Prim.Native.Nat.{◌<◌}
 use lib.ListN.{length}
 use Rattle.listlaws.proofs.Alike.{alike-stops, alike-goes, alike_end, alike-apart}
 use Rattle.clock.specs.Dots.{no_dot, dots_of}

@@ -1,7 +1,6 @@
 -- `Clock::sift_beside` meets its contract: the loop sifts the clock's dots, and walks the other clock beside them.
 use mathlib.Core.Path.{◌≡◌, refl, ap, sym, ◌∙◌}
-use mathlib.Core.Logic.{⊎_elim}
-use Prim.Native.Nat.{◌≤◌, ◌-◌, ◌+◌, ◌<◌}
+use Prim.Native.Nat.{◌≤◌, ◌+◌, ◌<◌}
 use lib.ListN.{length, get_or}
 use Rattle.listlaws.proofs.Sifting.{sifting-start, sifting-keep, sifting-drop, sifting-room, sifting-end}
 use Rattle.listlaws.proofs.Sifts.{length-sift}
@@ -53,24 +52,24 @@ met c =
     let g = s.loop-i.invariant.3 in
     let k = used c in
     elim c.if-j-m.branch [
-      then-j-m+else-e-d+then-e-d-2 w ↦ (
+      | then-j-m+else-e-d+then-e-d-2 w ↦ (
         walk-found g k (theirs c w.if-j-m.true) w.if-e-d-2.true ∙ sym w.seen-is,
         rw w.j-is (beside-both no_dot g k (theirs c w.if-j-m.true) w.if-e-d-2.true),
         omega arith,
         omega arith,
       )
-    | then-j-m+else-e-d+else-e-d-2 w ↦ (
-      walk-missed g k (λ h. omega (arith, w.if-e-d.false, w.if-e-d-2.false)) ∙ sym w.seen-is,
-      rw w.j-is (beside-next no_dot g k),
-      omega arith,
-      omega arith,
-    )
-    | else-j-m w ↦ (
-      walk-missed g k (λ h. absurd (omega (arith, w.if-j-m.false, s.size-m.ensures))) ∙ sym w.seen-is,
-      rw w.j-is (beside-next no_dot g k),
-      omega arith,
-      omega arith,
-    )
+      | then-j-m+else-e-d+else-e-d-2 w ↦ (
+        walk-missed g k (λ h. omega (arith, w.if-e-d.false, w.if-e-d-2.false)) ∙ sym w.seen-is,
+        rw w.j-is (beside-next no_dot g k),
+        omega arith,
+        omega arith,
+      )
+      | else-j-m w ↦ (
+        walk-missed g k (λ h. absurd (omega (arith, w.if-j-m.false, s.size-m.ensures))) ∙ sym w.seen-is,
+        rw w.j-is (beside-next no_dot g k),
+        omega arith,
+        omega arith,
+      )
     ]
 
 -- there is room for one more
@@ -94,8 +93,12 @@ loop-i-preserved-then-stays c =
     let j = c.before.before in
     let s = j.before.before.before in
     let m = met j in
-    let t = rw (← m.0) at (sym c.stays.ensures ∙ c.if-stays.true) in
-    (search rules, m.3, sifting-keep no_dot s.loop-i.invariant.2 (used j) refl t (λ l e. pushed l _ e (omega (arith, ap (λ k. k.len) e, room c))), m.1)
+    let t = rw (← m.0) at (sym c.stays.ensures ∙ c.if-stays.true) in (
+      search rules,
+      m.3,
+      sifting-keep no_dot s.loop-i.invariant.2 (used j) refl t (λ l e. pushed l _ e (omega (arith, ap (λ k. k.len) e, room c))),
+      m.1,
+    )
 
 pub loop-i-preserved : goal.loop-i-preserved
 loop-i-preserved c =

@@ -1,6 +1,6 @@
 -- `Clock::sift_by_look` meets its contract: the loop sifts the clock's dots.
 use mathlib.Core.Path.{refl, ap, sym, ◌∙◌}
-use Prim.Native.Nat.{◌-◌, ◌<◌}
+use Prim.Native.Nat.{◌<◌}
 use Rattle.listlaws.proofs.Sifting.{sifting-start, sifting-keep, sifting-drop, sifting-room, sifting-end}
 use Rattle.listlaws.proofs.Sifts.{length-sift}
 use Rattle.clock.specs.Dots.{no_dot, dots_of}

@@ -1,6 +1,5 @@
 -- `Joined::trail` meets its contract: the loop adds the rest, one dot after the other.
 use mathlib.Core.Path.{refl}
-use Prim.Native.Nat.{◌-◌}
 use Rattle.listlaws.proofs.Trailing.{trailing-start, trailing-add, trailing-end}
 use Rattle.clock.specs.Dots.{no_dot}
 use native.Mathlib.Omega.{arith}

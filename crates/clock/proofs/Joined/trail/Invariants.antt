@@ -10,7 +10,8 @@ use Rattle.clock.proofs.Joined.trail.Given as goal
 
 abbrev pub invariant-loop-i : goal.invariant-loop-i
 invariant-loop-i v =
-    (l : List Dot) → v.initial.out ≡ fitted l → Trailing fitted (λ d. d) (l ++ map (λ d. d) (drop v.at (dots_of v.from))) v.from.dots v.from.len v.i v.out
+    (l : List Dot) → v.initial.out ≡ fitted l → Trailing fitted (λ d. d)
+    (l ++ map (λ d. d) (drop v.at (dots_of v.from))) v.from.dots v.from.len v.i v.out
 
 abbrev pub decreases-loop-i : goal.decreases-loop-i
 decreases-loop-i l = l.n - l.i

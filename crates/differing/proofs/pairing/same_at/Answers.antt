@@ -18,11 +18,11 @@ module _ (c : After-ys-1) where
 
   ours : (a.args.i < value_limit) × ((get_or a.args.x.starts a.args.i 0 ≤ get_or a.args.x.starts (a.args.i + 1) 0)
       × (get_or a.args.x.starts (a.args.i + 1) 0 * 16 ≤ length a.args.s.now))
-  ours = let p = a.pre.0 in let r = value-stands p.1 a.args.i p.2 in (r.low, (r.order, r.run))
+  ours = let p = a.requires.0 in let r = value-stands p.1 a.args.i p.2 in (r.low, (r.order, r.run))
 
   theirs : (a.args.j < value_limit) × ((get_or a.args.y.starts a.args.j 0 ≤ get_or a.args.y.starts (a.args.j + 1) 0)
       × (get_or a.args.y.starts (a.args.j + 1) 0 * 16 ≤ length a.args.t.now))
-  theirs = let p = a.pre.1 in let r = value-stands p.1 a.args.j p.2 in (r.low, (r.order, r.run))
+  theirs = let p = a.requires.1 in let r = value-stands p.1 a.args.j p.2 in (r.low, (r.order, r.run))
 
 pub compare_runs-o-requires : goal.compare_runs-o-requires
 compare_runs-o-requires c =

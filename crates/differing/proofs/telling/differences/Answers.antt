@@ -16,7 +16,7 @@ use Rattle.differing.proofs.telling.differences.Goals as goal
 -- the report, and its length
 abbrev report : After-count-n → List Difference
 report n =
-    let a = n.before.before.before.before.before.before.before.before.before.before.before.before.args in
+    let a = n.args in
     differences_of (entries_in (read_map a.map.now).map) (entries_in (read_map a.other.now).map)
 
 long : (n : After-count-n) → length (all_told (report n)) ≡ n.count-n.result * 5

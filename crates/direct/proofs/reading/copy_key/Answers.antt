@@ -49,7 +49,7 @@ returns c =
     let z = c.before.before.before.before.before.before.before.before.before.before.before.before.before.before.before.before.before.before in
     let s = z.args.s.now in
     let at = z.args.at in
-    let w0 = write-start (key_records s z.args.clock at) 0 z.args.out.now (omega (arith, z.pre.1)) in
+    let w0 = write-start (key_records s z.args.clock at) 0 z.args.out.now (omega (arith, z.requires.1)) in
     let w1 = write-on _ _ _ (records_at s z.args.clock) w0 refl
     c.copy_span-second.ensures in
     let w2 = write-on _ _ _ (records_at s at.dots) w1 refl

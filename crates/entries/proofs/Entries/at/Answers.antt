@@ -1,6 +1,5 @@
 -- `Entries::at` meets its contract: the loop looks for the key.
 use mathlib.Core.Path.{◌∙◌}
-use Prim.Native.Nat.{◌-◌}
 use borrow.Author.Tests.{eq-eqb, ne_eqb}
 use Rattle.listlaws.proofs.Passing.{passing-start, passing-here, passing-on, passing-end}
 use Rattle.entries.specs.Entries.{entry_at}

@@ -18,7 +18,7 @@ use Rattle.limits.specs.Limits.{entry_limit}
 use Rattle.entries.specs.Model.{entries_of, LaidDown}
 use Rattle.removals.specs.Model.{waiting_of}
 use Rattle.entries.specs.Steps.{survivor_of}
-use Rattle.entries.specs.Entries.{stays, run, alone, together, merge_entries}
+use Rattle.entries.specs.Entries.{stays, alone, together, merge_entries}
 use Rattle.entries.proofs.Runs.{run-laid}
 use Rattle.entries.proofs.Packs.{none_read}
 use Rattle.entries.proofs.Finishing.{go-start, go-keep, go-skip, go-end, finish-one, one-stays, one-goes}
@@ -88,7 +88,8 @@ overflow_add-out c =
 
 -- less is left of both
 less : (c : After-merge_step-step) → let s = c.before.before.before.before.before.before in
-    (s.size-n.result - (s.loop-i.i + c.merge_step-step.result.ours)) + (s.size-m.result - (s.loop-i.j + c.merge_step-step.result.theirs)) < (s.size-n.result - s.loop-i.i) + (s.size-m.result - s.loop-i.j)
+    (s.size-n.result - (s.loop-i.i + c.merge_step-step.result.ours)) + (s.size-m.result - (s.loop-i.j + c.merge_step-step.result.theirs)) <
+    (s.size-n.result - s.loop-i.i) + (s.size-m.result - s.loop-i.j)
 less c =
     let s = c.before.before.before.before.before.before in
     omega (arith, (step c).ours, (step c).theirs, (step c).some, s.size-n.ensures, s.size-m.ensures)

@@ -23,8 +23,10 @@ finished ours theirs w = sift stays (left ours theirs) (flatten w)
 abbrev pub invariant-loop-i : goal.invariant-loop-i
 invariant-loop-i l =
     (l.i ≤ l.n) × (l.j ≤ l.m) × (l.out.count ≤ l.i + l.j)
-    × Going (finished (waiting_of l.ours) (waiting_of l.theirs) (weave_entries (dots_of l.mine) (dots_of l.yours) (entries_of l.self) (entries_of l.other)))
-    (finished (waiting_of l.ours) (waiting_of l.theirs) (weave_entries (dots_of l.mine) (dots_of l.yours) (drop l.i (entries_of l.self)) (drop l.j (entries_of l.other))))
+    × Going (finished (waiting_of l.ours) (waiting_of l.theirs)
+    (weave_entries (dots_of l.mine) (dots_of l.yours) (entries_of l.self) (entries_of l.other)))
+    (finished (waiting_of l.ours) (waiting_of l.theirs)
+    (weave_entries (dots_of l.mine) (dots_of l.yours) (drop l.i (entries_of l.self)) (drop l.j (entries_of l.other))))
     l.out
 
 abbrev pub decreases-loop-i : goal.decreases-loop-i

@@ -1,6 +1,6 @@
 -- `Entries::only` meets its contract: the loop sifts the entries.
 use mathlib.Core.Path.{refl, ap}
-use Prim.Native.Nat.{◌-◌, ◌<◌}
+use Prim.Native.Nat.{◌<◌}
 use lib.Dec.{eqb}
 use borrow.Author.Tests.{eq-eqb, ne_eqb}
 use Rattle.listlaws.proofs.Sifts.{length-sift}

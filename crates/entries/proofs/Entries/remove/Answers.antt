@@ -1,7 +1,7 @@
 -- `Entries::remove` meets its contract: the loop sifts the entries, each with the removal.
 use mathlib.Core.Path.{ap, sym, ◌∙◌}
 use mathlib.Core.Bool.{not}
-use Prim.Native.Nat.{◌-◌, ◌<◌}
+use Prim.Native.Nat.{◌<◌}
 use Rattle.listlaws.proofs.Sifts.{length-sift}
 use Rattle.listlaws.proofs.Sifting.{sifting-start, sifting-keep, sifting-drop, sifting-room, sifting-end}
 use Rattle.entries.specs.Model.{entries_of}

@@ -1,7 +1,7 @@
 -- `FinishedEntries::side` meets its contract: the loop adds the entries on the side, each finished.
 use mathlib.Core.Path.{◌≡◌, ap, sym, ◌∙◌}
 use mathlib.Core.Bool.{true, false, not}
-use Prim.Native.Nat.{◌<◌, ◌-◌}
+use Prim.Native.Nat.{◌<◌}
 use lib.ListN.{length, get_or}
 use Rattle.listlaws.specs.Sift.{sift, those}
 use Rattle.listlaws.proofs.Rests.{in_list, sift-yes, sift-no, drop-end}

@@ -1,7 +1,6 @@
 -- `WideEntry::run` meets its contract: one removal after the other, each on the clock and on the values.
 use mathlib.Core.Path.{◌≡◌, refl, ap, sym, ◌∙◌}
 use mathlib.Core.Bool.{true, false}
-use Prim.Native.Nat.{◌-◌}
 use Rattle.listlaws.proofs.Folding.{folding-start, folding-on, folding-end}
 use Rattle.clock.specs.declared.Clock.{Clock}
 use Rattle.clock.specs.Dots.{dots_of, clock_of, cut_dots}

@@ -16,7 +16,8 @@ made k c w = record { key = k; clock = c; wide = w }
 
 abbrev pub invariant-loop-i : goal.invariant-loop-i
 invariant-loop-i l =
-    (l.i ≤ l.n) × ((e : Entry) → made l.key l.initial.clock l.initial.wide ≡ wide_entry e → Folding wide_entry (λ x w. remove_from w x) e l.waiting.items l.waiting.len l.i
+    (l.i ≤ l.n) × ((e : Entry) → made l.key l.initial.clock l.initial.wide ≡ wide_entry e
+    → Folding wide_entry (λ x w. remove_from w x) e l.waiting.items l.waiting.len l.i
     (made l.key l.clock l.wide))
 
 abbrev pub decreases-loop-i : goal.decreases-loop-i

@@ -6,7 +6,6 @@ use mathlib.Core.List.{[]}
 use borrow.Author.Tests.{lt-ltb, le-ltb, not-true, not-false}
 use Rattle.limits.specs.Limits.{waiting_limit}
 use Rattle.removals.specs.Counted.{joined_as}
-use Rattle.removals.specs.Waits.{waits}
 use Rattle.removals.proofs.Packs.{waiting-from}
 use Rattle.removals.proofs.Joining.{joined-count, joined-long, joined-open}
 use Rattle.map.specs.Model.{seen_by, waiting_in}

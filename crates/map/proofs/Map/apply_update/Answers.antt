@@ -107,7 +107,8 @@ returns-then-all-gt-ENTRIES c =
     let s = c.before.before.before in
     let n = s.before.before.before.before.before.before.before.before.before in
     let z = n.before.before.before.before in
-    c.refused-then-all-gt-ENTRIES.ensures ∙ sym (update-outcome z.requires.0 z.requires.1 (new n.before.before.before.before.before.before.before) false true _ (le-ltb _ _ (room s))
+    c.refused-then-all-gt-ENTRIES.ensures ∙ sym (update-outcome z.requires.0 z.requires.1
+    (new n.before.before.before.before.before.before.before) false true _ (le-ltb _ _ (room s))
     (lt-ltb _ _ (rw (all s).count at c.if-all-gt-ENTRIES.true)) refl)
 
 pub returns-then-all : goal.returns-then-all
@@ -115,7 +116,8 @@ returns-then-all c =
     let s = c.before.before.before.before in
     let n = s.before.before.before.before.before.before.before.before.before in
     let z = n.before.before.before.before in
-    c.refused-then-all.ensures ∙ sym (update-outcome z.requires.0 z.requires.1 (new n.before.before.before.before.before.before.before) false false true (le-ltb _ _ (room s))
+    c.refused-then-all.ensures ∙ sym (update-outcome z.requires.0 z.requires.1
+    (new n.before.before.before.before.before.before.before) false false true (le-ltb _ _ (room s))
     (le-ltb _ _ (rw (all s).count at c.if-all-gt-ENTRIES.false)) (sym (all s).wide ∙ c.if-all.true))
 
 pub returns : goal.returns
@@ -132,4 +134,5 @@ returns c =
     let left = o.uncovered-left.ensures ∙ ap (λ d. waiting_as (those (waits d) (waiting_in z.args.self))) (dots-of _ clock) in
     c.accepted.ensures
     ∙ (λ x. record { number = 0; map = record { clock = clock x; entries = finish-open (all s.before) few thin x; waiting = left x } })
-    ∙ sym (update-outcome z.requires.0 z.requires.1 (new n.before.before.before.before.before.before.before.before) false false false (le-ltb _ _ (room s.before)) (le-ltb _ _ few) thin)
+    ∙ sym (update-outcome z.requires.0 z.requires.1 (new n.before.before.before.before.before.before.before.before) false false false
+    (le-ltb _ _ (room s.before)) (le-ltb _ _ few) thin)

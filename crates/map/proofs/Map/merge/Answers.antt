@@ -134,4 +134,5 @@ returns c =
     let wait = joined-open _ (held j) less short in
     c.accepted.ensures
     ∙ (λ x. record { number = 0; map = record { clock = time x; entries = done x; waiting = wait x } })
-    ∙ sym (merge-outcome z.requires.0 z.requires.1 false false false false false (le-ltb _ _ (room i.before.before)) (le-ltb _ _ few) thin (le-ltb _ _ less) short)
+    ∙ sym (merge-outcome z.requires.0 z.requires.1 false false false false false (le-ltb _ _ (room i.before.before))
+    (le-ltb _ _ few) thin (le-ltb _ _ less) short)

@@ -83,7 +83,8 @@ with-more-requires c =
 -- less is left of both
 less : (c : After-next-c) → let w = c.before.before.before.before in
     let a = w.args in
-    (a.a.layout.third - c.next-c.result.x.next.own) + (a.b.layout.third - c.next-c.result.y.next.own) < (a.a.layout.third - w.loop-x.x.own) + (a.b.layout.third - w.loop-x.y.own)
+    (a.a.layout.third - c.next-c.result.x.next.own) + (a.b.layout.third - c.next-c.result.y.next.own) < (a.a.layout.third - w.loop-x.x.own) +
+    (a.b.layout.third - w.loop-x.y.own)
 less c = let r = came c in omega (arith, r.onward, r.outward, r.some, r.ahead.own.order, r.beside.own.order)
 
 pub loop-x-smaller-then-n-lt-ENTRIES : goal.loop-x-smaller-then-n-lt-ENTRIES
@@ -126,65 +127,65 @@ module _ (c : After-draw_key-k) where
   n = (read_map z.args.t.now).map
 
   abbrev key : ℕ
-  key = k.next.result.x.key
+  key = k.next-c.result.x.key
 
-  bound : w.loop.inv.0.low ≤ key
-  bound = let d = w.loop.inv.0 in (came k).least d.low d.above d.over
+  bound : w.loop-x.invariant.0.low ≤ key
+  bound = let d = w.loop-x.invariant.0 in (came k).least d.low d.above d.over
 
-  ours : let r = i.before.listers.result in Marked (waiting_in m) key r.under
+  ours : let r = i.listers-ours.result in Marked (waiting_in m) key r.under
       × Keyed z.args.s.now r.next z.args.a.layout.end (key_number 0 (key + 1)) (waiting_in m)
-  ours = i.before.listers.ensures.1 (key_number 0 w.loop.inv.0.low) (waiting_in m) w.loop.inv.0.listed (omega (arith, bound))
+  ours = i.listers-ours.ensures.1 (key_number 0 w.loop-x.invariant.0.low) (waiting_in m) w.loop-x.invariant.0.listed (omega (arith, bound))
 
-  theirs : let r = i.listers2.result in Marked (waiting_in n) key r.under
+  theirs : let r = i.listers-theirs.result in Marked (waiting_in n) key r.under
       × Keyed z.args.t.now r.next z.args.b.layout.end (key_number 0 (key + 1)) (waiting_in n)
-  theirs = i.listers2.ensures.1 (key_number 0 w.loop.inv.0.low) (waiting_in n) w.loop.inv.0.others (omega (arith, bound))
+  theirs = i.listers-theirs.ensures.1 (key_number 0 w.loop-x.invariant.0.low) (waiting_in n) w.loop-x.invariant.0.others (omega (arith, bound))
 
-  drawn : Drew w.loop.inv.0 (came k) key (came k).gone c.draw_key-k.result
+  drawn : Drew w.loop-x.invariant.0 (came k) key (came k).gone c.draw_key-k.result
   drawn =
       let r = came k in
-      let p = z.pre in
-      drew w.loop.inv.0 r (c.draw_key-k.ensures r.keep r.ours r.theirs (waiting_in n) (waiting_in m) r.kept r.here r.there
+      let p = z.requires in
+      drew w.loop-x.invariant.0 r (c.draw_key-k.ensures r.keep r.ours r.theirs (waiting_in n) (waiting_in m) r.kept r.here r.there
       r.level p.1.0.1 p.1.0.0
-      (subst (λ x. Marked (waiting_in n) x i.listers2.result.under) r.here.key theirs.0)
-      (subst (λ x. Marked (waiting_in m) x i.before.listers.result.under) r.here.key ours.0))
+      (subst (λ x. Marked (waiting_in n) x i.listers-theirs.result.under) r.here.key theirs.0)
+      (subst (λ x. Marked (waiting_in m) x i.listers-ours.result.under) r.here.key ours.0))
 
   abbrev drawn_dots : List Dot
   drawn_dots = dots_of (clock_apart c.draw_key-k.result.own)
 
-  left : is_empty (cut_key w.loop.inv.0 (came k)) ≡ is_empty drawn_dots
-  left = ap is_empty (sym (dots-of (cut_key w.loop.inv.0 (came k)) drawn.0))
+  left : is_empty (cut_key w.loop-x.invariant.0 (came k)) ≡ is_empty drawn_dots
+  left = ap is_empty (sym (dots-of (cut_key w.loop-x.invariant.0 (came k)) drawn.0))
 
 pub loop-x-preserved-then-n-lt-ENTRIES : goal.loop-x-preserved-then-n-lt-ENTRIES
 loop-x-preserved-then-n-lt-ENTRIES c =
     let v = c.before.before.before.before.before in
-    let d = (w v).loop.invariant.0 in
-    let long = (w v).loop.invariant.1 in
+    let d = (w v).loop-x.invariant.0 in
+    let long = (w v).loop-x.invariant.1 in
     let r = came (k v) in
     let e = left v ∙ some_left (drawn_dots v) c.size.ensures.0 c.if-size-ne0.true in
     let s = c.with-more.ensures in (
       drawing-on d r (ours v).1 (theirs v).1 (omega (arith, s.0))
           (grown-stays d r e (λ done g. push-one g ((drawn v).1 e) (s.1 _ _ _ _ _ _ g.sums ((drawn v).1 e)) s.0 long c.if-n-lt-ENTRIES.true)),
-      length-set (w v).loop.items (w v).loop.sums.count v.draw_key-k.result ∙ long,
+      length-set (w v).loop-x.items (w v).loop-x.sums.count v.draw_key-k.result ∙ long,
     )
 
 pub loop-x-preserved-else-n-lt-ENTRIES : goal.loop-x-preserved-else-n-lt-ENTRIES
 loop-x-preserved-else-n-lt-ENTRIES c =
     let v = c.before.before.before.before.before in
-    let d = (w v).loop.invariant.0 in
+    let d = (w v).loop-x.invariant.0 in
     let r = came (k v) in
     let e = left v ∙ some_left (drawn_dots v) c.size.ensures.0 c.if-size-ne0.true in
     let s = c.with-more.ensures in (
       drawing-on d r (ours v).1 (theirs v).1 (omega (arith, s.0))
           (grown-stays d r e (λ done g. push-over g ((drawn v).1 e) (s.1 _ _ _ _ _ _ g.sums ((drawn v).1 e)) s.0 (omega arith))),
-      (w v).loop.invariant.1,
+      (w v).loop-x.invariant.1,
     )
 
 pub loop-x-preserved : goal.loop-x-preserved
 loop-x-preserved c =
     let v = c.before.before.before in
-    let d = (w v).loop.invariant.0 in
+    let d = (w v).loop-x.invariant.0 in
     let r = came (k v) in (
       drawing-on d r (ours v).1 (theirs v).1 (omega arith) (grown-goes d r
           (left v ∙ none_left (drawn_dots v) c.size.ensures.0 c.if-size-ne0.false)),
-      (w v).loop.invariant.1,
+      (w v).loop-x.invariant.1,
     )

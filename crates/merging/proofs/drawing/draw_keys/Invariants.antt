@@ -9,7 +9,7 @@ use Rattle.merging.proofs.drawing.draw_keys.Given as goal
 
 abbrev pub invariant-loop-x : goal.invariant-loop-x
 invariant-loop-x v = Drawing (read_map v.s).map (read_map v.t).map v.s v.t v.l v.m
-    (record { v.items = v.items; v.sums = v.sums }) v.f v.g v.x v.y
+    (record { items = v.items; sums = v.sums }) v.f v.g v.x v.y
     × (length v.items ≡ entry_limit)
 
 abbrev pub decreases-loop-x : goal.decreases-loop-x

@@ -23,7 +23,8 @@ returns-then-is_equal c = λ x y h k.
     let n = dots_of a.yours in (
       c.own_clock-c.ensures x h
           ∙ ap clock_of (sym (keep_same m n h.fit.clock) ∙ ap (keep_dots m n (dots_in x)) same),
-      c.new-none.ensures ∙ ap clock_of (sym (gone_same m n h.fit.clock) ∙ ap (λ d. cut_dots (keep_dots m n (dots_in x) d) (join_dots (dots_in x) d)) same),
+      c.new-none.ensures ∙ ap clock_of (sym (gone_same m n h.fit.clock)
+          ∙ ap (λ d. cut_dots (keep_dots m n (dots_in x) d) (join_dots (dots_in x) d)) same),
     )
 
 pub keeps-requires : goal.keeps-requires

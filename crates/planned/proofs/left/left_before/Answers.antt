@@ -68,8 +68,8 @@ returns c =
     let a = c.args in
     compared a.x.now a.mine c.loop-i.i a.y.now a.yours c.loop-i.j
     (elim c.loop-i-test.branch [
-      then-loop-i-test+else-j-m w ↦ inr w.if-j-m.false
-    | else-loop-i-test w ↦ inl (omega (arith, w.loop-i-test.false))
+      | then-loop-i-test+else-j-m w ↦ inr w.if-j-m.false
+      | else-loop-i-test w ↦ inl (omega (arith, w.loop-i-test.false))
     ]) (λ k. (omega arith, g.1.0.1 k))
     ∙ sym g.1.1
 

@@ -11,7 +11,8 @@ use Rattle.planned.proofs.seating.cut_all.Given as goal
 
 abbrev pub invariant-loop-i : goal.invariant-loop-i
 invariant-loop-i l =
-    ((l.i ≤ l.n) × (l.all.len ≤ l.i)) × ((w : List Removal) → Queued l.s l.q w → Gathers l.s (map under_of (map (cut_removal (dots_of l.by)) w)) l.i l.all)
+    ((l.i ≤ l.n) × (l.all.len ≤ l.i)) × ((w : List Removal) → Queued l.s l.q w
+    → Gathers l.s (map under_of (map (cut_removal (dots_of l.by)) w)) l.i l.all)
 
 abbrev pub decreases-loop-i : goal.decreases-loop-i
 decreases-loop-i l = l.n - l.i

@@ -13,7 +13,8 @@ abbrev pub invariant-loop-i : goal.invariant-loop-i
 invariant-loop-i l =
     ((l.i ≤ l.n) × (l.n * 16 ≤ length l.s)) × (((l.j ≤ l.m) × (l.m * 16 ≤ length l.t))
     × ((l.total ≤ (l.i + l.j) * waiting_limit) × (((p : ℕ) → p < waiting_limit → get_or l.counts p 0 ≤ l.i + l.j)
-    × ((w v result : List Removal) → Keyed l.s l.from l.n 0 w → Keyed l.t l.start l.m 0 v → Moves w v result l.ours l.theirs → length result ≤ waiting_limit
+    × ((w v result : List Removal) → Keyed l.s l.from l.n 0 w → Keyed l.t l.start l.m 0 v → Moves w v result l.ours l.theirs
+    → length result ≤ waiting_limit
     → SoundRemovals result → KeysCounting l.s l.n l.t l.m w v result l.i l.j l.total l.counts))))
 
 abbrev pub decreases-loop-i : goal.decreases-loop-i

@@ -1,5 +1,4 @@
 -- `Register::clock_over` meets its contract: the loop joins one clock after the other.
-use Prim.Native.Nat.{◌-◌}
 use Rattle.listlaws.proofs.Folding.{folding-start, folding-on, folding-end}
 use Rattle.register.specs.Values.{clock_over}
 use Rattle.register.proofs.Packs.{none_read}

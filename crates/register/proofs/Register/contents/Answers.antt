@@ -1,7 +1,6 @@
 -- `Register::contents` meets its contract: the loop adds one value after the other.
 use mathlib.Core.Path.{refl, ap}
 use mathlib.Core.List.{[]}
-use Prim.Native.Nat.{◌-◌}
 use lib.ListN.{length-map}
 use Rattle.listlaws.specs.Pad.{pad}
 use Rattle.listlaws.proofs.Trailing.{trailing-start, trailing-add, trailing-room, trailing-end}

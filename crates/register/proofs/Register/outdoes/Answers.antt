@@ -1,9 +1,7 @@
 -- `Register::outdoes` meets its contract: the loop looks for a value that this one yields to.
 use mathlib.Core.Path.{sym, ◌∙◌}
-use mathlib.Core.Bool.{true, false}
-use Prim.Native.Nat.{◌-◌}
 use Rattle.listlaws.proofs.Passing.{passing-start, passing-here, passing-on, passing-end}
-use Rattle.register.specs.Values.{yields, outdone}
+use Rattle.register.specs.Values.{outdone}
 use Rattle.register.proofs.Packs.{none_read}
 use borrow.Author.Rules.{rules}
 use native.Mathlib.Omega.{arith}

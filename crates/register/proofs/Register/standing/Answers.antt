@@ -1,7 +1,7 @@
 -- `Register::standing` meets its contract: the loop sifts the values.
 use mathlib.Core.Path.{refl, ap, sym, ◌∙◌}
 use mathlib.Core.Bool.{not}
-use Prim.Native.Nat.{◌-◌, ◌<◌}
+use Prim.Native.Nat.{◌<◌}
 use Rattle.listlaws.proofs.Sifts.{length-sift}
 use Rattle.listlaws.proofs.Sifting.{sifting-start, sifting-keep, sifting-drop, sifting-room, sifting-end}
 use Rattle.register.specs.Values.{values_of, standing}

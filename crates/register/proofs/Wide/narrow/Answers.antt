@@ -1,7 +1,7 @@
 -- `Wide::narrow` meets its contract: the loop adds one value after the other.
 use mathlib.Core.Path.{ap, sym}
 use mathlib.Core.List.{[], map-id}
-use Prim.Native.Nat.{◌-◌, ◌<◌}
+use Prim.Native.Nat.{◌<◌}
 use Rattle.listlaws.proofs.Trailing.{trailing-start, trailing-add, trailing-room, trailing-end}
 use Rattle.limits.specs.Limits.{value_limit}
 use Rattle.register.proofs.Packs.{none_read, pushed}

@@ -1,7 +1,6 @@
 -- `Wide::trail` meets its contract: the loop adds one value after the other.
 use mathlib.Core.Path.{ap, sym}
 use mathlib.Core.List.{◌++◌, map-id}
-use Prim.Native.Nat.{◌+◌, ◌-◌}
 use Rattle.listlaws.proofs.Trailing.{trailing-start, trailing-add, trailing-end}
 use Rattle.register.proofs.Packs.{none_read, wide-pushed}
 use borrow.Author.Rules.{rules}

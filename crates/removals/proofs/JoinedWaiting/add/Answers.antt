@@ -16,8 +16,10 @@ push-waiting-requires c =
 pub returns-then-count-long : goal.returns-then-count-long
 returns-then-count-long c =
     let i = c.before.before.before in
-    let z = i.before.before.before in
-    (omega (arith, c.push-waiting.ensures.0, z.requires), λ l r q same laid p. joined-one l r q p same laid i.if-count-long.true c.push-waiting.ensures.1)
+    let z = i.before.before.before in (
+      omega (arith, c.push-waiting.ensures.0, z.requires),
+      λ l r q same laid p. joined-one l r q p same laid i.if-count-long.true c.push-waiting.ensures.1,
+    )
 
 pub returns : goal.returns
 returns c =

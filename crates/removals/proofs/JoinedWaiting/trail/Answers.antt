@@ -1,6 +1,6 @@
 -- `JoinedWaiting::trail` meets its contract: the loop adds the rest, one removal after the other.
 use mathlib.Core.Path.{refl}
-use Prim.Native.Nat.{◌<◌, ◌-◌}
+use Prim.Native.Nat.{◌<◌}
 use lib.ListN.{length}
 use Rattle.listlaws.proofs.Rests.{in_list}
 use Rattle.listlaws.proofs.Trailing.{trailing-start, trailing-add, trailing-end}

@@ -1,6 +1,4 @@
 -- `Keys::contains` meets its contract: the loop looks for the key.
-use mathlib.Core.Bool.{true, false}
-use Prim.Native.Nat.{◌-◌}
 use borrow.Author.Tests.{eq-eqb, ne_eqb}
 use Rattle.listlaws.proofs.Passing.{passing-start, passing-here, passing-on, passing-end}
 use Rattle.removals.specs.Waits.{listed}

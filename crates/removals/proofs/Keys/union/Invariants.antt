@@ -7,7 +7,8 @@ use Rattle.removals.proofs.Keys.union.Given as goal
 
 abbrev pub invariant-loop-i : goal.invariant-loop-i
 invariant-loop-i l =
-    (l.i ≤ l.n) × (l.j ≤ l.m) × Weaving united_as (by (λ k. k)) (λ k. k) (λ k. k) (λ x y. x) l.self.items l.self.len l.i l.other.items l.other.len l.j l.out
+    (l.i ≤ l.n) × (l.j ≤ l.m) × Weaving united_as (by (λ k. k)) (λ k. k) (λ k. k)
+    (λ x y. x) l.self.items l.self.len l.i l.other.items l.other.len l.j l.out
 
 abbrev pub decreases-loop-i : goal.decreases-loop-i
 decreases-loop-i l = (l.n - l.i) + (l.m - l.j)

@@ -1,6 +1,5 @@
 -- `UnitedKeys::trail` meets its contract: the loop adds the rest, one key after the other.
 use mathlib.Core.Path.{refl}
-use Prim.Native.Nat.{◌-◌}
 use Rattle.listlaws.proofs.Trailing.{trailing-start, trailing-add, trailing-end}
 use native.Mathlib.Omega.{arith}
 use Rattle.removals.proofs.UnitedKeys.trail.Goals as goal

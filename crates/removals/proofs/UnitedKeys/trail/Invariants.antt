@@ -10,7 +10,8 @@ use Rattle.removals.proofs.UnitedKeys.trail.Given as goal
 
 abbrev pub invariant-loop-i : goal.invariant-loop-i
 invariant-loop-i v =
-    (l : List ℕ) → v.initial.out ≡ united_as l → Trailing united_as (λ k. k) (l ++ map (λ k. k) (drop v.at (keys_of v.from))) v.from.items v.from.len v.i v.out
+    (l : List ℕ) → v.initial.out ≡ united_as l → Trailing united_as (λ k. k)
+    (l ++ map (λ k. k) (drop v.at (keys_of v.from))) v.from.items v.from.len v.i v.out
 
 abbrev pub decreases-loop-i : goal.decreases-loop-i
 decreases-loop-i l = l.n - l.i

@@ -1,9 +1,9 @@
 -- `Waiting::join` meets its contract: the loop walks both lists side by side, and the rest of one goes behind.
 use mathlib.Core.Path.{refl, ap, sym, ◌∙◌}
-use mathlib.Core.Logic.{◌⊎◌, ⊎_elim, inl, inr}
-use Prim.Native.Nat.{◌*◌, ◌≤◌, ◌<◌, ◌-◌}
+use mathlib.Core.Logic.{◌⊎◌, inl, inr}
+use Prim.Native.Nat.{◌*◌, ◌≤◌, ◌<◌}
 use lib.ListN.{length, get_or}
-use borrow.Author.Tests.{ltb-true, ltb-false}
+use borrow.Author.Tests.{ltb-true}
 use Rattle.listlaws.proofs.Rests.{in_list}
 use Rattle.listlaws.proofs.Weaving.{weaving-start, weaving-first, weaving-second, weaving-both, weaving-end}
 use Rattle.limits.specs.Limits.{waiting_limit}
@@ -63,7 +63,8 @@ loop-i-preserved-then-clock_before c =
       omega (arith, level y.before.before, s.size-n.ensures),
       search rules,
       omega (arith, c.keep-out.ensures.0, s.loop-i.invariant),
-      weaving-first no_removal_read s.loop-i.invariant.3 (level y.before.before).0 (level y.before.before).1 (sym i.clock_before.ensures ∙ i.if-clock_before.true)
+      weaving-first no_removal_read s.loop-i.invariant.3 (level y.before.before).0 (level y.before.before).1
+          (sym i.clock_before.ensures ∙ i.if-clock_before.true)
           (λ l q. c.keep-out.ensures.1 l q (z.requires.0 _ (in_list a.self.items a.self.len s.loop-i.i no_removal_read (level y.before.before).0))),
     )
 
@@ -78,9 +79,11 @@ loop-i-preserved-then-clock_before-2 c =
       search rules,
       omega (arith, level y.before.before.before.before, s.size-m.ensures),
       omega (arith, c.keep-out-then-clock_before-2.ensures.0, s.loop-i.invariant),
-      weaving-second no_removal_read s.loop-i.invariant.3 (level y.before.before.before.before).0 (level y.before.before.before.before).1 (sym i.clock_before.ensures ∙ i.if-clock_before.false)
+      weaving-second no_removal_read s.loop-i.invariant.3 (level y.before.before.before.before).0 (level y.before.before.before.before).1
+          (sym i.clock_before.ensures ∙ i.if-clock_before.false)
           (sym k.clock_before-else-clock_before.ensures ∙ k.if-clock_before-2.true)
-          (λ l q. c.keep-out-then-clock_before-2.ensures.1 l q (z.requires.1 _ (in_list a.other.items a.other.len s.loop-i.j no_removal_read (level y.before.before.before.before).1))),
+          (λ l q. c.keep-out-then-clock_before-2.ensures.1 l q
+          (z.requires.1 _ (in_list a.other.items a.other.len s.loop-i.j no_removal_read (level y.before.before.before.before).1))),
     )
 
 pub loop-i-preserved : goal.loop-i-preserved
@@ -96,7 +99,8 @@ loop-i-preserved c =
       omega (arith, level y.before.before.before.before.before.before.before, s.size-n.ensures),
       omega (arith, level y.before.before.before.before.before.before.before, s.size-m.ensures),
       omega (arith, c.add-out.ensures.0, s.loop-i.invariant),
-      weaving-both no_removal_read s.loop-i.invariant.3 (level y.before.before.before.before.before.before.before).0 (level y.before.before.before.before.before.before.before).1 (sym i.clock_before.ensures ∙ i.if-clock_before.false)
+      weaving-both no_removal_read s.loop-i.invariant.3 (level y.before.before.before.before.before.before.before).0
+          (level y.before.before.before.before.before.before.before).1 (sym i.clock_before.ensures ∙ i.if-clock_before.false)
           (sym k.clock_before-else-clock_before.ensures ∙ k.if-clock_before-2.false)
           (λ l q. c.add-out.ensures.1 l _ q refl (rw e refl) (u.union.ensures ∙ rw e refl)),
     )
@@ -120,8 +124,8 @@ left_over : (c : Left-loop-i) → let s = c.before in
 left_over c =
     let s = c.before in
     elim c.loop-i-test.branch [
-      then-loop-i-test+else-j-m w ↦ inr (omega (arith, w.if-j-m.false, s.size-m.ensures))
-    | else-loop-i-test w ↦ inl (omega (arith, w.loop-i-test.false, s.size-n.ensures))
+      | then-loop-i-test+else-j-m w ↦ inr (omega (arith, w.if-j-m.false, s.size-m.ensures))
+      | else-loop-i-test w ↦ inl (omega (arith, w.loop-i-test.false, s.size-n.ensures))
     ]
 
 pub returns : goal.returns

@@ -7,7 +7,8 @@ use Rattle.removals.proofs.Waiting.join.Given as goal
 
 abbrev pub invariant-loop-i : goal.invariant-loop-i
 invariant-loop-i l =
-    (l.i ≤ l.n) × (l.j ≤ l.m) × Numbered l.out (l.i + l.j) × Weaving joined_as removal_before (λ r. r) (λ r. r) unite l.self.items l.self.len l.i l.other.items
+    (l.i ≤ l.n) × (l.j ≤ l.m) × Numbered l.out (l.i + l.j)
+    × Weaving joined_as removal_before (λ r. r) (λ r. r) unite l.self.items l.self.len l.i l.other.items
     l.other.len l.j l.out
 
 abbrev pub decreases-loop-i : goal.decreases-loop-i

@@ -2,7 +2,6 @@
 use mathlib.Core.Path.{refl, ap, sym, ◌∙◌}
 use mathlib.Core.Bool.{not}
 use mathlib.Core.List.{[]}
-use Prim.Native.Nat.{◌-◌}
 use borrow.Author.Tests.{not-true}
 use Rattle.listlaws.specs.First.{first_in}
 use Rattle.listlaws.specs.Fold.{fold}
@@ -71,8 +70,11 @@ loop-i-preserved-then-not-is_empty c =
 pub loop-i-preserved : goal.loop-i-preserved
 loop-i-preserved c =
     let k = c.before.before in
-    let s = k.before.before.before in
-    (search rules, reset-skip s.loop-i.invariant.1 (omega arith) k.cut-left.ensures (ap not (sym c.is_empty.ensures) ∙ (ap not c.if-not-is_empty.false)))
+    let s = k.before.before.before in (
+      search rules,
+      reset-skip s.loop-i.invariant.1 (omega arith) k.cut-left.ensures
+          (ap not (sym c.is_empty.ensures) ∙ (ap not c.if-not-is_empty.false)),
+    )
 
 pub returns : goal.returns
 unfolding reset_waiting fold sift

@@ -1,6 +1,6 @@
 -- `Waiting::uncovered` meets its contract: the loop sifts the removals.
 use mathlib.Core.Path.{refl, ap, sym, ◌∙◌}
-use Prim.Native.Nat.{◌-◌, ◌<◌}
+use Prim.Native.Nat.{◌<◌}
 use Rattle.listlaws.proofs.Sifts.{length-sift}
 use Rattle.listlaws.proofs.Sifting.{sifting-start, sifting-keep, sifting-drop, sifting-room, sifting-end}
 use Rattle.clock.specs.Dots.{dots_of}

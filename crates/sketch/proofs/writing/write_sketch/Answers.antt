@@ -24,18 +24,18 @@ module _ (z : Start) where
   sections = sections_of (drawn_all z.args.s.now z.args.t.now z.args.sk)
 
   start : Writing (dots ++ sections) (dots ++ sections) 0 z.args.out.now z.args.out.now 0
-  start = let h = z.pre.1 in write-start _ 0 _ (omega arith)
+  start = let h = z.requires.1 in write-start _ 0 _ (omega arith)
 
 pub write_dots-next-requires : goal.write_dots-next-requires
 write_dots-next-requires c =
     let z = c.before.before.before.before.before in
-    omega (arith, (write-room _ _ _ (dots z) _ (start z) refl).0, length-map (dots_of z.args.clock) (dot_record 1 0 0))
+    omega (arith, (write-room _ _ _ (dots z.before) _ (start z.before) refl).0, length-map (dots_of z.args.clock) (dot_record 1 0 0))
 
 -- what is left when they are written
 begun : (c : After-slice_known-2-1) → let z = c.before.before.before.before.before.before.before.before in
-    Writing (dots z ++ sections z) (sections z) 0 z.args.out.now c.write_dots-next.new.0 c.write_dots-next.result
+    Writing (dots z.before ++ sections z.before) (sections z.before) 0 z.args.out.now c.write_dots-next.new.out c.write_dots-next.result
 begun c = let z = c.before.before.before.before.before.before.before.before in
-    write-on _ _ _ (dots z) (start z) refl c.write_dots-next.ensures
+    write-on _ _ _ (dots z.before) (start z.before) refl c.write_dots-next.ensures
 
 pub loop-kind-init : goal.loop-kind-init
 loop-kind-init c =
@@ -115,10 +115,11 @@ loop-kind-preserved c =
 pub shape_of-out : goal.shape_of-out
 shape_of-out c =
     let s = c.before in
-    (write-room _ _ _ [] _ s.loop-kind.invariant.1.1.wrote refl).1 ∙ (write-room _ _ _ [] _ (begun s.before) refl).1
+    (write-room _ _ _ [] _ s.loop-kind.invariant.1.1.wrote refl).1
+    ∙ (write-room _ _ _ [] _ (begun (goal.at.shape_of-out c).After-slice_known-2-1) refl).1
 
 pub returns : goal.returns
 returns c =
     let s = c.before in
     let g = s.loop-kind.invariant.1.1 in
-    write-last _ _ _ _ (begun s.before) (write-end _ _ _ g.wrote (g.beyond (omega arith)))
+    write-last _ _ _ _ (begun (goal.at.returns c).After-slice_known-2-1) (write-end _ _ _ g.wrote (g.beyond (omega arith)))

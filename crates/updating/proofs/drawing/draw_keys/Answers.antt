@@ -95,49 +95,49 @@ module _ (c : After-draw_key-k) where
   m = (read_map z.args.s.now).map
 
   abbrev key : ℕ
-  key = k.next.result.entry.key
+  key = k.next-c.result.entry.key
 
-  ours : let r = i.listers.result in Marked (waiting_in m) key r.under
+  ours : let r = i.listers-listing.result in Marked (waiting_in m) key r.under
       × Keyed z.args.s.now r.next z.args.last (key_number 0 (key + 1)) (waiting_in m)
   ours =
-      let d = w.loop.inv.1 in
+      let d = w.loop-x.invariant.1 in
       let bound = (came k).least d.low d.above d.goal in
-      i.listers.ensures.1 (key_number 0 d.low) (waiting_in m) d.listed (omega (arith, bound))
+      i.listers-listing.ensures.1 (key_number 0 d.low) (waiting_in m) d.listed (omega (arith, bound))
 
-  drawn : Drew w.loop.inv.1 (came k) key c.draw_key-k.result
+  drawn : Drew w.loop-x.invariant.1 (came k) key c.draw_key-k.result
   drawn =
       let r = came k in
-      let p = z.pre in
-      drew w.loop.inv.1 r (c.draw_key-k.ensures z.args.u r.entry (waiting_in m) refl (lain z) r.lies
-      (fits_next w.loop.inv.1 r p.0.0 p.1.1.0.1) p.0.1
-      (subst (λ x. Marked (waiting_in m) x i.listers.result.under) r.lies.key ours.0))
+      let p = z.requires in
+      drew w.loop-x.invariant.1 r (c.draw_key-k.ensures z.args.u r.entry (waiting_in m) refl (lain z) r.lies
+      (fits_next w.loop-x.invariant.1 r p.0.0 p.1.1.0.1) p.0.1
+      (subst (λ x. Marked (waiting_in m) x i.listers-listing.result.under) r.lies.key ours.0))
 
   abbrev drawn_dots : List Dot
   drawn_dots = dots_of (clock_apart c.draw_key-k.result.own)
 
-  left : is_empty (cut_key w.loop.inv.1 (came k)) ≡ is_empty drawn_dots
-  left = ap is_empty (sym (dots-of (cut_key w.loop.inv.1 (came k)) drawn.0))
+  left : is_empty (cut_key w.loop-x.invariant.1 (came k)) ≡ is_empty drawn_dots
+  left = ap is_empty (sym (dots-of (cut_key w.loop-x.invariant.1 (came k)) drawn.0))
 
 pub loop-x-preserved-then-n-lt-ENTRIES : goal.loop-x-preserved-then-n-lt-ENTRIES
 loop-x-preserved-then-n-lt-ENTRIES c =
     let v = c.before.before.before.before.before in
-    let d = (w v).loop.invariant.1 in
+    let d = (w v).loop-x.invariant.1 in
     let r = came (k v) in
     let e = left v ∙ some_left (drawn_dots v) c.size.ensures.0 c.if-size-ne0.true in
     let s = c.with-more.ensures in (
-      simp length-set (w v).loop.invariant.0,
+      simp length-set (w v).loop-x.invariant.0,
       drawing-on d r (ours v).1 (omega (arith, s.0)) (grown-stays d r (z v).requires.1.0.0 e
-          (λ done g. push-one g ((drawn v).1 e) (s.1 _ _ _ _ _ _ g.sums ((drawn v).1 e)) s.0 (w v).loop.invariant.0 c.if-n-lt-ENTRIES.true)),
+          (λ done g. push-one g ((drawn v).1 e) (s.1 _ _ _ _ _ _ g.sums ((drawn v).1 e)) s.0 (w v).loop-x.invariant.0 c.if-n-lt-ENTRIES.true)),
     )
 
 pub loop-x-preserved-else-n-lt-ENTRIES : goal.loop-x-preserved-else-n-lt-ENTRIES
 loop-x-preserved-else-n-lt-ENTRIES c =
     let v = c.before.before.before.before.before in
-    let d = (w v).loop.invariant.1 in
+    let d = (w v).loop-x.invariant.1 in
     let r = came (k v) in
     let e = left v ∙ some_left (drawn_dots v) c.size.ensures.0 c.if-size-ne0.true in
     let s = c.with-more.ensures in (
-      (w v).loop.invariant.0,
+      (w v).loop-x.invariant.0,
       drawing-on d r (ours v).1 (omega (arith, s.0)) (grown-stays d r (z v).requires.1.0.0 e
           (λ done g. push-over g ((drawn v).1 e) (s.1 _ _ _ _ _ _ g.sums ((drawn v).1 e)) s.0 (omega arith))),
     )
@@ -145,9 +145,9 @@ loop-x-preserved-else-n-lt-ENTRIES c =
 pub loop-x-preserved : goal.loop-x-preserved
 loop-x-preserved c =
     let v = c.before.before.before in
-    let d = (w v).loop.invariant.1 in
+    let d = (w v).loop-x.invariant.1 in
     let r = came (k v) in (
-      (w v).loop.invariant.0,
+      (w v).loop-x.invariant.0,
       drawing-on d r (ours v).1 (omega arith)
           (grown-goes d r (z v).requires.1.0.0 (left v ∙ none_left (drawn_dots v) c.size.ensures.0 c.if-size-ne0.false)),
     )

@@ -10,7 +10,7 @@ use Rattle.updating.proofs.drawing.draw_keys.Given as goal
 
 abbrev pub invariant-loop-x : goal.invariant-loop-x
 invariant-loop-x v = (length v.items ≡ entry_limit)
-    × Drawing (read_map v.s).map v.u v.s v.op v.l v.last (record { v.items = v.items; v.sums = v.sums }) v.f v.x v.done
+    × Drawing (read_map v.s).map v.u v.s v.op v.l v.last (record { items = v.items; sums = v.sums }) v.f v.x v.done
 
 abbrev pub decreases-loop-x : goal.decreases-loop-x
 decreases-loop-x v = (v.third - v.x.own) + puts v.done
