@@ -22,7 +22,7 @@ use Rattle.opimage.specs.OpImage.{no_record}
 use Rattle.mapimage.specs.MapImage.{flat_from, entry_records}
 use Rattle.walks.specs.declared.Layout.{Layout}
 use Rattle.walks.proofs.Loops.{part-on}
-use Rattle.layout.proofs.Entered.{first_key}
+use Rattle.layout.proofs.Entered.{first_key_lem}
 use Rattle.keyed.proofs.Walks.{owned-end}
 use Rattle.entrywalk.specs.declared.Cursor.{Cursor}
 use Rattle.entrywalk.specs.declared.Lain.{Lain}
@@ -46,7 +46,7 @@ module _ {s : List ℕ} {l : Layout} {x : Cursor} where
   unfolding flat_from
   here-key e es h room =
       ap (λ (k : List Record). (get_or k 0 no_record).key) (sym (part-on s x.own l.third room) ∙ h.own.records)
-      ∙ (first_key e.key (dots_in e) (flat_from (entry_records 2) 1 es) (h.own.some e (Memᴰ.head refl))).0
+      ∙ (first_key_lem e.key (dots_in e) (flat_from (entry_records 2) 1 es) (h.own.some e (Memᴰ.head refl))).0
 
   pub front_of : (es : List Entry) {p : ℕ} → Ahead s l x es → Told s x.own l.third p → p < beyond_keys → Front es p
   front_of [] h t n = record { first = λ e m q. absurd (let z = ap length q in omega arith); least = λ e i. absurd (Memᴰ.not-nil i) }

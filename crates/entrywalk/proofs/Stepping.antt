@@ -25,7 +25,7 @@ use Rattle.walks.specs.Walk.{part, Splits}
 use Rattle.layout.specs.Whole.{Lies}
 use Rattle.keyed.specs.Keyed.{RecordsLie}
 use Rattle.walks.proofs.Loops.{part-on, length_part, sections-end}
-use Rattle.layout.proofs.Entered.{record-key, first_key, some-length}
+use Rattle.layout.proofs.Entered.{record-key, first_key_lem, some-length}
 use Rattle.keyed.proofs.Entry.{flat-any, flat-key}
 use Rattle.layout.proofs.Found.{cut_at}
 use Rattle.keyed.proofs.Walks.{owned-all}
@@ -105,7 +105,7 @@ module _ {s : List ℕ} {l : Layout} {x : Cursor} (room : x.own < l.third) (r : 
       let some = own.some e (Memᴰ.head refl) in
       let key : r.key ≡ e.key = ap (λ (x : Record). x.key) er
       ∙ ap (λ k. (get_or k 0 no_record).key) (sym (part-on s x.own l.third room) ∙ own.records)
-      ∙ (first_key e.key (dots_in e) (flat_from (entry_records 2) 1 es) some).0 in
+      ∙ (first_key_lem e.key (dots_in e) (flat_from (entry_records 2) 1 es) some).0 in
       let a = first_holds 2 (record { order = own.order; within = own.within; records = own.records }) own.rising
       r.key key dots d0 d1 dots-found in
       let b = first_holds 3 h.values own.rising r.key key values v0 v1 values-found in

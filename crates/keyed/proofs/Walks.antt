@@ -26,7 +26,7 @@ use Rattle.walks.specs.Walk.{Splits}
 use Rattle.layout.specs.Whole.{Lies}
 use Rattle.keyed.specs.Keyed.{Owned, Stops}
 use Rattle.walks.proofs.Loops.{part-on, part_end, length_part, sections-end}
-use Rattle.layout.proofs.Entered.{record-key, first_key, some-length}
+use Rattle.layout.proofs.Entered.{record-key, first_key_lem, some-length}
 use Rattle.keyed.proofs.Entry.{flat-any, flat-key}
 use Rattle.layout.proofs.Found.{cut_at}
 use Rattle.keyed.proofs.Registers.{clock-there, short-there}
@@ -66,7 +66,7 @@ module _ {s : List ℕ} {at end : ℕ} (room : at < end) (r : Record) (er : r �
       let rest = flat_from (entry_records 2) 1 l in
       let some = h.some e (Memᴰ.head refl) in
       let key : r.key ≡ e.key = ap (λ (x : Record). x.key) er ∙ ap (λ k. (get_or k 0 no_record).key) (sym (part-on s at end room) ∙ h.records)
-      ∙ (first_key e.key ds rest some).0 in
+      ∙ (first_key_lem e.key ds rest some).0 in
       let cut = cut_at s 1 (r.key + 1) at end own rest next h.order h.records
       (λ x m. let q = record-key 2 0 e x m in omega arith)
       (flat-key 2 1 l (λ n. r.key + 1 ≤ n) (λ x i. let k = ltb-true e.key x.key (head-before h.rising x i) in omega arith)) found in
