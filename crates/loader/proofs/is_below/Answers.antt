@@ -17,7 +17,7 @@ use Rattle.comparing.specs.Registers.{RunOf, RunsOf}
 use Rattle.comparing.proofs.Cut.{run-dots}
 use Rattle.loader.specs.Choice.{is_below}
 use borrow.Author.Rules.{rules}
-use Rattle.loader.proofs.is_below.Goals.{After-is_less, At-loop-j, In-loop-j}
+use Rattle.loader.proofs.is_below.Goals.{After-is_less}
 use Rattle.loader.proofs.is_below.Goals as goal
 
 -- the run of a value, by its place
@@ -28,22 +28,10 @@ placed r j h = (omega (arith, r.count, r.few), r.each j h)
 pub loop-j-init : goal.loop-j-init
 loop-j-init c = (search rules, λ l r. passing-start)
 
--- the two runs that are compared
-ours : (c : In-loop-j) → let a = c.before.before.before in
-    (a.args.k < value_limit) × RunOf a.args.map.now (get_or a.args.starts a.args.k 0) (get_or a.args.starts (a.args.k + 1) 0)
-    (get_or a.requires.1.0 a.args.k no_value)
-ours c = let a = c.before.before.before in placed a.requires.1.1 a.args.k a.requires.0
-
-theirs : (c : In-loop-j) → let s = c.before in
-    let a = s.before.before in
-    (s.loop-j.j < value_limit) × RunOf a.args.map.now (get_or a.args.starts s.loop-j.j 0) (get_or a.args.starts (s.loop-j.j + 1) 0)
-    (get_or a.requires.1.0 s.loop-j.j no_value)
-theirs c = let s = c.before in placed s.requires.1.1 s.loop-j.j (omega arith)
-
 pub compare_runs-o-requires : goal.compare_runs-o-requires
 compare_runs-o-requires c =
-    let r = (ours c.before.before).1 in
-    let q = (theirs c.before.before).1 in
+    let r = (placed c.requires.1.1 c.args.k c.requires.0).1 in
+    let q = (placed c.requires.1.1 c.loop-j.j (omega arith)).1 in
     (rw (run-dots r) r.lawful, rw (run-dots q) q.lawful)
 
 -- what the comparison of two runs says of their values
@@ -54,21 +42,18 @@ unfolding yields
 told r q e f = sym (f ∙ ap (yielding false) (e ∙ ap₂ order_of (run-dots r) (run-dots q)))
 
 module _ (c : After-is_less) where
-  abbrev at : At-loop-j
-  at = c.before.before.before.before.before
-
   abbrev Met : List Value → Type 0
-  Met l = let a = at.args in
-      RunsOf a.map.now a.starts a.n l → yields false (get_or l a.k no_value) (get_or l at.loop-j.j no_value) ≡ c.is_less.result
+  Met l = let a = c.args in
+      RunsOf a.map.now a.starts a.n l → yields false (get_or l a.k no_value) (get_or l c.loop-j.j no_value) ≡ c.is_less.result
 
   met : (l : List Value) → Met l
-  met l r = told (r.each _ at.requires.0) (r.each _ (omega arith)) c.compare_runs-o.ensures c.is_less.ensures
+  met l r = told (r.each _ c.requires.0) (r.each _ (omega arith)) c.compare_runs-o.ensures c.is_less.ensures
 
 pub returns-then-is_less : goal.returns-then-is_less
 unfolding is_below
 returns-then-is_less c = λ l r.
     let k = c.before in
-    let s = at k in
+    let s = k in
     rw (take-length l) at (passing-here no_value (s.loop-j.invariant.1 l r) (rw (take-length l) (omega (arith, r.count)))
     (met k l r ∙ c.if-is_less.true))
 
@@ -77,7 +62,7 @@ loop-j-preserved c = (
   omega arith,
   λ l r.
       let k = c.before in
-      let s = at k in
+      let s = k in
       passing-on no_value (s.loop-j.invariant.1 l r) (rw (take-length l) (omega (arith, r.count))) (met k l r ∙ c.if-is_less.false),
 )
 
@@ -107,40 +92,40 @@ pub overflow_mul-to : goal.overflow_mul-to
 overflow_mul-to c = omega (arith, placed c.requires.1.1 c.args.k c.requires.0)
 
 pub offset_bounds-starts-j : goal.offset_bounds-starts-j
-offset_bounds-starts-j c = omega (arith, theirs c)
+offset_bounds-starts-j c = let r = placed c.requires.1.1 c.loop-j.j (omega arith) in omega (arith, r)
 
 pub bounds-starts-j : goal.bounds-starts-j
-bounds-starts-j c = omega (arith, theirs c)
+bounds-starts-j c = let r = placed c.requires.1.1 c.loop-j.j (omega arith) in omega (arith, r)
 
 pub overflow_mul-p : goal.overflow_mul-p
-overflow_mul-p c = omega (arith, theirs c)
+overflow_mul-p c = let r = placed c.requires.1.1 c.loop-j.j (omega arith) in omega (arith, r)
 
 pub overflow_add-q : goal.overflow_add-q
-overflow_add-q c = omega (arith, theirs c)
+overflow_add-q c = let r = placed c.requires.1.1 c.loop-j.j (omega arith) in omega (arith, r)
 
 pub offset_bounds-starts-j-in-loop-j : goal.offset_bounds-starts-j-in-loop-j
-offset_bounds-starts-j-in-loop-j c = omega (arith, theirs c)
+offset_bounds-starts-j-in-loop-j c = let r = placed c.requires.1.1 c.loop-j.j (omega arith) in omega (arith, r)
 
 pub bounds-starts-j-in-loop-j : goal.bounds-starts-j-in-loop-j
-bounds-starts-j-in-loop-j c = omega (arith, theirs c)
+bounds-starts-j-in-loop-j c = let r = placed c.requires.1.1 c.loop-j.j (omega arith) in omega (arith, r)
 
 pub overflow_mul-q : goal.overflow_mul-q
-overflow_mul-q c = omega (arith, theirs c)
+overflow_mul-q c = let r = placed c.requires.1.1 c.loop-j.j (omega arith) in omega (arith, r)
 
 pub slice_bounds-compare_runs-count : goal.slice_bounds-compare_runs-count
-slice_bounds-compare_runs-count c = omega (arith, ours c)
+slice_bounds-compare_runs-count c = omega (arith, placed c.requires.1.1 c.args.k c.requires.0)
 
 pub slice_bounds-compare_runs-start : goal.slice_bounds-compare_runs-start
-slice_bounds-compare_runs-start c = omega (arith, ours c)
+slice_bounds-compare_runs-start c = omega (arith, placed c.requires.1.1 c.args.k c.requires.0)
 
 pub slice_bounds-compare_runs-end : goal.slice_bounds-compare_runs-end
-slice_bounds-compare_runs-end c = omega (arith, ours c)
+slice_bounds-compare_runs-end c = omega (arith, placed c.requires.1.1 c.args.k c.requires.0)
 
 pub slice_bounds-compare_runs-count-in-loop-j : goal.slice_bounds-compare_runs-count-in-loop-j
-slice_bounds-compare_runs-count-in-loop-j c = omega (arith, theirs c.before)
+slice_bounds-compare_runs-count-in-loop-j c = let r = placed c.requires.1.1 c.loop-j.j (omega arith) in omega (arith, r)
 
 pub slice_bounds-compare_runs-start-in-loop-j : goal.slice_bounds-compare_runs-start-in-loop-j
-slice_bounds-compare_runs-start-in-loop-j c = omega (arith, theirs c.before)
+slice_bounds-compare_runs-start-in-loop-j c = let r = placed c.requires.1.1 c.loop-j.j (omega arith) in omega (arith, r)
 
 pub slice_bounds-compare_runs-end-in-loop-j : goal.slice_bounds-compare_runs-end-in-loop-j
-slice_bounds-compare_runs-end-in-loop-j c = omega (arith, theirs c.before)
+slice_bounds-compare_runs-end-in-loop-j c = let r = placed c.requires.1.1 c.loop-j.j (omega arith) in omega (arith, r)

@@ -8,21 +8,7 @@ use Rattle.limits.specs.Limits.{value_limit}
 use Rattle.clock.specs.Dots.{order_of}
 use Rattle.equality.specs.Equality.{same_content, equal_clock, same_pair}
 use Rattle.entrywalk.proofs.Lying.{value-says, value-stands}
-use Rattle.differing.proofs.pairing.same_at.Goals.{After-ys-1, Start}
 use Rattle.differing.proofs.pairing.same_at.Goals as goal
-
--- where the runs of both values stand
-module _ (c : After-ys-1) where
-  abbrev a : Start
-  a = c.before.before.before.before.before.before
-
-  ours : (a.args.i < value_limit) × ((get_or a.args.x.starts a.args.i 0 ≤ get_or a.args.x.starts (a.args.i + 1) 0)
-      × (get_or a.args.x.starts (a.args.i + 1) 0 * 16 ≤ length a.args.s.now))
-  ours = let p = a.requires.0 in let r = value-stands p.1 a.args.i p.2 in (r.low, (r.order, r.run))
-
-  theirs : (a.args.j < value_limit) × ((get_or a.args.y.starts a.args.j 0 ≤ get_or a.args.y.starts (a.args.j + 1) 0)
-      × (get_or a.args.y.starts (a.args.j + 1) 0 * 16 ≤ length a.args.t.now))
-  theirs = let p = a.requires.1 in let r = value-stands p.1 a.args.j p.2 in (r.low, (r.order, r.run))
 
 pub compare_runs-o-requires : goal.compare_runs-o-requires
 compare_runs-o-requires c =
@@ -40,43 +26,43 @@ returns c = λ e f h k g l.
     ap₂ ◌&&◌ same (ap₂ same_content (w.content_at-v.ensures e h k) (v.content_at-w.ensures f g l))
 
 pub bounds-xs-i : goal.bounds-xs-i
-bounds-xs-i c = omega (arith, ours c)
+bounds-xs-i c = let p = c.requires.0 in let r = value-stands p.1 c.args.i p.2 in omega (arith, r.low, r.order, r.run)
 
 pub overflow_mul-a : goal.overflow_mul-a
-overflow_mul-a c = omega (arith, ours c)
+overflow_mul-a c = let p = c.requires.0 in let r = value-stands p.1 c.args.i p.2 in omega (arith, r.low, r.order, r.run)
 
 pub bounds-xs-i-2 : goal.bounds-xs-i-2
-bounds-xs-i-2 c = omega (arith, ours c)
+bounds-xs-i-2 c = let p = c.requires.0 in let r = value-stands p.1 c.args.i p.2 in omega (arith, r.low, r.order, r.run)
 
 pub overflow_mul-b : goal.overflow_mul-b
-overflow_mul-b c = omega (arith, ours c)
+overflow_mul-b c = let p = c.requires.0 in let r = value-stands p.1 c.args.i p.2 in omega (arith, r.low, r.order, r.run)
 
 pub bounds-ys-j : goal.bounds-ys-j
-bounds-ys-j c = omega (arith, theirs c)
+bounds-ys-j c = let p = c.requires.1 in let r = value-stands p.1 c.args.j p.2 in omega (arith, r.low, r.order, r.run)
 
 pub overflow_mul-p : goal.overflow_mul-p
-overflow_mul-p c = omega (arith, theirs c)
+overflow_mul-p c = let p = c.requires.1 in let r = value-stands p.1 c.args.j p.2 in omega (arith, r.low, r.order, r.run)
 
 pub bounds-ys-j-2 : goal.bounds-ys-j-2
-bounds-ys-j-2 c = omega (arith, theirs c)
+bounds-ys-j-2 c = let p = c.requires.1 in let r = value-stands p.1 c.args.j p.2 in omega (arith, r.low, r.order, r.run)
 
 pub overflow_mul-q : goal.overflow_mul-q
-overflow_mul-q c = omega (arith, theirs c)
+overflow_mul-q c = let p = c.requires.1 in let r = value-stands p.1 c.args.j p.2 in omega (arith, r.low, r.order, r.run)
 
 pub slice_bounds-compare_runs-count : goal.slice_bounds-compare_runs-count
-slice_bounds-compare_runs-count c = omega (arith, ours c)
+slice_bounds-compare_runs-count c = let p = c.requires.0 in let r = value-stands p.1 c.args.i p.2 in omega (arith, r.low, r.order, r.run)
 
 pub slice_bounds-compare_runs-start : goal.slice_bounds-compare_runs-start
-slice_bounds-compare_runs-start c = omega (arith, ours c)
+slice_bounds-compare_runs-start c = let p = c.requires.0 in let r = value-stands p.1 c.args.i p.2 in omega (arith, r.low, r.order, r.run)
 
 pub slice_bounds-compare_runs-end : goal.slice_bounds-compare_runs-end
-slice_bounds-compare_runs-end c = omega (arith, ours c)
+slice_bounds-compare_runs-end c = let p = c.requires.0 in let r = value-stands p.1 c.args.i p.2 in omega (arith, r.low, r.order, r.run)
 
 pub slice_bounds-compare_runs-count-2 : goal.slice_bounds-compare_runs-count-2
-slice_bounds-compare_runs-count-2 c = omega (arith, theirs c.before)
+slice_bounds-compare_runs-count-2 c = let p = c.requires.1 in let r = value-stands p.1 c.args.j p.2 in omega (arith, r.low, r.order, r.run)
 
 pub slice_bounds-compare_runs-start-2 : goal.slice_bounds-compare_runs-start-2
-slice_bounds-compare_runs-start-2 c = omega (arith, theirs c.before)
+slice_bounds-compare_runs-start-2 c = let p = c.requires.1 in let r = value-stands p.1 c.args.j p.2 in omega (arith, r.low, r.order, r.run)
 
 pub slice_bounds-compare_runs-end-2 : goal.slice_bounds-compare_runs-end-2
-slice_bounds-compare_runs-end-2 c = omega (arith, theirs c.before)
+slice_bounds-compare_runs-end-2 c = let p = c.requires.1 in let r = value-stands p.1 c.args.j p.2 in omega (arith, r.low, r.order, r.run)
