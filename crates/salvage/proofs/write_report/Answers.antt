@@ -42,7 +42,7 @@ loop-i-preserved-then-mark-ne0 c =
       tell-on s.loop-i.invariant.1 (told_here a.marks.now a.image.now
           c.requires.0 s.loop-i.i h
           c.if-mark-ne0.true)
-          (rw (← c.step_of_lem.ensures) c.write_told-next.ensures),
+          (rw (← c.step_of.ensures) c.write_told-next.ensures),
     )
 
 pub loop-i-preserved : goal.loop-i-preserved
