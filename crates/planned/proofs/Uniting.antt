@@ -121,7 +121,7 @@ unfolding fold sift
 all_valid [] v s = v
 all_valid {l} (r ∷ w) v s =
     step ValidWaiting l r w (λ t. all_valid w v (λ x i. s x (Memᴰ.tail i)))
-    (λ f. all_valid w (into-valid v (s r (Memᴰ.head refl)) f) (λ x i. s x (Memᴰ.tail i)))
+    (λ f. all_valid {l = unite_into l r} w (into-valid v (s r (Memᴰ.head refl)) f) (λ x i. s x (Memᴰ.tail i)))
 
 pub all-keeps : {l : List Removal} (w : List Removal) → ValidWaiting l → SoundRemovals w → {c : List Dot} {key : ℕ} → Has l c key
     → Has (fold unite_into l (those remains w)) c key
@@ -129,7 +129,7 @@ unfolding fold sift
 all-keeps [] v s k = k
 all-keeps {l} (r ∷ w) v s {c} {key} k =
     step (λ m. Has m c key) l r w (λ t. all-keeps w v (λ x i. s x (Memᴰ.tail i)) k)
-    (λ f. let h = s r (Memᴰ.head refl) in all-keeps w (into-valid v h f) (λ x i. s x (Memᴰ.tail i)) (into-keeps v h f k))
+    (λ f. let h = s r (Memᴰ.head refl) in all-keeps {l = unite_into l r} w (into-valid v h f) (λ x i. s x (Memᴰ.tail i)) (into-keeps v h f k))
 
 pub all-adds : {l : List Removal} (w : List Removal) → ValidWaiting l → SoundRemovals w → (x : Removal) → x ∈ w → is_empty (under_of x) ≡ false
     → {key : ℕ}
@@ -142,7 +142,7 @@ all-adds {l} (r ∷ w) v s x i e {key} k =
     (λ t. ⊎_elim (λ (q : x ≡ r). absurd (both (is_empty (under_of r)) t (ap (λ y. is_empty (under_of y)) (sym q) ∙ e))) (λ j. all-adds w v g x j e k)
     (Memᴰ.cases_cons i))
     (λ f. ⊎_elim (λ (q : x ≡ r). all-keeps w (into-valid v h f) g (moved q (into-adds v h f (rw q at k))))
-    (λ j. all-adds w (into-valid v h f) g x j e k) (Memᴰ.cases_cons i))
+    (λ j. all-adds {l = unite_into l r} w (into-valid v h f) g x j e k) (Memᴰ.cases_cons i))
   where
     both : (b : Bool) → b ≡ true → b ≡ false → ⊥
     both b t f = apart (sym t ∙ f)
@@ -168,7 +168,7 @@ all-only {l} (r ∷ w) v s {c} {key} k₀ =
     step (λ m. Has m c key → Has l c key ⊎ Source (r ∷ w) c key) l r w
     (λ t k. ⊎_elim (λ a. inl a) (λ b. inr (more b)) (all-only w v g k))
     (λ f k. ⊎_elim (λ a. ⊎_elim (λ b. inl b) (λ b. inr (record { removal = r; stands = Memᴰ.head refl; some = f; under = b.0; lists = b.1 }))
-    (into-only v h f a)) (λ b. inr (more b)) (all-only w (into-valid v h f) g k)) k₀
+    (into-only v h f a)) (λ b. inr (more b)) (all-only {l = unite_into l r} w (into-valid v h f) g k)) k₀
   where
     more : Source w c key → Source (r ∷ w) c key
     more b = record { removal = b.removal; stands = Memᴰ.tail b.stands; some = b.some; under = b.under; lists = b.lists }

@@ -36,4 +36,4 @@ returns f =
     map-out _ _ (sym f.lay_out-a.ensures.0
     ∙ f.if-a-ne0.false)
     (sym (ap (λ (r : ReadClock). r.number) k) ∙ f.if-k-ne0.false)
-    (ap (λ (r : ReadClock). judged (reset (read_map s).map (dots_of r.clock))) k) f.Reset-by.ensures
+    (ap (λ (r : ReadClock). judged (reset (read_map s).map (dots_of r.clock))) k) f.reset_by.ensures

@@ -78,13 +78,13 @@ less c =
     omega arith
 
 pub loop-x-smaller-then-n-lt-ENTRIES : goal.loop-x-smaller-then-n-lt-ENTRIES
-loop-x-smaller-then-n-lt-ENTRIES c = less c.before.before.before.before.before.before.before.before.before
+loop-x-smaller-then-n-lt-ENTRIES c = less (goal.at.loop-x-smaller-then-n-lt-ENTRIES c).After-entry_at-e
 
 pub loop-x-smaller-else-n-lt-ENTRIES : goal.loop-x-smaller-else-n-lt-ENTRIES
-loop-x-smaller-else-n-lt-ENTRIES c = less c.before.before.before.before.before.before.before.before.before
+loop-x-smaller-else-n-lt-ENTRIES c = less (goal.at.loop-x-smaller-else-n-lt-ENTRIES c).After-entry_at-e
 
 pub loop-x-smaller : goal.loop-x-smaller
-loop-x-smaller c = less c.before.before.before.before.before
+loop-x-smaller c = less (goal.at.loop-x-smaller c).After-entry_at-e
 
 pub loop-x-preserved-then-n-lt-ENTRIES : goal.loop-x-preserved-then-n-lt-ENTRIES
 loop-x-preserved-then-n-lt-ENTRIES c =

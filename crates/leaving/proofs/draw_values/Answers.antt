@@ -30,7 +30,7 @@ loop-i-init c =
     let p = c.requires in
     let h = p.1.0.1 in
     let f = h.fit.few in
-    let good = c.well-formed in (
+    let good = c.well_formed in (
       (search rules, (omega (arith, many-values h), (refl, (p.0, (omega arith, (search (rules, good), search (rules, unmapped, good))))))),
       λ a b key d l e u w q g k y z m n. grown-start (Draws a b key d) l _ g,
     )

@@ -43,7 +43,7 @@ loop-i-init c =
     ((omega arith, (omega arith, omega (arith, p.few, many-there p.key _ p.third))), λ key l h r. refl)
 
 pub is_below-requires : goal.is_below-requires
-is_below-requires c = let p = c.requires in (omega arith, (p.0, compared c.before p.0 p.1))
+is_below-requires c = let p = c.requires in (omega arith, (p.0, compared (goal.at.is_below-requires c).At-loop-i p.0 p.1))
 
 pub number_at-requires : goal.number_at-requires
 number_at-requires c =
@@ -91,5 +91,5 @@ unfolding report_of undropped
 returns c = λ l h.
     let s = c.before in
     let n = many-there h.key l h.third in
-    s.loop-i.invariant.1 h.key l h.third (compared s l h) ∙ ap (λ k. report_on (those (λ v. not (is_below l v)) k))
+    s.loop-i.invariant.1 h.key l h.third (compared (goal.at.returns c).At-loop-i l h) ∙ ap (λ k. report_on (those (λ v. not (is_below l v)) k))
     (take_all s.loop-i.i l (omega arith))

@@ -55,7 +55,7 @@ returns-then-is_less c = λ l r.
     let k = c.before in
     let s = k in
     rw (take-length l) at (passing-here no_value (s.loop-j.invariant.1 l r) (rw (take-length l) (omega (arith, r.count)))
-    (met k l r ∙ c.if-is_less.true))
+    (met (goal.at.returns-then-is_less c).After-is_less l r ∙ c.if-is_less.true))
 
 pub loop-j-preserved : goal.loop-j-preserved
 loop-j-preserved c = (
@@ -63,7 +63,7 @@ loop-j-preserved c = (
   λ l r.
       let k = c.before in
       let s = k in
-      passing-on no_value (s.loop-j.invariant.1 l r) (rw (take-length l) (omega (arith, r.count))) (met k l r ∙ c.if-is_less.false),
+      passing-on no_value (s.loop-j.invariant.1 l r) (rw (take-length l) (omega (arith, r.count))) (met (goal.at.loop-j-preserved c).After-is_less l r ∙ c.if-is_less.false),
 )
 
 pub returns : goal.returns

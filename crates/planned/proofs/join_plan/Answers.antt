@@ -74,18 +74,19 @@ lies-of c w v q p =
     (ap (λ (x : Held). x.second) c.whole-x.ensures) (ap (λ (x : Held). x.second) c.whole-y.ensures)
 
 -- the walk comes nearer to the end
-near : (c : After-passed-j) → let u = c.before.before.before.before.before.before.before in let t
-    = u.before.before.before.before.before.before.before.before.before.before in
-    let n = t.places-n.result in let m = t.places-m.result in
+near : (c : After-passed-j) → let n = c.places-n.result in let m = c.places-m.result in
     let o = c.passed-i.result in let p = c.passed-j.result in
-    ((o ≤ n) × (p ≤ m)) × (((n - o) + (m - p) < (n - t.loop-i.i) + (m - t.loop-i.j)) × (t.loop-i.i + t.loop-i.j < o + p))
+    ((o ≤ n) × (p ≤ m)) × (((n - o) + (m - p) < (n - c.loop-i.i) + (m - c.loop-i.j)) × (c.loop-i.i + c.loop-i.j < o + p))
 near c =
-    let u = c.before.before.before.before.before.before.before in
-    let t = u.before.before.before.before.before.before.before.before.before.before in
-    let p = t.requires in
-    nearer (turn-of u p.0.0 p.1.0.0 p.0.1 p.1.0.1)
-    (queue-places p.0.1 t.places-n.ensures) (queue-places p.1.0.1 t.places-m.ensures)
-    t.loop-i.invariant.0.0 t.loop-i.invariant.0.1 c.passed-i.ensures c.passed-j.ensures
+    let p = c.requires in
+    let e = c.next_turn-r.ensures in
+    nearer (turned p.0.0 p.1.0.0 c.loop-i.i c.loop-i.j (queue-places p.0.1 c.places-n.ensures)
+    (queue-places p.1.0.1 c.places-m.ensures) _ _
+    (λ h. run-left p.0.1 false c.whole-x.ensures c.place-a.ensures.1 h)
+    (λ h. run-left p.1.0.1 true c.whole-y.ensures c.place-b.ensures.1 h)
+    c.loop-i-test.true e.0.0 e.0.1)
+    (queue-places p.0.1 c.places-n.ensures) (queue-places p.1.0.1 c.places-m.ensures)
+    c.loop-i.invariant.0.0 c.loop-i.invariant.0.1 c.passed-i.ensures c.passed-j.ensures
 
 pub loop-i-preserved-then-r : goal.loop-i-preserved-then-r
 loop-i-preserved-then-r c =
@@ -93,7 +94,7 @@ loop-i-preserved-then-r c =
     let u = d.before.before.before.before.before.before.before in
     let t = u.before.before.before.before.before.before.before.before.before.before in
     let a = t.args in
-    let z = near d in
+    let z = near (goal.at.loop-i-preserved-then-r c).After-passed-j in
     let g = t.loop-i.invariant in
     let x = u.place-a.ensures in
     let y = u.place-b.ensures in
@@ -133,7 +134,7 @@ loop-i-preserved c =
     let u = d.before.before.before.before.before.before.before in
     let t = u.before.before.before.before.before.before.before.before.before.before in
     let a = t.args in
-    let z = near d in
+    let z = near (goal.at.loop-i-preserved c).After-passed-j in
     let g = t.loop-i.invariant in
     let x = u.place-a.ensures in
     let y = u.place-b.ensures in
@@ -169,10 +170,10 @@ returns c =
     join-plans (dots_of a.seen) b d q.few p.few (t.loop-i.invariant.1 w v q p b d) (omega (arith, o.0)) (omega (arith, o.1))
 
 pub loop-i-smaller-then-r : goal.loop-i-smaller-then-r
-loop-i-smaller-then-r c = (near c.before.before).1.0
+loop-i-smaller-then-r c = (near (goal.at.loop-i-smaller-then-r c).After-passed-j).1.0
 
 pub loop-i-smaller : goal.loop-i-smaller
-loop-i-smaller c = (near c.before).1.0
+loop-i-smaller c = (near (goal.at.loop-i-smaller c).After-passed-j).1.0
 
 pub bounds-theirs-b-in-loop-i : goal.bounds-theirs-b-in-loop-i
 bounds-theirs-b-in-loop-i c = omega (

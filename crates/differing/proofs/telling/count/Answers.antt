@@ -29,24 +29,24 @@ pub overflow_add-n : goal.overflow_add-n
 overflow_add-n c = let v = c.loop-x.invariant in omega (arith, v.2, v.1.few)
 
 pub loop-x-smaller-then-told-ne0 : goal.loop-x-smaller-then-told-ne0
-loop-x-smaller-then-told-ne0 c = let r = came c.before.before.before.before.before in
+loop-x-smaller-then-told-ne0 c = let r = came (goal.at.loop-x-smaller-then-told-ne0 c).After-next-c in
     omega (arith, r.onward, r.outward, r.some, r.ahead.own.order, r.beside.own.order)
 
 pub loop-x-smaller : goal.loop-x-smaller
-loop-x-smaller c = let r = came c.before.before.before.before.before in
+loop-x-smaller c = let r = came (goal.at.loop-x-smaller c).After-next-c in
     omega (arith, r.onward, r.outward, r.some, r.ahead.own.order, r.beside.own.order)
 
 pub loop-x-preserved-then-told-ne0 : goal.loop-x-preserved-then-told-ne0
 loop-x-preserved-then-told-ne0 c =
     let k = c.before.before.before.before.before in
     let v = k.loop-x.invariant in
-    (v.0 ++ (k.next-c.result.told ∷ []), telling-tells v.1 (came k) c.if-told-ne0.true, ap (λ z. z + 1) v.2 ∙ sym (length-snoc v.0 _))
+    (v.0 ++ (k.next-c.result.told ∷ []), telling-tells v.1 (came (goal.at.loop-x-preserved-then-told-ne0 c).After-next-c) c.if-told-ne0.true, ap (λ z. z + 1) v.2 ∙ sym (length-snoc v.0 _))
 
 pub loop-x-preserved : goal.loop-x-preserved
 loop-x-preserved c =
     let k = c.before.before.before.before.before in
     let v = k.loop-x.invariant in
-    (v.0, telling-skips v.1 (came k) c.if-told-ne0.false, v.2)
+    (v.0, telling-skips v.1 (came (goal.at.loop-x-preserved c).After-next-c) c.if-told-ne0.false, v.2)
 
 -- both are used up
 neither : (a b : Bool) → (a || b) ≡ false → (a ≡ false) × (b ≡ false)

@@ -31,14 +31,14 @@ write_told-place-requires c =
     let v = w.loop-x.invariant in
     let p = w.requires in
     let r = told-room v.1 v.2 p.1 in
-    omega (arith, r.0, r.1, p.1, told_more v.0 k.next-c.result.told (telling-tells v.1 (came k) i.if-told-ne0.true))
+    omega (arith, r.0, r.1, p.1, told_more v.0 k.next-c.result.told (telling-tells v.1 (came (goal.at.write_told-place-requires c).After-next-c) i.if-told-ne0.true))
 
 pub loop-x-smaller-then-told-ne0 : goal.loop-x-smaller-then-told-ne0
-loop-x-smaller-then-told-ne0 c = let r = came c.before.before.before.before.before.before.before.before.before in
+loop-x-smaller-then-told-ne0 c = let r = came (goal.at.loop-x-smaller-then-told-ne0 c).After-next-c in
     omega (arith, r.onward, r.outward, r.some, r.ahead.own.order, r.beside.own.order)
 
 pub loop-x-smaller : goal.loop-x-smaller
-loop-x-smaller c = let r = came c.before.before.before.before.before in
+loop-x-smaller c = let r = came (goal.at.loop-x-smaller c).After-next-c in
     omega (arith, r.onward, r.outward, r.some, r.ahead.own.order, r.beside.own.order)
 
 pub loop-x-preserved-then-told-ne0 : goal.loop-x-preserved-then-told-ne0
@@ -49,7 +49,7 @@ loop-x-preserved-then-told-ne0 c =
     let w = k.before.before.before.before in
     let v = w.loop-x.invariant in
     let p = w.requires in
-    let told = telling-tells v.1 (came k) i.if-told-ne0.true in (
+    let told = telling-tells v.1 (came (goal.at.loop-x-preserved-then-told-ne0 c).After-next-c) i.if-told-ne0.true in (
       v.0 ++ (k.next-c.result.told ∷ []),
       told,
       told-on v.0 k.next-c.result.told v.2 x.write_told-place.ensures
@@ -60,7 +60,7 @@ pub loop-x-preserved : goal.loop-x-preserved
 loop-x-preserved c =
     let k = c.before.before.before.before.before in
     let v = k.loop-x.invariant in
-    (v.0, telling-skips v.1 (came k) c.if-told-ne0.false, v.2)
+    (v.0, telling-skips v.1 (came (goal.at.loop-x-preserved c).After-next-c) c.if-told-ne0.false, v.2)
 
 -- both are used up
 neither : (a b : Bool) → (a || b) ≡ false → (a ≡ false) × (b ≡ false)

@@ -35,18 +35,18 @@ meet : (c : After-dot_at-e) → let s = c.before.before.before.before in let a =
 meet c =
     let s = c.before.before.before.before in
     let g = s.loop-i.invariant in
-    let k : s.loop-i.j < length s.args.y.now / 16 = ltb-true _ _ c.if-j-m.true in
+    let k : s.loop-i.j < length s.args.y.now / 16 = c.if-j-m.true in
     let a = s.args in
     g.1.1 ∙ ap₂ clock_before (next-dot a.x.now a.mine s.loop-i.i (let n = g.2.0 in omega (arith, n))
     c.loop-i-test.true (g.1.0.0 c.loop-i-test.true) c.dot_at-d.ensures)
     (next-dot a.y.now a.yours s.loop-i.j (let n = g.2.1 in omega (arith, n)) k (g.1.0.1 k) c.dot_at-e.ensures)
 
 pub returns-then-d-e : goal.returns-then-d-e
-returns-then-d-e c = before-actor _ _ _ _ c.if-d-e.true ∙ sym (meet c.before.before.before.before.before)
+returns-then-d-e c = before-actor _ _ _ _ c.if-d-e.true ∙ sym (meet (goal.at.returns-then-d-e c).After-dot_at-e)
 
 pub returns-then-d-e-2 : goal.returns-then-d-e-2
 returns-then-d-e-2 c = before-counter _ _ _ _ c.if-d-e.false c.if-d-e-2.true
-    ∙ sym (meet c.before.before.before.before.before.before.before.before)
+    ∙ sym (meet (goal.at.returns-then-d-e-2 c).After-dot_at-e)
 
 pub loop-i-preserved : goal.loop-i-preserved
 loop-i-preserved c =
@@ -55,7 +55,7 @@ loop-i-preserved c =
       (a.0.1, b.0.1),
       (
         (a.1.0, b.1.0),
-        meet c.before.before.before.before.before.before.before.before
+        meet (goal.at.loop-i-preserved c).After-dot_at-e
             ∙ before-rest _ _ _ _ c.if-d-e.false c.if-d-e-2.false
             ∙ ap₂ clock_before (a.1.1 _ (length_run _)) (b.1.1 _ (length_run _)),
       ),
