@@ -16,7 +16,7 @@ use Rattle.maprecords.specs.Related.{read_map}
 use Rattle.promises.specs.Calls.{reset_answer}
 use Rattle.promises.specs.Promises.{ResetRemovePromise}
 use Rattle.maplaws.specs.Ties.{TieBreak}
-use Rattle.maplaws.proofs.Ties.{reset-breaks-ties}
+use Rattle.maplaws.proofs.ResetTies.{reset-breaks-ties}
 use Rattle.anyorderlaws.specs.Calls.{MapImage}
 use Rattle.readbacklaws.proofs.Goods.{good-reset}
 use Rattle.readbacklaws.proofs.Back.{zeros}

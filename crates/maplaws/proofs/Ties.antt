@@ -15,12 +15,7 @@ use Rattle.removals.specs.declared.Removal.{Removal}
 use Rattle.removals.specs.Model.{under_of}
 use Rattle.removals.specs.Waits.{cut_removal, remains, reset_waiting}
 use Rattle.removals.specs.Valid.{ValidRemoval}
-use Rattle.removals.proofs.Packs.{waiting-of}
 use Rattle.removals.proofs.WaitingValid.{valid-none, ready-cut, valid-reset-waiting}
-use Rattle.map.specs.declared.Map.{Map}
-use Rattle.map.specs.Model.{waiting_in}
-use Rattle.map.specs.Resetting.{reset}
-use Rattle.map.specs.Valid.{Valid}
 use Rattle.maplaws.specs.Among.{OneOf, Exactly}
 use Rattle.maplaws.specs.Ties.{TieBreak}
 use Rattle.maplaws.proofs.United.{Shared, united-exactly, one-clock, shared-clock, shared-key}
@@ -61,8 +56,3 @@ module _ (c : List Dot) {l : List Removal} (f : (r : Removal) → r ∈ l → Va
     emptied = (valid-reset-waiting f c).some;
     one = λ r s i j e. one-clock (valid-reset-waiting f c) i j e;
   }
-
--- of a map
-pub reset-breaks-ties : {m : Map} → Valid m → (c : List Dot) → TieBreak c (waiting_in m) (waiting_in (reset m c))
-unfolding reset
-reset-breaks-ties {m} v c = rw (waiting-of (reset_waiting c (waiting_in m))) (breaks-ties c v.waiting.each)

@@ -115,7 +115,7 @@ loop-i-preserved-then-r c =
       λ w v q p b c'.
           let few = q.few in
           let more = p.few in
-          let n = turn-of u w v q p in
+          let n = turn-of u.before w v q p in
           found-on (g.1 w v q p b c') n (stay-rise (dots_of a.seen) b.rising c'.rising)
           u.place-a.result
           u.place-b.result 0
@@ -147,7 +147,7 @@ loop-i-preserved c =
       λ w v q p b c'.
           let few = q.few in
           let more = p.few in
-          let n = turn-of u w v q p in
+          let n = turn-of u.before w v q p in
           found-off (g.1 w v q p b c') n (stay-rise (dots_of a.seen) b.rising c'.rising)
           u.place-a.result
           u.place-b.result 0
