@@ -12,7 +12,7 @@ use Rattle.anyorderlaws.proofs.Images.{ImageOf, start, image-accepted, done-mean
 pub passed-split : {s : List ℕ} (a : List (List ℕ)) {b : List (List ℕ)} → AllDone s (a ++ b) → AllDone s a × AllDone (end s a) b
 unfolding fold
 passed-split [] p = (none, p)
-passed-split (o ∷ a) (more d p) = let r = passed-split a p in (more d r.0, r.1)
+passed-split {s = s} (o ∷ a) (more d p) = let r = passed-split {s = image_after s o} a p in (more d r.0, r.1)
 
 pub passed-join : {s : List ℕ} {a b : List (List ℕ)} → AllDone s a → AllDone (end s a) b → AllDone s (a ++ b)
 unfolding fold

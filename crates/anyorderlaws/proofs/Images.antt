@@ -136,19 +136,19 @@ run_holds : {s : List ℕ} {m : Map} (ops : List (List ℕ)) → ImageOf s m →
     → AllDone s ops
 unfolding fold
 run_holds [] r f z = none
-run_holds (o ∷ ops) r f z =
+run_holds {s = s} (o ∷ ops) r f z =
     let i = f o (Memᴰ.head refl) in
     let y = early o ops r.good.within z in
-    more (removal-holds r i y) (run_holds ops (removal-next r i y) (λ q j. f q (Memᴰ.tail j)) z)
+    more (removal-holds r i y) (run_holds {s = image_after s o} ops (removal-next r i y) (λ q j. f q (Memᴰ.tail j)) z)
 
 -- the last image is the end map's
 run-image : {s : List ℕ} {m : Map} (ops : List (List ℕ)) → ImageOf s m → RemovalImages ops → over_number (fold remove m (map removal_of ops)) ≡ 0
     → ImageOf (end s ops) (fold remove m (map removal_of ops))
 unfolding fold
 run-image [] r f z = r
-run-image (o ∷ ops) r f z =
+run-image {s = s} (o ∷ ops) r f z =
     let i = f o (Memᴰ.head refl) in
-    run-image ops (removal-next r i (early o ops r.good.within z)) (λ q j. f q (Memᴰ.tail j)) z
+    run-image {s = image_after s o} ops (removal-next r i (early o ops r.good.within z)) (λ q j. f q (Memᴰ.tail j)) z
 
 -- images of the same removals are the same removals
 same-among : {ops vs : List (List ℕ)} → ((o : List ℕ) → Exactly (o ∈ ops) (o ∈ vs)) → (w : Removal)

@@ -16,7 +16,7 @@ use Rattle.listlaws.proofs.Twice.{sift-sift}
 use Rattle.clock.specs.declared.Dot.{Dot}
 use Rattle.clock.specs.Dots.{is_empty}
 use Rattle.register.specs.declared.Value.{Value}
-use Rattle.register.specs.Values.{outdone, ours_left, merge_values}
+use Rattle.register.specs.Values.{outdone, standing, ours_left, merge_values}
 use Rattle.entries.specs.declared.Entry.{Entry}
 use Rattle.removals.specs.declared.Removal.{Removal}
 use Rattle.entries.specs.Model.{dots_in}
@@ -51,11 +51,11 @@ module _ (mine yours : List Dot) where
 -- a register merged with none
 pub merge_none : (l : List Value) → merge_values l [] ≡ l
 unfolding merge_values ours_left sift outdone first_in
-merge_none l = append-nil (those _ l) ∙ those-all _ l (λ v i. refl)
+merge_none l = append-nil (those (standing false []) l) ∙ those-all (standing false []) l (λ v i. refl)
 
 pub none-merge : (l : List Value) → merge_values [] l ≡ l
 unfolding merge_values ours_left sift outdone first_in
-none-merge l = those-all _ l (λ v i. refl)
+none-merge l = those-all (standing true []) l (λ v i. refl)
 
 -- what is left of a merge's entries is what is left of them before any goes
 pub merged-woven : (w u : List Removal) (mine yours : List Dot) (l m : List Entry)

@@ -115,7 +115,7 @@ loop-i-preserved-then-r c =
       λ w v q p b c'.
           let few = q.few in
           let more = p.few in
-          let n = turn-of u.before w v q p in
+          let n = turn-of (goal.at.loop-i-preserved-then-r c).After-next_turn-r w v q p in
           found-on (g.1 w v q p b c') n (stay-rise (dots_of a.seen) b.rising c'.rising)
           u.place-a.result
           u.place-b.result 0
@@ -125,7 +125,7 @@ loop-i-preserved-then-r c =
           d.passed-i.ensures d.passed-j.ensures d.told.ensures d.told-in-loop-i.ensures
           u.next_turn-r.ensures.1.1 c.if-r.true
           k.1 u.next_turn-r.result.held
-          (lies-of u w v q p) (omega (arith, k.0, li)),
+          (lies-of (goal.at.loop-i-preserved-then-r c).After-next_turn-r w v q p) (omega (arith, k.0, li)),
     )
 
 pub loop-i-preserved : goal.loop-i-preserved
@@ -147,7 +147,7 @@ loop-i-preserved c =
       λ w v q p b c'.
           let few = q.few in
           let more = p.few in
-          let n = turn-of u.before w v q p in
+          let n = turn-of (goal.at.loop-i-preserved c).After-next_turn-r w v q p in
           found-off (g.1 w v q p b c') n (stay-rise (dots_of a.seen) b.rising c'.rising)
           u.place-a.result
           u.place-b.result 0

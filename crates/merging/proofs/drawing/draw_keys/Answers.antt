@@ -69,14 +69,14 @@ listers-theirs-requires c = let d = c.loop-x.invariant.0 in
 pub draw_key-k-requires : goal.draw_key-k-requires
 draw_key-k-requires c =
     let k = c.before.before.before.before.before.before.before.before in
-    let r = came k in
+    let r = came (goal.at.draw_key-k-requires c).After-next-c in
     let p = k.requires in
     (((r.ours, r.here), (r.theirs, r.there)), ((rw (dots-of r.gone r.lost) r.lawful, p.1.1.0), ((_, p.1.0.0), (_, p.1.0.1))))
 
 pub with-more-requires : goal.with-more-requires
 with-more-requires c =
     let d = c.loop-x.invariant.0 in (
-      omega (arith, d.few, (came c.before.before.before.before.before.before.before.before.before.before.before.before).fewer),
+      omega (arith, d.few, (came (goal.at.with-more-requires c).After-next-c).fewer),
       (_, d.grown.holds.sums),
     )
 
@@ -88,13 +88,13 @@ less : (c : After-next-c) → let w = c.before.before.before.before in
 less c = let r = came c in omega (arith, r.onward, r.outward, r.some, r.ahead.own.order, r.beside.own.order)
 
 pub loop-x-smaller-then-n-lt-ENTRIES : goal.loop-x-smaller-then-n-lt-ENTRIES
-loop-x-smaller-then-n-lt-ENTRIES c = less c.before.before.before.before.before.before.before.before.before.before.before.before.before.before
+loop-x-smaller-then-n-lt-ENTRIES c = less (goal.at.loop-x-smaller-then-n-lt-ENTRIES c).After-next-c
 
 pub loop-x-smaller-else-n-lt-ENTRIES : goal.loop-x-smaller-else-n-lt-ENTRIES
-loop-x-smaller-else-n-lt-ENTRIES c = less c.before.before.before.before.before.before.before.before.before.before.before.before.before.before
+loop-x-smaller-else-n-lt-ENTRIES c = less (goal.at.loop-x-smaller-else-n-lt-ENTRIES c).After-next-c
 
 pub loop-x-smaller : goal.loop-x-smaller
-loop-x-smaller c = less c.before.before.before.before.before.before.before.before.before.before.before.before
+loop-x-smaller c = less (goal.at.loop-x-smaller c).After-next-c
 
 -- both are used up
 neither : (a b : Bool) → (a || b) ≡ false → (a ≡ false) × (b ≡ false)
@@ -109,7 +109,7 @@ returns c =
 -- what was drawn of the key that came, and where the keys behind it lie
 module _ (c : After-draw_key-k) where
   abbrev i : After-listers-theirs
-  i = c.before.before.before
+  i = c.before.before.before.before
 
   abbrev k : After-next-c
   k = i.before.before.before.before.before.before

@@ -48,23 +48,23 @@ lain z = put-lies _ z.requires.1.0.0 z.requires.1.0.1
 pub draw_key-k-requires : goal.draw_key-k-requires
 draw_key-k-requires c =
     let k = c.before.before.before.before in
-    let r = came k in
+    let r = came (goal.at.draw_key-k-requires c).After-next-c in
     let z = k.before.before.before.before.before.before.before.before.before.before in
     (((r.entry, r.lies), (z.requires.1.1.1.0, (_, z.requires.0.1))), (_, lain z))
 
 pub with-more-requires : goal.with-more-requires
 with-more-requires c =
     let d = c.loop-x.invariant.1 in
-    (omega (arith, d.few, (came c.before.before.before.before.before.before.before.before).fewer), (_, d.grown.holds.sums))
+    (omega (arith, d.few, (came (goal.at.with-more-requires c).After-next-c).fewer), (_, d.grown.holds.sums))
 
 pub loop-x-smaller-then-n-lt-ENTRIES : goal.loop-x-smaller-then-n-lt-ENTRIES
-loop-x-smaller-then-n-lt-ENTRIES c = (came c.before.before.before.before.before.before.before.before.before.before).less
+loop-x-smaller-then-n-lt-ENTRIES c = (came (goal.at.loop-x-smaller-then-n-lt-ENTRIES c).After-next-c).less
 
 pub loop-x-smaller-else-n-lt-ENTRIES : goal.loop-x-smaller-else-n-lt-ENTRIES
-loop-x-smaller-else-n-lt-ENTRIES c = (came c.before.before.before.before.before.before.before.before.before.before).less
+loop-x-smaller-else-n-lt-ENTRIES c = (came (goal.at.loop-x-smaller-else-n-lt-ENTRIES c).After-next-c).less
 
 pub loop-x-smaller : goal.loop-x-smaller
-loop-x-smaller c = (came c.before.before.before.before.before.before.before.before).less
+loop-x-smaller c = (came (goal.at.loop-x-smaller c).After-next-c).less
 
 -- both are used up
 neither : (a b : Bool) → (a || not b) ≡ false → (a ≡ false) × (b ≡ true)
@@ -80,7 +80,7 @@ returns c =
 -- what was drawn of the key that came, and where the keys behind it lie
 module _ (c : After-draw_key-k) where
   abbrev i : After-listers-listing
-  i = c.before.before
+  i = c.before.before.before
 
   abbrev k : After-next-c
   k = i.before.before.before
