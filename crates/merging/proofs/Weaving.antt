@@ -1,7 +1,7 @@
 -- The entries of two maps woven: what the first of them is, where one side has it alone and where both have it, and what waiting removals
 -- leave of them.
 use mathlib.Core.Path.{◌≡◌, refl, ap, sym, ◌∙◌}
-use mathlib.Core.Bool.{not}
+use mathlib.Core.Bool.{not, true, false}
 use mathlib.Core.List.Memᴰ
 use mathlib.Core.List.{List, [], ◌∷◌, map, append-nil}
 use Prim.Native.Nat.{◌<◌}

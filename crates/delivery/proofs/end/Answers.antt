@@ -22,7 +22,8 @@ whole c = let n = c.before.before in sym n.if-number-ne0.false ∙ n.number_of-n
 pub returns-then-out-image_length : goal.returns-then-out-image_length
 returns-then-out-image_length c =
     let l = c.before.before in
-    rw c.word-then-out-image_length.ensures (end_short _ _ l.if-mem-ne1.false (whole (goal.at.returns-then-out-image_length c).After-image_length) (omega arith))
+    rw c.word-then-out-image_length.ensures (end_short _ _ l.if-mem-ne1.false (whole (goal.at.returns-then-out-image_length c).After-image_length)
+    (omega arith))
 
 pub returns : goal.returns
 returns c =

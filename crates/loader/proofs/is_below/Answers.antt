@@ -63,7 +63,8 @@ loop-j-preserved c = (
   λ l r.
       let k = c.before in
       let s = k in
-      passing-on no_value (s.loop-j.invariant.1 l r) (rw (take-length l) (omega (arith, r.count))) (met (goal.at.loop-j-preserved c).After-is_less l r ∙ c.if-is_less.false),
+      passing-on no_value (s.loop-j.invariant.1 l r) (rw (take-length l) (omega (arith, r.count)))
+      (met (goal.at.loop-j-preserved c).After-is_less l r ∙ c.if-is_less.false),
 )
 
 pub returns : goal.returns

@@ -39,8 +39,11 @@ loop-x-smaller c = let r = came (goal.at.loop-x-smaller c).After-next-c in
 pub loop-x-preserved-then-told-ne0 : goal.loop-x-preserved-then-told-ne0
 loop-x-preserved-then-told-ne0 c =
     let k = c.before.before.before.before.before in
-    let v = k.loop-x.invariant in
-    (v.0 ++ (k.next-c.result.told ∷ []), telling-tells v.1 (came (goal.at.loop-x-preserved-then-told-ne0 c).After-next-c) c.if-told-ne0.true, ap (λ z. z + 1) v.2 ∙ sym (length-snoc v.0 _))
+    let v = k.loop-x.invariant in (
+      v.0 ++ (k.next-c.result.told ∷ []),
+      telling-tells v.1 (came (goal.at.loop-x-preserved-then-told-ne0 c).After-next-c) c.if-told-ne0.true,
+      ap (λ z. z + 1) v.2 ∙ sym (length-snoc v.0 _),
+    )
 
 pub loop-x-preserved : goal.loop-x-preserved
 loop-x-preserved c =

@@ -50,7 +50,8 @@ returns-then-out-n c =
     let j = i.before.before.before in
     let first = sym j.lay_out-a.ensures.0 ∙ j.if-a-ne0.false in
     let second = sym i.lay_out-b.ensures.0 ∙ i.if-b-ne0.false in
-    rw c.word-then-out-n.ensures (refuses _ _ (number_short _ _ first second refl (omega (arith, long (goal.at.returns-then-out-n c).After-count-n, c.if-out-n.true))) (omega arith))
+    rw c.word-then-out-n.ensures (refuses _ _ (number_short _ _ first second refl
+    (omega (arith, long (goal.at.returns-then-out-n c).After-count-n, c.if-out-n.true))) (omega arith))
 
 pub write-requires : goal.write-requires
 write-requires c =

@@ -31,7 +31,14 @@ write_told-place-requires c =
     let v = w.loop-x.invariant in
     let p = w.requires in
     let r = told-room v.1 v.2 p.1 in
-    omega (arith, r.0, r.1, p.1, told_more v.0 k.next-c.result.told (telling-tells v.1 (came (goal.at.write_told-place-requires c).After-next-c) i.if-told-ne0.true))
+    omega (
+      arith,
+      r.0,
+      r.1,
+      p.1,
+      told_more v.0 k.next-c.result.told
+          (telling-tells v.1 (came (goal.at.write_told-place-requires c).After-next-c) i.if-told-ne0.true),
+    )
 
 pub loop-x-smaller-then-told-ne0 : goal.loop-x-smaller-then-told-ne0
 loop-x-smaller-then-told-ne0 c = let r = came (goal.at.loop-x-smaller-then-told-ne0 c).After-next-c in

@@ -24,19 +24,19 @@ stands c r h = c.compare_runs-o.ensures ∙ ap₂ order_of (seen-run c.requires.
 
 pub returns-in-Less : goal.returns-in-Less
 unfolding waits
-returns-in-Less c = λ r h. rw (← stands c.before.before r h, c.in-Less.is)
+returns-in-Less c = λ r h. rw (← stands (goal.at.returns-in-Less c).After-compare_runs-o r h, c.in-Less.is)
 
 pub returns-in-Concurrent : goal.returns-in-Concurrent
 unfolding waits
-returns-in-Concurrent c = λ r h. rw (← stands c.before.before r h, c.in-Concurrent.is)
+returns-in-Concurrent c = λ r h. rw (← stands (goal.at.returns-in-Concurrent c).After-compare_runs-o r h, c.in-Concurrent.is)
 
 pub returns-in-Equal : goal.returns-in-Equal
 unfolding waits
-returns-in-Equal c = λ r h. rw (← stands c.before.before r h, c.in-Equal.is)
+returns-in-Equal c = λ r h. rw (← stands (goal.at.returns-in-Equal c).After-compare_runs-o r h, c.in-Equal.is)
 
 pub returns-in-Greater : goal.returns-in-Greater
 unfolding waits
-returns-in-Greater c = λ r h. rw (← stands c.before.before r h, c.in-Greater.is)
+returns-in-Greater c = λ r h. rw (← stands (goal.at.returns-in-Greater c).After-compare_runs-o r h, c.in-Greater.is)
 
 pub slice_bounds-compare_runs-end-2 : goal.slice_bounds-compare_runs-end-2
 slice_bounds-compare_runs-end-2 c = omega (arith, under-room c.requires.1.1)

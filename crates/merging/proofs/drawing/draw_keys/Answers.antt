@@ -22,7 +22,7 @@ use Rattle.merging.specs.Coming.{MergeComes}
 use Rattle.merging.proofs.Merges.{drawing-start, fit-both, cut_key, Drew, drew, grown-goes, grown-stays, drawing-on, drawing-end}
 use Rattle.merging.proofs.Merges.{comes-seen}
 use Rattle.leaving.proofs.Fates.{some_left, none_left}
-use Rattle.merging.proofs.drawing.draw_keys.Goals.{After-draw_key-k, After-listers-theirs, After-next-c, At-loop-x, Start}
+use Rattle.merging.proofs.drawing.draw_keys.Goals.{After-draw_key-k, After-next-c}
 use Rattle.merging.proofs.drawing.draw_keys.Goals as goal
 
 pub loop-x-init : goal.loop-x-init
@@ -107,85 +107,74 @@ returns c =
     drawing-end c.loop-x.invariant.0 (ltb-false _ _ o.0) (ltb-false _ _ o.1)
 
 -- what was drawn of the key that came, and where the keys behind it lie
-module _ (c : After-draw_key-k) where
-  abbrev i : After-listers-theirs
-  i = c.before.before.before.before
-
-  abbrev k : After-next-c
-  k = i.before.before.before.before.before.before
-
-  abbrev w : At-loop-x
-  w = k.before.before.before.before
-
-  abbrev z : Start
-  z = w.before.before.before.before.before.before.before.before.before.before
-
+module _ (c : After-draw_key-k)
+    (r : MergeComes c.args.s.now c.args.t.now c.args.a.layout c.args.b.layout (seen_by (read_map c.args.s.now).map)
+    (seen_by (read_map c.args.t.now).map) c.loop-x.x c.loop-x.y c.loop-x.invariant.0.es c.loop-x.invariant.0.fs c.next-c.result) where
   abbrev m : Map
-  m = (read_map z.args.s.now).map
+  m = (read_map c.args.s.now).map
 
   abbrev n : Map
-  n = (read_map z.args.t.now).map
+  n = (read_map c.args.t.now).map
 
   abbrev key : ℕ
-  key = k.next-c.result.x.key
+  key = c.next-c.result.x.key
 
-  bound : w.loop-x.invariant.0.low ≤ key
-  bound = let d = w.loop-x.invariant.0 in (came k).least d.low d.above d.over
+  bound : c.loop-x.invariant.0.low ≤ key
+  bound = let d = c.loop-x.invariant.0 in r.least d.low d.above d.over
 
-  ours : let r = i.listers-ours.result in Marked (waiting_in m) key r.under
-      × Keyed z.args.s.now r.next z.args.a.layout.end (key_number 0 (key + 1)) (waiting_in m)
-  ours = i.listers-ours.ensures.1 (key_number 0 w.loop-x.invariant.0.low) (waiting_in m) w.loop-x.invariant.0.listed (omega (arith, bound))
+  ours : let q = c.listers-ours.result in Marked (waiting_in m) key q.under
+      × Keyed c.args.s.now q.next c.args.a.layout.end (key_number 0 (key + 1)) (waiting_in m)
+  ours = c.listers-ours.ensures.1 (key_number 0 c.loop-x.invariant.0.low) (waiting_in m) c.loop-x.invariant.0.listed (omega (arith, bound))
 
-  theirs : let r = i.listers-theirs.result in Marked (waiting_in n) key r.under
-      × Keyed z.args.t.now r.next z.args.b.layout.end (key_number 0 (key + 1)) (waiting_in n)
-  theirs = i.listers-theirs.ensures.1 (key_number 0 w.loop-x.invariant.0.low) (waiting_in n) w.loop-x.invariant.0.others (omega (arith, bound))
+  theirs : let q = c.listers-theirs.result in Marked (waiting_in n) key q.under
+      × Keyed c.args.t.now q.next c.args.b.layout.end (key_number 0 (key + 1)) (waiting_in n)
+  theirs = c.listers-theirs.ensures.1 (key_number 0 c.loop-x.invariant.0.low) (waiting_in n) c.loop-x.invariant.0.others (omega (arith, bound))
 
-  drawn : Drew w.loop-x.invariant.0 (came k) key (came k).gone c.draw_key-k.result
+  drawn : Drew c.loop-x.invariant.0 r key r.gone c.draw_key-k.result
   drawn =
-      let r = came k in
-      let p = z.requires in
-      drew w.loop-x.invariant.0 r (c.draw_key-k.ensures r.keep r.ours r.theirs (waiting_in n) (waiting_in m) r.kept r.here r.there
+      let p = c.requires in
+      drew c.loop-x.invariant.0 r (c.draw_key-k.ensures r.keep r.ours r.theirs (waiting_in n) (waiting_in m) r.kept r.here r.there
       r.level p.1.0.1 p.1.0.0
-      (subst (λ x. Marked (waiting_in n) x i.listers-theirs.result.under) r.here.key theirs.0)
-      (subst (λ x. Marked (waiting_in m) x i.listers-ours.result.under) r.here.key ours.0))
+      (subst (λ x. Marked (waiting_in n) x c.listers-theirs.result.under) r.here.key theirs.0)
+      (subst (λ x. Marked (waiting_in m) x c.listers-ours.result.under) r.here.key ours.0))
 
   abbrev drawn_dots : List Dot
   drawn_dots = dots_of (clock_apart c.draw_key-k.result.own)
 
-  left : is_empty (cut_key w.loop-x.invariant.0 (came k)) ≡ is_empty drawn_dots
-  left = ap is_empty (sym (dots-of (cut_key w.loop-x.invariant.0 (came k)) drawn.0))
+  left : is_empty (cut_key c.loop-x.invariant.0 r) ≡ is_empty drawn_dots
+  left = ap is_empty (sym (dots-of (cut_key c.loop-x.invariant.0 r) drawn.0))
 
 pub loop-x-preserved-then-n-lt-ENTRIES : goal.loop-x-preserved-then-n-lt-ENTRIES
 loop-x-preserved-then-n-lt-ENTRIES c =
-    let v = c.before.before.before.before.before in
-    let d = (w v).loop-x.invariant.0 in
-    let long = (w v).loop-x.invariant.1 in
-    let r = came (k v) in
-    let e = left v ∙ some_left (drawn_dots v) c.size.ensures.0 c.if-size-ne0.true in
+    let v = (goal.at.loop-x-preserved-then-n-lt-ENTRIES c).After-draw_key-k in
+    let d = v.loop-x.invariant.0 in
+    let long = v.loop-x.invariant.1 in
+    let r = came (goal.at.loop-x-preserved-then-n-lt-ENTRIES c).After-next-c in
+    let e = left v r ∙ some_left (drawn_dots v r) c.size.ensures.0 c.if-size-ne0.true in
     let s = c.with-more.ensures in (
-      drawing-on d r (ours v).1 (theirs v).1 (omega (arith, s.0))
-          (grown-stays d r e (λ done g. push-one g ((drawn v).1 e) (s.1 _ _ _ _ _ _ g.sums ((drawn v).1 e)) s.0 long c.if-n-lt-ENTRIES.true)),
-      length-set (w v).loop-x.items (w v).loop-x.sums.count v.draw_key-k.result ∙ long,
+      drawing-on d r (ours v r).1 (theirs v r).1 (omega (arith, s.0))
+          (grown-stays d r e (λ done g. push-one g ((drawn v r).1 e) (s.1 _ _ _ _ _ _ g.sums ((drawn v r).1 e)) s.0 long c.if-n-lt-ENTRIES.true)),
+      length-set v.loop-x.items v.loop-x.sums.count v.draw_key-k.result ∙ long,
     )
 
 pub loop-x-preserved-else-n-lt-ENTRIES : goal.loop-x-preserved-else-n-lt-ENTRIES
 loop-x-preserved-else-n-lt-ENTRIES c =
-    let v = c.before.before.before.before.before in
-    let d = (w v).loop-x.invariant.0 in
-    let r = came (k v) in
-    let e = left v ∙ some_left (drawn_dots v) c.size.ensures.0 c.if-size-ne0.true in
+    let v = (goal.at.loop-x-preserved-else-n-lt-ENTRIES c).After-draw_key-k in
+    let d = v.loop-x.invariant.0 in
+    let r = came (goal.at.loop-x-preserved-else-n-lt-ENTRIES c).After-next-c in
+    let e = left v r ∙ some_left (drawn_dots v r) c.size.ensures.0 c.if-size-ne0.true in
     let s = c.with-more.ensures in (
-      drawing-on d r (ours v).1 (theirs v).1 (omega (arith, s.0))
-          (grown-stays d r e (λ done g. push-over g ((drawn v).1 e) (s.1 _ _ _ _ _ _ g.sums ((drawn v).1 e)) s.0 (omega arith))),
-      (w v).loop-x.invariant.1,
+      drawing-on d r (ours v r).1 (theirs v r).1 (omega (arith, s.0))
+          (grown-stays d r e (λ done g. push-over g ((drawn v r).1 e) (s.1 _ _ _ _ _ _ g.sums ((drawn v r).1 e)) s.0 (omega arith))),
+      v.loop-x.invariant.1,
     )
 
 pub loop-x-preserved : goal.loop-x-preserved
 loop-x-preserved c =
-    let v = c.before.before.before in
-    let d = (w v).loop-x.invariant.0 in
-    let r = came (k v) in (
-      drawing-on d r (ours v).1 (theirs v).1 (omega arith) (grown-goes d r
-          (left v ∙ none_left (drawn_dots v) c.size.ensures.0 c.if-size-ne0.false)),
-      (w v).loop-x.invariant.1,
+    let v = (goal.at.loop-x-preserved c).After-draw_key-k in
+    let d = v.loop-x.invariant.0 in
+    let r = came (goal.at.loop-x-preserved c).After-next-c in (
+      drawing-on d r (ours v r).1 (theirs v r).1 (omega arith) (grown-goes d r
+          (left v r ∙ none_left (drawn_dots v r) c.size.ensures.0 c.if-size-ne0.false)),
+      v.loop-x.invariant.1,
     )

@@ -21,7 +21,7 @@ use Rattle.leaving.proofs.Fates.{some_left, none_left}
 use Rattle.updating.specs.Updated.{UpdateComes, PutLies}
 use Rattle.updating.proofs.Lying.{put-lies}
 use Rattle.updating.proofs.Updates.{drawing-start, fits_next, cut_key, Drew, drew, grown-goes, grown-stays, drawing-on, drawing-end}
-use Rattle.updating.proofs.drawing.draw_keys.Goals.{After-draw_key-k, After-listers-listing, After-next-c, At-loop-x, Start}
+use Rattle.updating.proofs.drawing.draw_keys.Goals.{After-draw_key-k, After-next-c}
 use Rattle.updating.proofs.drawing.draw_keys.Goals as goal
 
 pub loop-x-init : goal.loop-x-init
@@ -41,16 +41,10 @@ came c = let d = c.loop-x.invariant.1 in c.next-c.ensures _ d.es refl d.ahead
 pub listers-listing-requires : goal.listers-listing-requires
 listers-listing-requires c = let d = c.loop-x.invariant.1 in (d.listed.order, d.listed.within)
 
--- where the put lies
-lain : (z : Start) → PutLies z.args.op.now z.args.u
-lain z = put-lies _ z.requires.1.0.0 z.requires.1.0.1
-
 pub draw_key-k-requires : goal.draw_key-k-requires
 draw_key-k-requires c =
-    let k = c.before.before.before.before in
     let r = came (goal.at.draw_key-k-requires c).After-next-c in
-    let z = k.before.before.before.before.before.before.before.before.before.before in
-    (((r.entry, r.lies), (z.requires.1.1.1.0, (_, z.requires.0.1))), (_, lain z))
+    (((r.entry, r.lies), (c.requires.1.1.1.0, (_, c.requires.0.1))), (_, put-lies _ c.requires.1.0.0 c.requires.1.0.1))
 
 pub with-more-requires : goal.with-more-requires
 with-more-requires c =
@@ -78,76 +72,65 @@ returns c =
     drawing-end c.loop-x.invariant.1 (ltb-false _ _ o.0) o.1
 
 -- what was drawn of the key that came, and where the keys behind it lie
-module _ (c : After-draw_key-k) where
-  abbrev i : After-listers-listing
-  i = c.before.before.before
-
-  abbrev k : After-next-c
-  k = i.before.before.before
-
-  abbrev w : At-loop-x
-  w = k.before.before.before
-
-  abbrev z : Start
-  z = w.before.before.before.before.before.before.before
-
+module _ (c : After-draw_key-k)
+    (r : UpdateComes c.args.s.now c.args.l c.args.u c.loop-x.x c.loop-x.done c.loop-x.invariant.1.es c.next-c.result) where
   abbrev m : Map
-  m = (read_map z.args.s.now).map
+  m = (read_map c.args.s.now).map
 
   abbrev key : ℕ
-  key = k.next-c.result.entry.key
+  key = c.next-c.result.entry.key
 
-  ours : let r = i.listers-listing.result in Marked (waiting_in m) key r.under
-      × Keyed z.args.s.now r.next z.args.last (key_number 0 (key + 1)) (waiting_in m)
+  ours : let q = c.listers-listing.result in Marked (waiting_in m) key q.under
+      × Keyed c.args.s.now q.next c.args.last (key_number 0 (key + 1)) (waiting_in m)
   ours =
-      let d = w.loop-x.invariant.1 in
-      let bound = (came k).least d.low d.above d.goal in
-      i.listers-listing.ensures.1 (key_number 0 d.low) (waiting_in m) d.listed (omega (arith, bound))
+      let d = c.loop-x.invariant.1 in
+      let bound = r.least d.low d.above d.goal in
+      c.listers-listing.ensures.1 (key_number 0 d.low) (waiting_in m) d.listed (omega (arith, bound))
 
-  drawn : Drew w.loop-x.invariant.1 (came k) key c.draw_key-k.result
+  drawn : Drew c.loop-x.invariant.1 r key c.draw_key-k.result
   drawn =
-      let r = came k in
-      let p = z.requires in
-      drew w.loop-x.invariant.1 r (c.draw_key-k.ensures z.args.u r.entry (waiting_in m) refl (lain z) r.lies
-      (fits_next w.loop-x.invariant.1 r p.0.0 p.1.1.0.1) p.0.1
-      (subst (λ x. Marked (waiting_in m) x i.listers-listing.result.under) r.lies.key ours.0))
+      let p = c.requires in
+      drew c.loop-x.invariant.1 r (c.draw_key-k.ensures c.args.u r.entry (waiting_in m) refl
+      (put-lies _ c.requires.1.0.0 c.requires.1.0.1) r.lies
+      (fits_next c.loop-x.invariant.1 r p.0.0 p.1.1.0.1) p.0.1
+      (subst (λ x. Marked (waiting_in m) x c.listers-listing.result.under) r.lies.key ours.0))
 
   abbrev drawn_dots : List Dot
   drawn_dots = dots_of (clock_apart c.draw_key-k.result.own)
 
-  left : is_empty (cut_key w.loop-x.invariant.1 (came k)) ≡ is_empty drawn_dots
-  left = ap is_empty (sym (dots-of (cut_key w.loop-x.invariant.1 (came k)) drawn.0))
+  left : is_empty (cut_key c.loop-x.invariant.1 r) ≡ is_empty drawn_dots
+  left = ap is_empty (sym (dots-of (cut_key c.loop-x.invariant.1 r) drawn.0))
 
 pub loop-x-preserved-then-n-lt-ENTRIES : goal.loop-x-preserved-then-n-lt-ENTRIES
 loop-x-preserved-then-n-lt-ENTRIES c =
-    let v = c.before.before.before.before.before in
-    let d = (w v).loop-x.invariant.1 in
-    let r = came (k v) in
-    let e = left v ∙ some_left (drawn_dots v) c.size.ensures.0 c.if-size-ne0.true in
+    let v = (goal.at.loop-x-preserved-then-n-lt-ENTRIES c).After-draw_key-k in
+    let d = v.loop-x.invariant.1 in
+    let r = came (goal.at.loop-x-preserved-then-n-lt-ENTRIES c).After-next-c in
+    let e = left v r ∙ some_left (drawn_dots v r) c.size.ensures.0 c.if-size-ne0.true in
     let s = c.with-more.ensures in (
-      simp length-set (w v).loop-x.invariant.0,
-      drawing-on d r (ours v).1 (omega (arith, s.0)) (grown-stays d r (z v).requires.1.0.0 e
-          (λ done g. push-one g ((drawn v).1 e) (s.1 _ _ _ _ _ _ g.sums ((drawn v).1 e)) s.0 (w v).loop-x.invariant.0 c.if-n-lt-ENTRIES.true)),
+      simp length-set v.loop-x.invariant.0,
+      drawing-on d r (ours v r).1 (omega (arith, s.0)) (grown-stays d r v.requires.1.0.0 e
+          (λ done g. push-one g ((drawn v r).1 e) (s.1 _ _ _ _ _ _ g.sums ((drawn v r).1 e)) s.0 v.loop-x.invariant.0 c.if-n-lt-ENTRIES.true)),
     )
 
 pub loop-x-preserved-else-n-lt-ENTRIES : goal.loop-x-preserved-else-n-lt-ENTRIES
 loop-x-preserved-else-n-lt-ENTRIES c =
-    let v = c.before.before.before.before.before in
-    let d = (w v).loop-x.invariant.1 in
-    let r = came (k v) in
-    let e = left v ∙ some_left (drawn_dots v) c.size.ensures.0 c.if-size-ne0.true in
+    let v = (goal.at.loop-x-preserved-else-n-lt-ENTRIES c).After-draw_key-k in
+    let d = v.loop-x.invariant.1 in
+    let r = came (goal.at.loop-x-preserved-else-n-lt-ENTRIES c).After-next-c in
+    let e = left v r ∙ some_left (drawn_dots v r) c.size.ensures.0 c.if-size-ne0.true in
     let s = c.with-more.ensures in (
-      (w v).loop-x.invariant.0,
-      drawing-on d r (ours v).1 (omega (arith, s.0)) (grown-stays d r (z v).requires.1.0.0 e
-          (λ done g. push-over g ((drawn v).1 e) (s.1 _ _ _ _ _ _ g.sums ((drawn v).1 e)) s.0 (omega arith))),
+      v.loop-x.invariant.0,
+      drawing-on d r (ours v r).1 (omega (arith, s.0)) (grown-stays d r v.requires.1.0.0 e
+          (λ done g. push-over g ((drawn v r).1 e) (s.1 _ _ _ _ _ _ g.sums ((drawn v r).1 e)) s.0 (omega arith))),
     )
 
 pub loop-x-preserved : goal.loop-x-preserved
 loop-x-preserved c =
-    let v = c.before.before.before in
-    let d = (w v).loop-x.invariant.1 in
-    let r = came (k v) in (
-      (w v).loop-x.invariant.0,
-      drawing-on d r (ours v).1 (omega arith)
-          (grown-goes d r (z v).requires.1.0.0 (left v ∙ none_left (drawn_dots v) c.size.ensures.0 c.if-size-ne0.false)),
+    let v = (goal.at.loop-x-preserved c).After-draw_key-k in
+    let d = v.loop-x.invariant.1 in
+    let r = came (goal.at.loop-x-preserved c).After-next-c in (
+      v.loop-x.invariant.0,
+      drawing-on d r (ours v r).1 (omega arith)
+          (grown-goes d r v.requires.1.0.0 (left v r ∙ none_left (drawn_dots v r) c.size.ensures.0 c.if-size-ne0.false)),
     )
