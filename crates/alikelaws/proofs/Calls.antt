@@ -12,7 +12,7 @@ use Rattle.map.specs.Valid.{ValidOp}
 use Rattle.maprecords.specs.Related.{read_map}
 use Rattle.acceptancelaws.proofs.Maps.{map-within}
 use Rattle.acceptancelaws.proofs.Ops.{op-within}
-use Rattle.anyorderlaws.specs.Calls.{AllDone, none, more, end, Called, MapImage, OpImages, RemovalImage, removal_of}
+use Rattle.anyorderlaws.specs.Calls.{image_after, AllDone, none, more, end, Called, MapImage, OpImages, RemovalImage, removal_of}
 use Rattle.anyorderlaws.proofs.Images.{ImageOf, reads, start, done-means, image-next, image-accepted}
 use Rattle.anyorderlaws.proofs.Leaves.{called-passed}
 use Rattle.alikelaws.specs.Runs.{op_of, ops_of, OwnDots}
@@ -24,8 +24,9 @@ use Rattle.alikelaws.proofs.Withdrawing.{stays-away, sourced, removes-within}
 pub ends_as : {s : List ℕ} {m : Map} (ops : List (List ℕ)) → ImageOf s m → OpImages ops → AllDone s ops → ImageOf (end s ops) (applied m (ops_of ops))
 unfolding fold
 ends_as [] r f none = r
-ends_as (o ∷ ops) r f (more d p) =
-    let i = f o (Memᴰ.head refl) in ends_as ops (image-next r i (done-means r i d)) (λ q j. f q (Memᴰ.tail j)) p
+ends_as {s = s} (o ∷ ops) r f (more d p) =
+    let i = f o (Memᴰ.head refl) in
+    ends_as {s = image_after s o} ops (image-next r i (done-means r i d)) (λ q j. f q (Memᴰ.tail j)) p
 
 pub valid-op : (o : List ℕ) → ValidOp (op_of o)
 valid-op o = let w = op-within o in record { removal = w.removal.valid; update = λ t. (w.update t).valid }

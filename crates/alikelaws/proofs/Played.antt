@@ -83,7 +83,7 @@ module _ {s : List ℕ} {m : Map} (r : ImageOf s m) {o : Op} (g : GoodOp o) (z :
   pub played-next : ImageOf (image_after s (op_image o)) (apply m o)
   played-next = let q : op_of (op_image o) ≡ o = ap (λ x. x.op) (op-reads g) in rw q at (image-next r (op-image g) over)
 
-played : {s : List ℕ} {m : Map} {ops : List Op} → ImageOf s m → Plays m ops
+played : {m : Map} {s : List ℕ} {ops : List Op} → ImageOf s m → Plays m ops
     → AllDone s (map op_image ops) × ImageOf (end s (map op_image ops)) (applied m ops)
 unfolding fold
 played r none = (Calls.none, r)

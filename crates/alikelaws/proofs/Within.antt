@@ -86,7 +86,7 @@ module _ {s : List ℕ} {m : Map} (r : ImageOf s m) {o : Op} (g : GoodOp o) (z :
       let next : take (word_of a entry) (out_of a entry) ≡ (apply_answer s (op_image o)).bytes = first-bytes p w in
       call {s = s} {o = op_image o} {entry = entry} refl t p n w (rw (sym next) at c)
 
-fed : {s : List ℕ} {m : Map} {ops : List Op} → ImageOf s m → Plays m ops → Guarded m ops → Fed s (map op_image ops) (end s (map op_image ops))
+fed : {m : Map} {s : List ℕ} {ops : List Op} → ImageOf s m → Plays m ops → Guarded m ops → Fed s (map op_image ops) (end s (map op_image ops))
 unfolding fold
 fed r Played.none none = stop
 fed r (Played.more g z p) (more l k) = fed-one r g z l (fed (played-next r g z) p k)

@@ -9,19 +9,19 @@ use Rattle.catchup.proofs.step.Goals as goal
 
 pub slice_bounds-copy_run-end : goal.slice_bounds-copy_run-end
 slice_bounds-copy_run-end c =
-    let z = c.before.before.before.before.before.before.before.before.before.before.before in
+    let z = c in
     omega (arith, step_fits _ _ z.requires.1.1 c.apply-w.ensures c.if-w-lt4294967296.true)
 
 pub copy_run-requires : goal.copy_run-requires
 copy_run-requires c =
-    let z = c.before.before.before.before.before.before.before.before.before.before.before.before.before in
+    let z = c in
     let a = c.apply-w in
     let f = step_fits _ _ z.requires.1.1 a.ensures c.if-w-lt4294967296.true in
     omega (arith, f, z.requires.1.0, length-take (a.result - 0) a.new.out)
 
 pub returns-then-w-lt4294967296 : goal.returns-then-w-lt4294967296
 returns-then-w-lt4294967296 c =
-    let z = c.before.before.before.before.before.before.before.before.before.before.before.before.before.before.before.before in
+    let z = c in
     let a = c.apply-w in
     let here = z.args.here.now in
     rw (part-first z.args.len here)
@@ -30,7 +30,7 @@ returns-then-w-lt4294967296 c =
 
 pub returns-else-w-lt4294967296 : goal.returns-else-w-lt4294967296
 returns-else-w-lt4294967296 c =
-    let z = c.before.before.before.before.before.before.before.before.before.before in
+    let z = c in
     let a = c.apply-w in
     let here = z.args.here.now in
     rw (part-first z.args.len here)

@@ -26,18 +26,18 @@ module _ (f : After-removal_waits-waiting) where
 
   told : let a = f.args in f.removal_waits-waiting.result ≡ waits (dots_of a.a.clock) a.r
   told =
-      let p = f.before.before.before.before.before.before.before in
+      let p = f in
       f.removal_waits-waiting.ensures p.args.r lies ∙ ap (λ (c : Clock). waits (dots_of c) p.args.r) (sym p.requires.0.0.clock)
 
 pub held_queue-p-requires : goal.held_queue-p-requires
-held_queue-p-requires f = (_, lies f.before)
+held_queue-p-requires f = (_, lies (goal.at.held_queue-p-requires f).After-removal_waits-waiting)
 
 pub held_keys-theirs-requires : goal.held_keys-theirs-requires
-held_keys-theirs-requires f = (_, lies f.before.before)
+held_keys-theirs-requires f = (_, lies (goal.at.held_keys-theirs-requires f).After-removal_waits-waiting)
 
 pub join_plan-plan-requires : goal.join_plan-plan-requires
 join_plan-plan-requires f =
-    let w = f.before.before.before.before in (
+    let w = (goal.at.join_plan-plan-requires f).After-removal_waits-waiting in (
       (_, f.queue_of-q.ensures),
       (
         (_, f.held_queue-p.ensures _ _ (lies w) (told w)),
@@ -59,7 +59,7 @@ pub fewer-requires : goal.fewer-requires
 fewer-requires f =
     let c = f.before.before.before in
     let p = c.requires in
-    let w = c.before.before.before.before.before in
+    let w = (goal.at.fewer-requires f).After-removal_waits-waiting in
     let h = p.0.0 in
     let j = p.1.0 in (
       _,
@@ -85,7 +85,7 @@ pub returns : goal.returns
 returns f n e =
     let c = f.before.before.before.before in
     let p = c.requires in
-    let w = c.before.before.before.before.before in
+    let w = (goal.at.returns f).After-removal_waits-waiting in
     let h = p.0.0 in
     let j = p.1.0 in
     counted-as (removed-laid h.lies.within.valid _)
