@@ -52,18 +52,21 @@ returns-then-is_empty c = λ u e w q h l few k m.
       (bare (goal.at.returns-then-is_empty c).After-new-bare u q l few k m).clock,
       λ no. apart
           (sym c.if-is_empty.true ∙ c.is_empty.ensures
-          ∙ ap is_empty (dots-of (cut (goal.at.returns-then-is_empty c).After-new-bare u e w) (left (goal.at.returns-then-is_empty c).After-new-bare u q l few k m)) ∙ no),
+          ∙ ap is_empty (dots-of (cut (goal.at.returns-then-is_empty c).After-new-bare u e w)
+          (left (goal.at.returns-then-is_empty c).After-new-bare u q l few k m)) ∙ no),
     )
 
 pub returns-then-put : goal.returns-then-put
 returns-then-put c = λ u e w q h l few k m.
     let n = c.before.before.before.before in
-    let drawn = c.draw_put.ensures u _ (cut (goal.at.returns-then-put c).After-new-bare u e w) e w h (bare (goal.at.returns-then-put c).After-new-bare u q l few k m) l k m in
+    let drawn = c.draw_put.ensures u _ (cut (goal.at.returns-then-put c).After-new-bare u e w) e w h
+    (bare (goal.at.returns-then-put c).After-new-bare u q l few k m) l k m in
     (drawn.clock, λ no. draws-as (ap (λ b. sift alive (value_left w [] e.key []) (values_to u b e)) (sym c.if-put.true)) drawn)
 
 pub returns : goal.returns
 returns c = λ u e w q h l few k m.
     let n = c.before.before.before.before in
-    let drawn = c.draw_standing.ensures.1 (z (goal.at.returns c).After-new-bare).args.op.now _ (cut (goal.at.returns c).After-new-bare u e w) e w (bare (goal.at.returns c).After-new-bare u q l few k m) l k m in
+    let drawn = c.draw_standing.ensures.1 (z (goal.at.returns c).After-new-bare).args.op.now _ (cut (goal.at.returns c).After-new-bare u e w) e w
+    (bare (goal.at.returns c).After-new-bare u q l few k m) l k m in
     let values = picked_all (values_in e) value_limit l.fit.few ∙ ap (λ b. values_to u b e) (sym c.if-put.false) in
     (drawn.clock, λ no. draws-as (ap (sift alive (value_left w [] e.key [])) values) drawn)
