@@ -35,7 +35,7 @@ join_plan-plan-requires f =
     let j = c.add-grown.ensures ∙ ap (λ x. fitted (add_dot (dots_of x) u.dot)) h.clock in
     let t = c.if-grown.false in (
       (_, c.queue_of-q.ensures),
-      ((_, c.none.ensures _), rw (dots-of _ (within-clock _ j t)) (lawful-add h.lies.within.valid.clock u.dot)),
+      ((_, c.none-none.ensures _), rw (dots-of _ (within-clock _ j t)) (lawful-add h.lies.within.valid.clock u.dot)),
     )
 
 pub draw_updated-sk-requires : goal.draw_updated-sk-requires
