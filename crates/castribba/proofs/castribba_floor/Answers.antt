@@ -1,12 +1,11 @@
 -- `castribba_floor` meets its contract, by that of `begin` and `next`: the floor of all peers is what the walk ends with.
 use mathlib.Core.Path.{◌≡◌, ap, sym, ◌∙◌}
-use Prim.Native.Nat.{ℕ, ◌≤◌, ◌<◌}
-use lib.Dec.{eqb}
-use lib.ListN.{length}
+use mathlib.Core.List.{List}
+use Prim.Native.Nat.{ℕ, ◌+◌, ◌<◌}
+use lib.ListN.{length, get_or}
 use borrow.Author.Tests.{eq-eqb, ne_eqb}
 use native.Mathlib.Omega.{arith}
 use Rattle.clock.specs.declared.Clock.{Clock}
-use Rattle.clock.specs.Dots.{clock_of}
 use Rattle.flooring.specs.declared.Floored.{Floored}
 use Rattle.flooring.specs.Steps.{peers_read, next_of, floored_to, floored_all}
 use Rattle.flooring.proofs.Walks.{floor-start, floor-many, floor-next, read-within}
@@ -22,12 +21,17 @@ loop-i-init c =
 pub bounds-peers-i : goal.bounds-peers-i
 bounds-peers-i c = omega (arith, read-within (length c.args.peers.now), c.loop-i.invariant.1)
 
+-- one peer more
+step : (peers : List Clock) (i : ℕ) (d : Clock) {f : Floored} → i < length peers → f ≡ floored_to peers i
+    → next_of f (get_or peers i d) ≡ floored_to peers (i + 1)
+step peers i d h e = ap (λ g. next_of g (get_or peers i d)) e ∙ floor-next peers i d h
+
 pub loop-i-preserved : goal.loop-i-preserved
 loop-i-preserved c =
     let h : c.loop-i.i < length c.args.peers.now = omega (arith, read-within (length c.args.peers.now), c.loop-i.invariant.1) in (
       omega arith,
       c.loop-i.invariant.1,
-      c.next-f.ensures ∙ ap (λ (f : Floored). next_of f c.peer-1.peer) c.loop-i.invariant.2 ∙ floor-next c.args.peers.now c.loop-i.i (clock_of []) h,
+      c.next-f.ensures ∙ step c.args.peers.now c.loop-i.i _ h c.loop-i.invariant.2,
     )
 
 -- the walk ends with the floor of all peers

@@ -17,9 +17,9 @@ came c =
 pub returns-then-number-ne0 : goal.returns-then-number-ne0
 returns-then-number-ne0 c =
     let n = c.before.before in
-    refused-read (came n.before.before.before) n.number_of-number.ensures c.if-number-ne0.true c.refused.ensures
+    refused-read (came (goal.at.returns-then-number-ne0 c).After-take) n.number_of-number.ensures c.if-number-ne0.true c.refused.ensures
 
 pub returns : goal.returns
 returns c =
     let n = c.before.before.before in
-    map_read (came n.before.before.before) n.number_of-number.ensures c.if-number-ne0.false c.map_of-map.ensures
+    map_read (came (goal.at.returns c).After-take) n.number_of-number.ensures c.if-number-ne0.false c.map_of-map.ensures
