@@ -1,7 +1,7 @@
 // The calls of castribba.h, by their number in the file, and behind them the plain form of those that change a map.
 use questions::{BUFFER, Question};
 
-// What `castribba_clock_advance` stores back, by value: lending a local struct would be a proof by hand.
+// What `castribba_clock_advance` stores back, by value.
 pub fn advance(asked: Question, lent: &[u8; BUFFER], out: &mut [u8; BUFFER]) -> u64 {
     let a = advance::advance(questions::lent_clock(lent), asked.actor, asked.value);
     questions::write_lent_clock(out, a.clock);
