@@ -9,8 +9,8 @@
  * - Images and reports are little-endian, whatever machine writes them. docs/FORMAT.md lays them out.
  * - The archives are for x86-64 under the System V convention: at a call the stack is aligned to 16
  *   bytes; SSE registers and the 128 bytes below the stack pointer (the red zone) are used. They need
- *   `memcpy`, and castribba's `memset` too, from the program around them and nothing else: no heap, no
- *   other libc, no system call.
+ *   `memcpy`, and castribba's and salvage's `memset` too, from the program around them and nothing else:
+ *   no heap, no other libc, no system call.
  *   docs/INTEGRATING.md says what that means for a kernel, a boot loader and another machine.
  * - The stack that each call uses is in docs/MEASURES.md.
  */

@@ -19,8 +19,8 @@
  *   a party that had not heard all of its updates: it takes a new actor number.
  * - Damage that leaves a record good and in order is not seen: a changed value is a value.
  *
- * A call answers a word. The archive is x86-64 System V code, reentrant, and needs `memcpy` at most:
- * castribba_common.h has that in full, and the numbers. Refusals, in this order: 2 for an input of more than
+ * A call answers a word. The archive is x86-64 System V code, reentrant, and needs `memcpy` and `memset` at
+ * most: castribba_common.h has that in full, and the numbers. Refusals, in this order: 2 for an input of more than
  * 28,800 bytes, 10 for a buffer shorter than the answer, and no others.
  */
 #ifndef CASTRIBBA_SALVAGE_H
