@@ -7,11 +7,11 @@ use mathlib.Core.List.{List, [], ◌∷◌}
 use Prim.Native.Nat.{ℕ, ◌+◌, ◌≤◌, ◌<◌}
 use native.Mathlib.Omega.{arith}
 use lib.Dec.{leb, ltb}
-use lib.ListN.{length, take, drop, get_or, length-map}
+use lib.ListN.{length, drop, get_or, length-map}
 use borrow.Author.Tests.{lt-ltb, le-ltb, ltb-true, leb-true, le-leb}
 use Rattle.listlaws.specs.Order.{◌∈◌, Ascending, nil, next, by}
-use Rattle.listlaws.proofs.Rests.{drop-step, drop-end, weave-first-left}
-use Rattle.listlaws.proofs.Rising.{stops, goes}
+use Rattle.listlaws.proofs.SliceRests.{drop-step, drop-end, weave-first-left}
+use Rattle.listlaws.proofs.SliceRising.{stops, goes}
 use Rattle.clock.specs.declared.Dot.{Dot}
 use Rattle.clock.specs.Dots.{counter_in, add_dot, join_dots}
 use Rattle.clock.specs.Lawful.{Lawful}
@@ -19,16 +19,16 @@ use Rattle.scan.proofs.Eachs.{both_left, both_right}
 use Rattle.advance.specs.Advancing.{rising_dots}
 
 -- at each dot the loop stops or goes on
-module _ (xs : List Dot) (n i low : ℕ) (z : Dot) (h : i < length (take n xs)) {whole : Bool} (e : whole ≡ rising_dots low (drop i (take n xs))) where
+module _ (xs : List Dot) (i low : ℕ) (z : Dot) (h : i < length xs) {whole : Bool} (e : whole ≡ rising_dots low (drop i xs)) where
   abbrev good : Bool
   good = leb low (get_or xs i z).actor && ltb 0 (get_or xs i z).counter
 
   abbrev rest : Bool
-  rest = rising_dots ((get_or xs i z).actor + 1) (drop (i + 1) (take n xs))
+  rest = rising_dots ((get_or xs i z).actor + 1) (drop (i + 1) xs)
 
   split : whole ≡ (good && rest)
   unfolding rising_dots
-  split = e ∙ ap (rising_dots low) (drop-step xs n i z h)
+  split = e ∙ ap (rising_dots low) (drop-step xs i z h)
 
   pub rising-stops : not good ≡ true → false ≡ whole
   rising-stops f = stops good rest split f

@@ -1,8 +1,14 @@
 -- 01 "Clocks": the controller's own clock, advanced by one dot.
-use Rattle.std.specs.Prelude.{ℕ, ◌+◌, Bool, true, cond, ◌&&◌, List, [], ◌∷◌, eqb, ltb, leb, length}
+use Rattle.std.specs.Prelude.{ℕ, ◌+◌, ◌*◌, ◌^◌, Bool, true, false, cond, ◌&&◌, List, [], ◌∷◌, eqb, ltb, leb, length}
+use Rattle.std.specs.declared.option.Option.{Option}
+use Rattle.std.specs.declared.option.Option.TheVariants.{Some, None}
+use Rattle.std.specs.declared.result.Result.{Result}
+use Rattle.std.specs.declared.result.Result.TheVariants.{Ok, Err}
 use Rattle.clock.specs.declared.Dot.{Dot}
 use Rattle.clock.specs.declared.Clock.{Clock}
 use Rattle.limits.specs.Limits.{dot_limit}
+use Rattle.refusals.specs.declared.Refusal.{Refusal}
+use Rattle.refusals.specs.Numbers.{number_for as number_of_refusal}
 use Rattle.clock.specs.Dots.{dots_of, clock_of, beyond, add_dot}
 use Rattle.answers.specs.Answer.{Answer, number_of, word_of}
 use Rattle.advance.specs.declared.Advanced.{Advanced}
@@ -37,3 +43,9 @@ module _ (c : Clock) (actor counter : ℕ) where
 
   abbrev pub advanced_of : Advanced
   advanced_of = record { word = word_of advance_answer []; grew = takes_effect; clock = advanced_clock }
+
+-- the clock with the dot, none where the dot takes no effect, or why it can't be, as what is answered
+abbrev pub advanced_in : Clock → Result (Option Clock) Refusal → Advanced
+advanced_in c (Ok (Some next)) = record { word = 0; grew = true; clock = next }
+advanced_in c (Ok None) = record { word = 0; grew = false; clock = c }
+advanced_in c (Err r) = record { word = number_of_refusal r * 2 ^ 32; grew = false; clock = c }

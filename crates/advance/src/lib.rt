@@ -3,10 +3,12 @@
 
 ghost use Rattle.std.specs.Prelude.{◌≡◌, ◌≤◌};
 ghost use Rattle.clock.specs.Dots.{dots_of};
-ghost use Rattle.advance.specs.Advancing.{rising_dots, lent_number, advanced_of};
+ghost use Rattle.refusals.specs.Numbers.{number_told};
+ghost use Rattle.advance.specs.Advancing.{rising_dots, lent_number, advanced_in, advanced_of};
 
 use clock::{Clock, Dot};
 use limits::DOTS;
+use refusals::Refusal;
 
 // The word, whether the dot took effect, and the clock, which is the one given where it did not.
 #[derive(Clone, Copy)]
@@ -20,12 +22,8 @@ pub struct Advanced {
 fn rises(clock: Clock) -> bool
     ensures { result ≡ rising_dots 0 (dots_of clock) }
 {
-    let n = clock.size();
     let mut low: u32 = 0;
-    let mut i: usize = 0;
-    while i < n {
-        let d = clock.dots[i];
-        i += 1;
+    for d in clock.as_slice() {
         let actor = d.actor as u32;
         if !((low <= actor) & (0 < d.counter)) {
             return false;
@@ -36,46 +34,62 @@ fn rises(clock: Clock) -> bool
 }
 
 // What is wrong with a clock that was lent.
+fn check_lent(clock: Clock) -> Result<(), Refusal>
+    ensures { (number_told result ≡ lent_number clock) × (number_told result ≤ 2) }
+{
+    if DOTS < clock.len {
+        return Err(Refusal::OverLimit);
+    }
+    if rises(clock) {
+        Ok(())
+    } else {
+        Err(Refusal::Malformed)
+    }
+}
+
+// The same by its number.
 pub fn lent_number(clock: Clock) -> u8
     ensures { (result ≡ lent_number clock) × (result ≤ 2) }
 {
-    if DOTS < clock.len {
-        return 2;
+    match check_lent(clock) {
+        Ok(()) => 0,
+        Err(refusal) => refusal.number(),
     }
-    if rises(clock) { 0 } else { 1 }
+}
+
+// The clock with the dot, or none where the dot takes no effect.
+fn grown(clock: Clock, actor: u16, counter: u64) -> Result<Option<Clock>, Refusal>
+    ensures { advanced_in clock result ≡ advanced_of clock actor counter }
+{
+    check_lent(clock)?;
+    if counter <= clock.get(actor) {
+        return Ok(None);
+    }
+    let grown = clock.add(Dot { actor, counter });
+    if grown.over {
+        return Err(Refusal::TooManyDots);
+    }
+    Ok(Some(grown.clock))
 }
 
 pub fn advance(clock: Clock, actor: u16, counter: u64) -> Advanced
     ensures { result ≡ advanced_of clock actor counter }
 {
-    let number = lent_number(clock);
-    if number != 0 {
-        return Advanced {
-            word: answers::word(number),
-            grew: false,
-            clock,
-        };
-    }
-    if clock.get(actor) < counter {
-        let d = Dot { actor, counter };
-        let grown = clock.add(d);
-        if grown.over {
-            return Advanced {
-                word: answers::word(4),
-                grew: false,
-                clock,
-            };
-        }
-        let next = grown.clock;
-        return Advanced {
+    match grown(clock, actor, counter) {
+        Ok(Some(next)) => Advanced {
             word: 0,
             grew: true,
             clock: next,
-        };
-    }
-    Advanced {
-        word: 0,
-        grew: false,
-        clock,
+        },
+        Ok(None) => Advanced {
+            word: 0,
+            grew: false,
+            clock,
+        },
+        Err(refusal) => Advanced {
+            word: answers::word(refusal.number()),
+            grew: false,
+            clock,
+        },
     }
 }

@@ -14,10 +14,10 @@ use Rattle.asking.specs.declared.Made.{Made}
 use Rattle.asking.specs.Asking.{clock_at, make_update, removal_op}
 use Rattle.readiness.specs.declared.Readiness.{Readiness}
 use Rattle.readiness.specs.Ready.{ready, ready_number, ready_actor, ready_counter}
-use Rattle.opimage.specs.declared.ReadOp.{ReadOp}
+use Rattle.opimage.specs.OpImage.{ReadOp}
 use Rattle.opimage.specs.OpImage.{read_op, op_image}
 use Rattle.mapimage.specs.MapImage.{map_image}
-use Rattle.maprecords.specs.declared.ReadMap.{ReadMap}
+use Rattle.maprecords.specs.Related.{ReadMap}
 use Rattle.maprecords.specs.Related.{read_map}
 use Rattle.answers.specs.Answer.{Answer, word_of, carried_of}
 use Rattle.oneimagelaws.specs.One.{GoodMap, GoodOp}

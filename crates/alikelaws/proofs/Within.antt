@@ -29,11 +29,11 @@ use Rattle.map.specs.Judging.{over_dots, over_entries, over_values, over_waiting
 use Rattle.readiness.specs.declared.Readiness.{Readiness}
 use Rattle.readiness.specs.declared.Readiness.TheVariants.{Next, Seen}
 use Rattle.readiness.specs.Ready.{first_lacking, ready_under, ready, ready_number}
-use Rattle.opimage.specs.declared.ReadOp.{ReadOp}
+use Rattle.opimage.specs.OpImage.{ReadOp}
 use Rattle.opimage.specs.OpImage.{op_longest, refused_op, judged_op, read_op, op_image}
 use Rattle.clockimage.proofs.RoundTrip.{accepted}
 use Rattle.mapimage.specs.MapImage.{map_longest}
-use Rattle.maprecords.specs.declared.ReadMap.{ReadMap}
+use Rattle.maprecords.specs.Related.{ReadMap}
 use Rattle.maprecords.specs.Related.{read_map}
 use Rattle.answers.specs.Answer.{Answer, first_of, number_of, word_of, out_of, Answered}
 use Rattle.answers.proofs.Answers.{number-done}

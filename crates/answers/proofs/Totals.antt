@@ -7,6 +7,7 @@ use native.Mathlib.Omega.{arith}
 use lib.ListN.{length, take, drop, get_or, length-append}
 use Rattle.listlaws.specs.Order.{◌∈◌}
 use Rattle.listlaws.proofs.Rests.{drop-step, drop-end}
+use Rattle.listlaws.proofs.SliceRests
 use Rattle.mapimage.specs.MapImage.{flat_from}
 use Rattle.listlaws.specs.Fold.{total_of}
 
@@ -15,6 +16,12 @@ module _ {A : Type 0} (size : A → ℕ) where
       → total_of size (drop i (take n xs)) ≡ size (get_or xs i d) + total_of size (drop (i + 1) (take n xs))
   unfolding total_of
   total-on xs n i d h = ap (total_of size) (drop-step xs n i d h)
+
+  -- the same for a loop over a slice's items
+  pub total-step : (xs : List A) (i : ℕ) (d : A) → i < length xs
+      → total_of size (drop i xs) ≡ size (get_or xs i d) + total_of size (drop (i + 1) xs)
+  unfolding total_of
+  total-step xs i d h = ap (total_of size) (SliceRests.drop-step xs i d h)
 
   pub total-end : (l : List A) (i : ℕ) → length l ≤ i → total_of size (drop i l) ≡ 0
   unfolding total_of

@@ -1,4 +1,8 @@
 -- What every call of castribba.h answers: the order of refusals, the word, and every byte of the output.
+use Rattle.std.specs.declared.result.Result.{Result}
+use Rattle.std.specs.declared.result.Result.TheVariants.{Ok, Err}
+use Rattle.refusals.specs.declared.Refusal.{Refusal}
+use Rattle.refusals.specs.Numbers.{number_for}
 use Rattle.std.specs.Prelude.{◌≡◌, ℕ, ◌+◌, ◌*◌, ◌^◌, cond, ◌&&◌, List, [], ◌∷◌, ◌++◌, eqb, ltb, length, drop}
 
 -- the numbers of the first image, of the second (0 where a call takes one) and of the call's own work, and the bytes to write
@@ -24,6 +28,11 @@ number_of a out = first_of (a.first ∷ a.second ∷ a.own ∷ short_of a.bytes 
 -- number times 2^32 plus length: "All but 0 return length zero"
 unfoldable pub word_of : Answer → List ℕ → ℕ
 word_of a out = number_of a out * 2 ^ 32 + cond (eqb (number_of a out) 0) (length a.bytes) 0
+
+-- the word of so many bytes written, or of a refusal
+abbrev pub word_in : Result ℕ Refusal → ℕ
+word_in (Ok n) = n
+word_in (Err r) = number_for r * 2 ^ 32
 
 -- the output at exit: "and change no buffer"; "done; length written; later bytes unchanged"
 unfoldable pub out_of : Answer → List ℕ → List ℕ

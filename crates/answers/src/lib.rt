@@ -10,12 +10,13 @@ ghost use Rattle.map.specs.Model.{waiting_in};
 ghost use Rattle.map.specs.Valid.{Valid};
 ghost use Rattle.opimage.specs.OpImage.{op_longest, op_image};
 ghost use Rattle.mapimage.specs.MapImage.{map_longest, map_image};
-ghost use Rattle.answers.specs.Answer.{Answered};
+ghost use Rattle.answers.specs.Answer.{Answered, word_in};
 ghost use Rattle.listlaws.specs.Fold.{total_of};
 ghost use Rattle.answers.specs.Sizes.{value_size, entry_size, removal_size, register_most, entries_most, waiting_most, map_size};
 
 use entries::Entries;
 use map::{Map, Op};
+use refusals::Refusal;
 use register::Register;
 use removals::Waiting;
 
@@ -26,17 +27,22 @@ pub fn word(number: u8) -> u64
     number as u64 * 0x1_0000_0000
 }
 
+// The word of so many bytes written, or of a refusal.
+pub fn told(answer: Result<usize, Refusal>) -> u64
+    ensures { result ≡ word_in answer }
+{
+    match answer {
+        Ok(n) => n as u64,
+        Err(refusal) => word(refusal.number()),
+    }
+}
+
 pub fn count_values(register: Register) -> usize
     ensures { (result ≡ total_of value_size (values_of register)) × (result ≤ register_most) }
 {
-    let n = register.size();
     let mut total: usize = 0;
-    let mut i: usize = 0;
-    while i < n {
-        let v = register.values[i];
-        i += 1;
-        let clock = v.clock;
-        total += 1 + clock.size();
+    for v in register.as_slice() {
+        total += 1 + v.clock.size();
     }
     total
 }
@@ -44,15 +50,9 @@ pub fn count_values(register: Register) -> usize
 fn count_entries(entries: Entries) -> usize
     ensures { (result ≡ total_of entry_size (entries_of entries)) × (result ≤ entries_most) }
 {
-    let n = entries.size();
     let mut total: usize = 0;
-    let mut i: usize = 0;
-    while i < n {
-        let e = entries.items[i];
-        i += 1;
-        let clock = e.clock;
-        let register = e.register;
-        total += clock.size() + count_values(register);
+    for e in entries.as_slice() {
+        total += e.clock.size() + count_values(e.register);
     }
     total
 }
@@ -60,15 +60,9 @@ fn count_entries(entries: Entries) -> usize
 fn count_waiting(waiting: Waiting) -> usize
     ensures { (result ≡ total_of removal_size (waiting_of waiting)) × ((result ≤ waiting_most) × (length (waiting_of waiting) ≤ waiting_limit)) }
 {
-    let n = waiting.size();
     let mut total: usize = 0;
-    let mut i: usize = 0;
-    while i < n {
-        let w = waiting.items[i];
-        i += 1;
-        let clock = w.clock;
-        let keys = w.keys;
-        total += clock.size() + keys.size();
+    for w in waiting.as_slice() {
+        total += w.clock.size() + w.keys.size();
     }
     total
 }
@@ -99,29 +93,23 @@ pub fn op_length(op: Op) -> usize
     (1 + (clock.size() + keys.size())) * 16
 }
 
-// Answers a map, or the number of what is wrong with it.
-pub fn give_map(number: u8, map: Map, out: &mut [u8]) -> u64
+// Answers a map, where there is room for it.
+pub fn give_map(map: Map, out: &mut [u8]) -> Result<usize, Refusal>
     requires { Valid map }
-    ensures { Answered (record { first = 0; second = 0; own = number; bytes = map_image map }) out.old out.new result }
+    ensures { Answered (record { first = 0; second = 0; own = 0; bytes = map_image map }) out.old out.new (word_in result) }
 {
-    if number != 0 {
-        return word(number);
-    }
     if out.len() < map_length(map) {
-        return word(10);
+        return Err(Refusal::ShortBuffer);
     }
-    mapimage::write_map(map, out) as u64
+    Ok(mapimage::write_map(map, out))
 }
 
-// Answers an operation, or the number of why it can't be made.
-pub fn give_op(number: u8, op: Op, out: &mut [u8]) -> u64
-    ensures { Answered (record { first = 0; second = 0; own = number; bytes = op_image op }) out.old out.new result }
+// Answers an operation, where there is room for it.
+pub fn give_op(op: Op, out: &mut [u8]) -> Result<usize, Refusal>
+    ensures { Answered (record { first = 0; second = 0; own = 0; bytes = op_image op }) out.old out.new (word_in result) }
 {
-    if number != 0 {
-        return word(number);
-    }
     if out.len() < op_length(op) {
-        return word(10);
+        return Err(Refusal::ShortBuffer);
     }
-    opimage::write_op(op, out) as u64
+    Ok(opimage::write_op(op, out))
 }

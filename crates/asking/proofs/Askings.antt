@@ -5,11 +5,11 @@ use mathlib.Core.List.Memᴰ
 use mathlib.Core.List.{List, [], ◌∷◌}
 use Prim.Native.Nat.{ℕ, ◌+◌, ◌≤◌, ◌<◌}
 use lib.Dec.{eqb}
-use lib.ListN.{length, take, drop, get_or}
+use lib.ListN.{length, drop, get_or}
 use Rattle.listlaws.specs.First.{first_in}
 use Rattle.listlaws.specs.Sift.{those}
 use Rattle.listlaws.proofs.Orders.{apart}
-use Rattle.listlaws.proofs.Rests.{drop-step, drop-end}
+use Rattle.listlaws.proofs.SliceRests.{drop-step, drop-end}
 use Rattle.listlaws.proofs.Those.{those-means}
 use Rattle.clock.specs.declared.Dot.{Dot}
 use Rattle.entries.specs.declared.Entry.{Entry}
@@ -53,26 +53,26 @@ pub or-next : (p q : CvRDTValidation) → is_twice p ≡ false → or_else p q �
 or-next Once q t = refl
 or-next (Twice d k h) q t = apart t
 
--- i of the n places in use are passed, and nothing was spent twice there
-pub record Searching {A : Type 0} (f : A → CvRDTValidation) (xs : List A) (n i : ℕ) : Type 0 where
-  pub left : first_spent f (take n xs) ≡ first_spent f (drop i (take n xs))
+-- i of the elements are passed, and nothing was spent twice there
+pub record Searching {A : Type 0} (f : A → CvRDTValidation) (xs : List A) (i : ℕ) : Type 0 where
+  pub left : first_spent f xs ≡ first_spent f (drop i xs)
 
-module _ {A : Type 0} {f : A → CvRDTValidation} {xs : List A} {n : ℕ} where
-  pub searching-start : Searching f xs n 0
+module _ {A : Type 0} {f : A → CvRDTValidation} {xs : List A} where
+  pub searching-start : Searching f xs 0
   searching-start = record { left = refl }
 
-  module _ {i : ℕ} (d : A) (s : Searching f xs n i) (h : i < length (take n xs)) where
-    pub searching-here : {p : CvRDTValidation} → p ≡ f (get_or xs i d) → is_twice p ≡ true → p ≡ first_spent f (take n xs)
+  module _ {i : ℕ} (d : A) (s : Searching f xs i) (h : i < length xs) where
+    pub searching-here : {p : CvRDTValidation} → p ≡ f (get_or xs i d) → is_twice p ≡ true → p ≡ first_spent f xs
     unfolding first_spent
-    searching-here {p} e t = sym (s.left ∙ rw (drop-step xs n i d h, ← e) (or-this p _ t))
+    searching-here {p} e t = sym (s.left ∙ rw (drop-step xs i d h, ← e) (or-this p _ t))
 
-    pub searching-on : {p : CvRDTValidation} → p ≡ f (get_or xs i d) → is_twice p ≡ false → Searching f xs n (i + 1)
+    pub searching-on : {p : CvRDTValidation} → p ≡ f (get_or xs i d) → is_twice p ≡ false → Searching f xs (i + 1)
     unfolding first_spent
-    searching-on {p} e t = record { left = s.left ∙ rw (drop-step xs n i d h, ← e) (or-next p _ t) }
+    searching-on {p} e t = record { left = s.left ∙ rw (drop-step xs i d h, ← e) (or-next p _ t) }
 
-  pub searching-end : {i : ℕ} → Searching f xs n i → length (take n xs) ≤ i → Once ≡ first_spent f (take n xs)
+  pub searching-end : {i : ℕ} → Searching f xs i → length xs ≤ i → Once ≡ first_spent f xs
   unfolding first_spent
-  searching-end {i} s h = sym (s.left ∙ rw (drop-end (take n xs) i h))
+  searching-end {i} s h = sym (s.left ∙ rw (drop-end xs i h))
 
 -- reading a key keeps what holds of a map
 pub valid-read : {m : Map} → Valid m → (k : ℕ) → Valid (read_key m k)

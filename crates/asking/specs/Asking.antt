@@ -17,7 +17,7 @@ use Rattle.asking.specs.declared.CvRDTValidation.{CvRDTValidation}
 use Rattle.asking.specs.declared.CvRDTValidation.TheVariants.{Once, Twice}
 use Rattle.entries.specs.Model.{dots_in, entries_as, no_update}
 use Rattle.removals.specs.Model.{removal_as, no_removal, waiting_as}
-use Rattle.map.specs.Model.{seen_by, entries_in}
+use Rattle.map.specs.Model.{seen_by, entries_in, no_op}
 use Rattle.asking.specs.Contexts.{add_context}
 
 -- the clock of a key's entry, empty where there is none
@@ -77,9 +77,6 @@ is_twice (Twice d k h) = true
 abbrev pub spent_number : CvRDTValidation → ℕ
 spent_number Once = 0
 spent_number (Twice d k h) = 12
-
-abbrev pub no_op : Op
-no_op = record { up = false; removal = no_removal; update = no_update }
 
 -- an update under a context, or the number of a context that was not had
 abbrev pub update_op : AddCtx → ℕ → Content → Op

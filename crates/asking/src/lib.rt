@@ -9,8 +9,8 @@ ghost use Rattle.limits.specs.Limits.{entry_limit};
 ghost use Rattle.entries.specs.Model.{entries_of, no_update};
 ghost use Rattle.removals.specs.Model.{keys_as};
 ghost use Rattle.asking.specs.Asking.{following, validate_update, validate_op, spent_under, spent_by, first_spent, validate_merge, is_twice};
-ghost use Rattle.asking.specs.Asking.{make_update, no_op, removal_op, clock_at, read_key, count};
-ghost use Rattle.map.specs.Model.{seen_by};
+ghost use Rattle.asking.specs.Asking.{make_update, removal_op, clock_at, read_key, count};
+ghost use Rattle.map.specs.Model.{seen_by, no_op};
 ghost use Rattle.map.specs.Valid.{Within};
 
 pub mod contexts;
@@ -108,14 +108,10 @@ pub fn spent_under(key: u32, ours: Clock, other: u32, theirs: Clock) -> CvRDTVal
     if key == other {
         return CvRDTValidation::Once;
     }
-    let n = ours.size();
-    let mut i: usize = 0;
-    while i < n {
-        let d = ours.dots[i];
+    for d in ours.as_slice() {
         if theirs.get(d.actor) == d.counter {
-            return CvRDTValidation::Twice(d, key, other);
+            return CvRDTValidation::Twice(*d, key, other);
         }
-        i += 1;
     }
     CvRDTValidation::Once
 }
@@ -131,12 +127,8 @@ fn spent_by(ours: Entry, theirs: Entry) -> CvRDTValidation
 fn spent_among(ours: Entry, theirs: Entries) -> CvRDTValidation
     ensures { result ≡ first_spent (spent_by ours) (entries_of theirs) }
 {
-    let n = theirs.size();
-    let mut i: usize = 0;
-    while i < n {
-        let f = theirs.items[i];
-        i += 1;
-        let s = spent_by(ours, f);
+    for f in theirs.as_slice() {
+        let s = spent_by(ours, *f);
         if twice(s) {
             return s;
         }
@@ -168,12 +160,8 @@ pub fn validate_merge(map: Map, other: Map) -> CvRDTValidation
 {
     let ours = map.entries;
     let theirs = other.entries;
-    let n = ours.size();
-    let mut i: usize = 0;
-    while i < n {
-        let e = ours.items[i];
-        i += 1;
-        let s = spent_among(e, theirs);
+    for e in ours.as_slice() {
+        let s = spent_among(*e, theirs);
         if twice(s) {
             return s;
         }

@@ -6,7 +6,6 @@ use lib.ListN.{length}
 use Rattle.map.specs.declared.Map.{Map}
 use Rattle.map.specs.Model.{map_as}
 use Rattle.records.specs.Bytes.{Bytes}
-use Rattle.maprecords.specs.declared.ReadMap.{ReadMap}
 use Rattle.maprecords.specs.Related.{refused_map, read_map}
 use Rattle.maprecords.proofs.Readers.{read-refused}
 use Rattle.memory.specs.Memory.{reader_room, clock_place, dots_at, entries_at, waiting_at}
@@ -28,8 +27,10 @@ module _ {s v : List ℕ} (c : Came s v) {n : ℕ} (e : n ≡ end_number v) wher
   number_read : n ≡ (read_map s).number
   number_read = e ∙ ends-as-read c
 
-  pub refused-read : (n ≡ 0 → ⊥) → {r : ReadMap} → r ≡ refused_map n → r ≡ read_map s
-  refused-read z q = q ∙ ap refused_map number_read ∙ sym (read-refused s (λ k. z (number_read ∙ k)))
+  pub refused-read : (n ≡ 0 → ⊥) → refused_map n ≡ read_map s
+  refused-read z = ap refused_map number_read ∙ sym (read-refused s (λ k. z (number_read ∙ k)))
 
-  pub map_read : n ≡ 0 → {m : Map} → m ≡ map_as (dots_at v clock_place) (entries_at v) (waiting_at v) → record { number = n; map = m } ≡ read_map s
-  map_read z q = (λ i. record { number = z i; map = q i }) ∙ sym (holds-as-read c (sym number_read ∙ z))
+module _ {s v : List ℕ} (c : Came s v) where
+  pub map_read : 0 ≡ end_number v → {m : Map} → m ≡ map_as (dots_at v clock_place) (entries_at v) (waiting_at v)
+      → record { number = 0; map = m } ≡ read_map s
+  map_read z q = (λ i. record { number = 0; map = q i }) ∙ sym (holds-as-read c (sym (number_read c z)))

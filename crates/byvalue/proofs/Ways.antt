@@ -8,19 +8,19 @@ use lib.Dec.{eqb}
 use Rattle.scan.proofs.Eachs.{decide}
 use Rattle.clock.specs.declared.Dot.{Dot}
 use Rattle.clock.specs.Dots.{dots_of}
-use Rattle.clockimage.specs.declared.ReadClock.{ReadClock}
+use Rattle.clockimage.specs.ClockImage.{ReadClock}
 use Rattle.clockimage.specs.ClockImage.{read_clock}
 use Rattle.map.specs.declared.Map.{Map}
 use Rattle.map.specs.declared.Op.{Op}
-use Rattle.map.specs.declared.Judged.{Judged}
+use Rattle.map.specs.Judging.{Judged}
 use Rattle.map.specs.Judging.{over_number, judged}
 use Rattle.map.specs.Valid.{Valid, ValidOp, Within, OpWithin}
 use Rattle.map.specs.Applying.{apply}
 use Rattle.map.specs.Resetting.{reset}
 use Rattle.map.proofs.Verdicts.{judged-map}
-use Rattle.opimage.specs.declared.ReadOp.{ReadOp}
+use Rattle.opimage.specs.OpImage.{ReadOp}
 use Rattle.opimage.specs.OpImage.{read_op}
-use Rattle.maprecords.specs.declared.ReadMap.{ReadMap}
+use Rattle.maprecords.specs.Related.{ReadMap}
 use Rattle.maprecords.specs.Related.{read_map}
 use Rattle.promises.specs.Deleted.{entry_dots, apply_deletes, reset_deletes, apply_deleted, reset_deleted}
 use Rattle.promises.proofs.Deletes.{apply-deletes, reset-counts}

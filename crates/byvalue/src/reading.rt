@@ -4,14 +4,14 @@ ghost use Rattle.limits.specs.Limits.{waiting_limit};
 ghost use Rattle.removals.specs.Model.{keys_as, waiting_as};
 ghost use Rattle.entries.specs.Model.{entries_as};
 ghost use Rattle.map.specs.Model.{map_as};
-ghost use Rattle.maprecords.specs.Related.{refused_map, read_map};
+ghost use Rattle.maprecords.specs.Related.{map_reading, read_map};
 ghost use Rattle.memory.specs.Memory.{clock_place, dots_at, entries_at, listed_at, removal_at, waiting_at};
 
 use entries::Entries;
 use limits::{ENTRIES, KEYS, WAITING};
 use map::Map;
-use maprecords::ReadMap;
 use memory::{CLOCK, CLOCK_ROOM, ENTRY_COUNT, READER, REMOVAL_PLACE, REMOVAL_ROOM, WAITING_COUNT};
+use refusals::Refusal;
 use removals::{Keys, Removal, Waiting};
 
 fn entries_of(mem: &[u8; READER]) -> Entries
@@ -19,10 +19,8 @@ fn entries_of(mem: &[u8; READER]) -> Entries
 {
     let n = memory::count(mem, ENTRY_COUNT, ENTRIES);
     let mut entries = Entries::new();
-    let mut j: usize = 0;
-    while j < n {
+    for j in 0..n {
         let e = delivery::entry_at(mem, j);
-        j += 1;
         let k = entries.len;
         entries.items[k] = e;
         entries.len = k + 1;
@@ -38,10 +36,8 @@ fn keys_at(mem: &[u8; READER], k: usize) -> Keys
     let at = REMOVAL_PLACE + k * REMOVAL_ROOM + CLOCK_ROOM;
     let n = memory::count(mem, at, KEYS);
     let mut keys = Keys::new();
-    let mut i: usize = 0;
-    while i < n {
+    for i in 0..n {
         let key = records::read32(mem, at + 1 + i * 4);
-        i += 1;
         keys = keys.push(key);
     }
     keys
@@ -61,10 +57,8 @@ fn waiting_of(mem: &[u8; READER]) -> Waiting
 {
     let n = memory::count(mem, WAITING_COUNT, WAITING);
     let mut waiting = Waiting::new();
-    let mut k: usize = 0;
-    while k < n {
+    for k in 0..n {
         let r = removal_at(mem, k);
-        k += 1;
         let m = waiting.len;
         waiting.items[m] = r;
         waiting.len = m + 1;
@@ -85,23 +79,12 @@ fn map_of(mem: &[u8; READER]) -> Map
     }
 }
 
-fn refused(number: u8) -> ReadMap
-    ensures { result ≡ refused_map number }
-{
-    let map = Map::new();
-    ReadMap { number, map }
-}
-
-pub fn read_map(bytes: &[u8]) -> ReadMap
-    ensures { result ≡ read_map bytes.now }
+pub fn read_map(bytes: &[u8]) -> Result<Map, Refusal>
+    ensures { map_reading result ≡ read_map bytes.now }
 {
     let mut mem = [0u8; READER];
     mailbox::begin(&mut mem);
     mailbox::take(&mut mem, bytes);
-    let number = delivery::number_of(&mem);
-    if number != 0 {
-        return refused(number);
-    }
-    let map = map_of(&mem);
-    ReadMap { number, map }
+    delivery::verdict(&mem)?;
+    Ok(map_of(&mem))
 }

@@ -266,11 +266,8 @@ pub extern "C" fn castribba_floor(peers: &[Clock], floor: &mut Clock) -> u64
 {
     let mut f = flooring::begin(peers.len());
     let n = f.many;
-    let mut i: usize = 0;
-    while i < n {
-        let peer = peers[i];
-        f = flooring::next(f, peer);
-        i += 1;
+    for peer in &peers[..n] {
+        f = flooring::next(f, *peer);
     }
     if f.word == 0 {
         *floor = f.clock;

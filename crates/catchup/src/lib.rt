@@ -6,6 +6,9 @@ ghost use Rattle.mapimage.specs.MapImage.{map_longest};
 ghost use Rattle.promises.specs.CatchUp.{outcome_of, same_bytes};
 ghost use Rattle.promises.specs.Promises.{CatchUpPromise, CatchUpPlacePromise};
 ghost use Rattle.catchup.specs.Walking.{Stepped, RanAs, Arrived, Judges};
+
+use refusals::Refusal;
+
 // The bytes of the longest map.
 pub const LONGEST: usize = 28800;
 
@@ -49,6 +52,7 @@ fn run(here: &mut [u8], len: usize, list: &[u8], there: &mut [u8]) -> Ran
     let mut left = len;
     let mut at: usize = 0;
     let mut place: u64 = 0;
+    // A `while`: where an operation ends stands in the list.
     while at < n {
         let next = operations::operation_end(list, at);
         let w = step(here, left, &list[at..next], there);
@@ -73,18 +77,7 @@ fn run(here: &mut [u8], len: usize, list: &[u8], there: &mut [u8]) -> Ran
 fn same_bytes(a: &[u8], b: &[u8]) -> bool
     ensures { result ≡ same_bytes a.now b.now }
 {
-    let n = a.len();
-    if b.len() != n {
-        return false;
-    }
-    let mut i: usize = 0;
-    while i < n {
-        if a[i] != b[i] {
-            return false;
-        }
-        i += 1;
-    }
-    true
+    a == b
 }
 
 // The operations on a copy of our map, and whether they end in theirs.
@@ -108,7 +101,7 @@ fn arrive(map: &[u8], other: &[u8], list: &[u8]) -> Verdict
         return Verdict { word: 0, place };
     }
     Verdict {
-        word: answers::word(16),
+        word: answers::told(Err(Refusal::EndsElsewhere)),
         place,
     }
 }
@@ -134,7 +127,7 @@ fn judge(map: &[u8], other: &[u8], list: &[u8]) -> Verdict
         return refused(b.number);
     }
     if OPERATIONS < operations::count_operations(list) {
-        return refused(17);
+        return refused(Refusal::TooManyOperations.number());
     }
     arrive(map, other, list)
 }

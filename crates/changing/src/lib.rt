@@ -14,7 +14,7 @@ ghost use Rattle.records.specs.Records.{records_of};
 ghost use Rattle.opimage.specs.OpImage.{removal_records, update_records};
 ghost use Rattle.mapimage.specs.MapImage.{map_longest};
 ghost use Rattle.maprecords.specs.Related.{read_map};
-ghost use Rattle.answers.specs.Answer.{Answered};
+ghost use Rattle.answers.specs.Answer.{Answered, word_in};
 ghost use Rattle.promises.specs.Calls.{map_answer};
 ghost use Rattle.promises.specs.Promises.{ApplyPromise, MergePromise, ResetRemovePromise};
 ghost use Rattle.layout.specs.Whole.{LaidOut};
@@ -23,6 +23,7 @@ use clock::Clock;
 use entries::Update;
 use layout::Laid;
 use queued::Queue;
+use refusals::Refusal;
 use removals::Removal;
 use walks::Span;
 
@@ -51,15 +52,15 @@ fn remove_by(map: &[u8], a: Laid, r: Removal, op: &[u8], out: &mut [u8]) -> u64
 }
 
 // A map as it was read.
-fn same(map: &[u8], out: &mut [u8]) -> u64
+fn same(map: &[u8], out: &mut [u8]) -> Result<usize, Refusal>
     requires { (read_map map.now).number ≡ 0 }
     ensures { Answered (map_answer 0 0 (record { number = 0; map = (read_map map.now).map })) out.old
-        out.new result }
+        out.new (word_in result) }
 {
     if out.len() < map.len() {
-        return answers::word(10);
+        return Err(Refusal::ShortBuffer);
     }
-    runs::copy_run(map, out, 0) as u64
+    Ok(runs::copy_run(map, out, 0))
 }
 
 // A map that was read, with an update.
@@ -71,11 +72,11 @@ fn update_by(map: &[u8], a: Laid, u: Update, op: &[u8], out: &mut [u8]) -> u64
     let d = u.dot;
     let seen = a.clock;
     if d.counter <= seen.get(d.actor) {
-        return same(map, out);
+        return answers::told(same(map, out));
     }
     let grown = seen.add(d);
     if grown.over {
-        return answers::word(4);
+        return answers::told(Err(Refusal::TooManyDots));
     }
     let clock = grown.clock;
     let l = a.layout;
@@ -98,15 +99,16 @@ pub fn apply(map: &[u8], op: &[u8], out: &mut [u8]) -> u64
     if a.number != 0 {
         return answers::word(a.number);
     }
-    let o = opimage::read_op(op);
-    if o.number != 0 {
-        return answers::word(o.number);
+    match opimage::read_op(op) {
+        Ok(change) => {
+            if change.up {
+                update_by(map, a, change.update, op, out)
+            } else {
+                remove_by(map, a, change.removal, op, out)
+            }
+        }
+        Err(refusal) => answers::told(Err(refusal)),
     }
-    let change = o.op;
-    if change.up {
-        return update_by(map, a, change.update, op, out);
-    }
-    remove_by(map, a, change.removal, op, out)
 }
 
 // Two maps that were read, merged.
@@ -120,7 +122,7 @@ fn merge_with(map: &[u8], a: Laid, other: &[u8], b: Laid, out: &mut [u8]) -> u64
     let yours = b.clock;
     let joined = mine.join(yours);
     if joined.over {
-        return answers::word(4);
+        return answers::told(Err(Refusal::TooManyDots));
     }
     let clock = joined.clock;
     let l = a.layout;
@@ -181,9 +183,8 @@ pub fn reset_remove(map: &[u8], clock: &[u8], out: &mut [u8]) -> u64
     if a.number != 0 {
         return answers::word(a.number);
     }
-    let k = clockimage::read_clock(clock);
-    if k.number != 0 {
-        return answers::word(k.number);
+    match clockimage::read_clock(clock) {
+        Ok(by) => reset_by(map, a, by, out),
+        Err(refusal) => answers::told(Err(refusal)),
     }
-    reset_by(map, a, k.clock, out)
 }

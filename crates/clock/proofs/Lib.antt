@@ -1,5 +1,6 @@
 pub mod Packs
 pub mod Walks
+pub mod SliceWalks
 pub mod Counters
 pub mod Cuts
 pub mod Joins

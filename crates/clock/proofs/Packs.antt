@@ -2,9 +2,10 @@
 use mathlib.Core.Path.{◌≡◌, refl, ap, ◌∙◌}
 use mathlib.Core.Bool.{true, false}
 use mathlib.Core.List.{List, [], ◌∷◌, ◌++◌, map-id}
-use Prim.Native.Nat.{◌+◌, ◌≤◌, ◌<◌}
+use Prim.Native.Nat.{ℕ, ◌+◌, ◌-◌, ◌≤◌, ◌<◌}
 use native.Mathlib.Omega.{arith}
-use lib.ListN.{length, set}
+use lib.ListN.{length, take, drop, set, length-drop}
+use lib.Seq.{take-length}
 use Rattle.listlaws.specs.Order.{by}
 use Rattle.listlaws.proofs.Pads.{take-pad, push-pad, length-snoc, length-pad}
 use Rattle.listlaws.proofs.Sifts.{length-sift}
@@ -74,3 +75,7 @@ join-nil a = weave-first-left (by (λ d. d.actor)) (λ d. d) (λ d. d) larger_do
 pub join-longer : (a b : List Dot) → length a ≤ length (join_dots a b)
 unfolding join_dots
 join-longer a b = weave-longer (by (λ d. d.actor)) (λ d. d) (λ d. d) larger_dot a b
+
+-- what a slice from place i to the end holds
+pub to-end : {A : Type 0} (i : ℕ) (l : List A) → take (length l - i) (drop i l) ≡ drop i l
+to-end i l = rw (← length-drop i l) (take-length (drop i l))

@@ -56,7 +56,7 @@ pub record Covering (xs : List Dot) (n i : ℕ) (ys : List Dot) (m j : ℕ) (fla
   pub checking : Checking (beyond (take n xs)) ys m j flag
 
 -- a counter that is at most another
-not_beyond : (a b : ℕ) → ltb a b ≡ not (leb b a)
+pub not_beyond : (a b : ℕ) → ltb a b ≡ not (leb b a)
 not_beyond a b = go (leb b a) refl
   where
     go : (t : Bool) → leb b a ≡ t → ltb a b ≡ not t

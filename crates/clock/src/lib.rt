@@ -1,7 +1,7 @@
 // Dots and clocks: a counter for each actor, as a sorted array of dots with a count, by value.
 #![tactic(auto)]
 
-ghost use Rattle.std.specs.Prelude.{◌≡◌, true, List, [], ◌∷◌, ◌++◌, map, ◌≤◌, ◌<◌, length, drop};
+ghost use Rattle.std.specs.Prelude.{◌≡◌, true, List, [], ◌∷◌, ◌++◌, ◌≤◌, ◌<◌, length};
 ghost use Rattle.clock.specs.declared.Dot.{Dot};
 ghost use Rattle.listlaws.specs.Sift.{those};
 ghost use Rattle.limits.specs.Limits.{dot_limit};
@@ -103,8 +103,7 @@ impl Clock {
     pub fn size(self) -> usize
         ensures { (result ≡ length (dots_of self)) × (result ≤ dot_limit) }
     {
-        let n = self.len;
-        if n < DOTS { n } else { DOTS }
+        self.len.min(DOTS)
     }
 
     pub fn is_empty(self) -> bool
@@ -113,18 +112,21 @@ impl Clock {
         self.size() == 0
     }
 
+    // The dots in use.
+    pub fn as_slice(&self) -> &[Dot]
+        ensures { result.now ≡ dots_of self.now }
+    {
+        &self.dots[..self.size()]
+    }
+
     // The counter of an actor.
     pub fn get(self, actor: u16) -> u64
         ensures { result ≡ counter_in (dots_of self) actor }
     {
-        let n = self.size();
-        let mut i: usize = 0;
-        while i < n {
-            let d = self.dots[i];
+        for d in self.as_slice() {
             if d.actor == actor {
                 return d.counter;
             }
-            i += 1;
         }
         0
     }
@@ -135,22 +137,25 @@ impl Clock {
         ensures { (l : List Dot) → self ≡ clock_of l → result ≡ clock_of (l ++ (d ∷ [])) }
     {
         let mut out = self;
-        let k = out.len;
-        out.dots[k] = d;
-        out.len = k + 1;
+        out.store(d);
         out
+    }
+
+    // The same in place.
+    fn store(&mut self, d: Dot)
+        requires { self.now.len < dot_limit }
+        ensures { (l : List Dot) → self.old ≡ clock_of l → self.new ≡ clock_of (l ++ (d ∷ [])) }
+    {
+        self.dots[self.len] = d;
+        self.len += 1;
     }
 
     // Whether it is a clock in order: actors strictly ascending, counters from 1.
     fn is_lawful(self) -> bool
         ensures { result ≡ is_lawful (dots_of self) }
     {
-        let n = self.size();
         let mut low: u32 = 0;
-        let mut i: usize = 0;
-        while i < n {
-            let d = self.dots[i];
-            i += 1;
+        for d in self.as_slice() {
             let actor = d.actor as u32;
             if !((low <= actor) & (0 < d.counter)) {
                 return false;
@@ -183,10 +188,8 @@ impl Clock {
     fn sift(self, by: Clock, same: bool) -> Clock
         ensures { result ≡ clock_of (those (kept same (dots_of by)) (dots_of self)) }
     {
-        if self.is_lawful() {
-            if by.is_lawful() {
-                return self.sift_beside(by, same);
-            }
+        if self.is_lawful() && by.is_lawful() {
+            return self.sift_beside(by, same);
         }
         self.sift_by_look(by, same)
     }
@@ -196,16 +199,17 @@ impl Clock {
         requires { Lawful (dots_of self) × Lawful (dots_of by) }
         ensures { result ≡ clock_of (those (kept same (dots_of by)) (dots_of self)) }
     {
-        let n = self.size();
-        let m = by.size();
+        let xs = self.as_slice();
+        let ys = by.as_slice();
         let mut out = Clock::new();
         let mut i: usize = 0;
         let mut j: usize = 0;
-        while i < n {
-            let d = self.dots[i];
+        // A `while`: each of the two is walked at its own pace.
+        while i < xs.len() {
+            let d = xs[i];
             let mut seen: u64 = 0;
-            if j < m {
-                let e = by.dots[j];
+            if j < ys.len() {
+                let e = ys[j];
                 if e.actor < d.actor {
                     j += 1;
                     continue;
@@ -217,9 +221,7 @@ impl Clock {
             }
             i += 1;
             if d.stays(seen, same) {
-                let k = out.len;
-                out.dots[k] = d;
-                out.len = k + 1;
+                out.store(d);
             }
         }
         out
@@ -229,17 +231,11 @@ impl Clock {
     fn sift_by_look(self, by: Clock, same: bool) -> Clock
         ensures { result ≡ clock_of (those (kept same (dots_of by)) (dots_of self)) }
     {
-        let n = self.size();
         let mut out = Clock::new();
-        let mut i: usize = 0;
-        while i < n {
-            let d = self.dots[i];
-            i += 1;
+        for d in self.as_slice() {
             let seen = by.get(d.actor);
             if d.stays(seen, same) {
-                let k = out.len;
-                out.dots[k] = d;
-                out.len = k + 1;
+                out.store(*d);
             }
         }
         out
@@ -265,10 +261,8 @@ impl Clock {
         if self.same_actors(other) {
             return self.compare_level(other);
         }
-        if self.is_lawful() {
-            if other.is_lawful() {
-                return self.compare_beside(other);
-            }
+        if self.is_lawful() && other.is_lawful() {
+            return self.compare_beside(other);
         }
         let over = self.covers_by_look(other);
         let under = other.covers_by_look(self);
@@ -279,16 +273,13 @@ impl Clock {
     fn same_actors(self, other: Clock) -> bool
         ensures { result ≡ same_actors (dots_of self) (dots_of other) }
     {
-        let n = self.size();
-        if n != other.size() {
+        let xs = self.as_slice();
+        let ys = other.as_slice();
+        if xs.len() != ys.len() {
             return false;
         }
         let mut low: u32 = 0;
-        let mut i: usize = 0;
-        while i < n {
-            let x = self.dots[i];
-            let y = other.dots[i];
-            i += 1;
+        for (x, y) in xs.iter().zip(ys) {
             let actor = x.actor as u32;
             if !((low <= actor) & (x.actor == y.actor)) {
                 return false;
@@ -303,19 +294,14 @@ impl Clock {
         requires { same_actors (dots_of self) (dots_of other) ≡ true }
         ensures { result ≡ order_of (dots_of self) (dots_of other) }
     {
-        let n = self.size();
         let mut over = true;
         let mut under = true;
-        let mut i: usize = 0;
-        while i < n {
+        for (x, y) in self.as_slice().iter().zip(other.as_slice()) {
             if !(over | under) {
                 return Order::Concurrent;
             }
-            let x = self.dots[i];
-            let y = other.dots[i];
             over = over & (y.counter <= x.counter);
             under = under & (x.counter <= y.counter);
-            i += 1;
         }
         outcome(over, under)
     }
@@ -325,18 +311,19 @@ impl Clock {
         requires { Lawful (dots_of self) × Lawful (dots_of other) }
         ensures { result ≡ order_of (dots_of self) (dots_of other) }
     {
-        let n = self.size();
-        let m = other.size();
+        let xs = self.as_slice();
+        let ys = other.as_slice();
         let mut over = true;
         let mut under = true;
         let mut i: usize = 0;
         let mut j: usize = 0;
-        while i < n && j < m {
+        // A `while`: each of the two is walked at its own pace.
+        while i < xs.len() && j < ys.len() {
             if !(over | under) {
                 return Order::Concurrent;
             }
-            let x = self.dots[i];
-            let y = other.dots[j];
+            let x = xs[i];
+            let y = ys[j];
             if x.actor < y.actor {
                 under = false;
                 i += 1;
@@ -350,21 +337,17 @@ impl Clock {
                 j += 1;
             }
         }
-        outcome(over & (m <= j), under & (n <= i))
+        outcome(over & (ys.len() <= j), under & (xs.len() <= i))
     }
 
     // Whether it covers any other, each dot looked up.
     fn covers_by_look(self, other: Clock) -> bool
         ensures { result ≡ covers (dots_of self) (dots_of other) }
     {
-        let n = other.size();
-        let mut i: usize = 0;
-        while i < n {
-            let d = other.dots[i];
+        for d in other.as_slice() {
             if self.get(d.actor) < d.counter {
                 return false;
             }
-            i += 1;
         }
         true
     }
@@ -373,14 +356,15 @@ impl Clock {
     pub fn join(self, other: Clock) -> Joined
         ensures { result ≡ fitted (join_dots (dots_of self) (dots_of other)) }
     {
-        let n = self.size();
-        let m = other.size();
+        let xs = self.as_slice();
+        let ys = other.as_slice();
         let mut out = Joined::new();
         let mut i: usize = 0;
         let mut j: usize = 0;
-        while i < n && j < m {
-            let x = self.dots[i];
-            let y = other.dots[j];
+        // A `while`: each of the two is walked at its own pace.
+        while i < xs.len() && j < ys.len() {
+            let x = xs[i];
+            let y = ys[j];
             if x.actor < y.actor {
                 out = out.push(x);
                 i += 1;
@@ -393,7 +377,7 @@ impl Clock {
                 j += 1;
             }
         }
-        out.trail(self, i).trail(other, j)
+        out.trail(&xs[i..]).trail(&ys[j..])
     }
 
     // The clock with a dot, where its counter is larger: the Rust's `apply`.
@@ -452,17 +436,13 @@ impl Joined {
         }
     }
 
-    // The dots of `from` from place `at` on, behind the last.
-    fn trail(self, from: Clock, at: usize) -> Joined
-        ensures { (l : List Dot) → self ≡ fitted l → result ≡ fitted (l ++ map (λ d. d) (drop at (dots_of from))) }
+    // More dots behind the last.
+    fn trail(self, rest: &[Dot]) -> Joined
+        ensures { (l : List Dot) → self ≡ fitted l → result ≡ fitted (l ++ rest.now) }
     {
-        let n = from.size();
         let mut out = self;
-        let mut i: usize = at;
-        while i < n {
-            let d = from.dots[i];
-            i += 1;
-            out = out.push(d);
+        for d in rest {
+            out = out.push(*d);
         }
         out
     }

@@ -9,7 +9,9 @@ use Rattle.records.specs.Records.{bytes_of}
 use Rattle.records.specs.Kinds.{clock_dot_kind}
 use Rattle.scan.specs.Numbers.{scan_number}
 use Rattle.clockimage.specs.Image.{is_kind, dot_records, dots_from, image_of}
-use Rattle.clockimage.specs.declared.ReadClock.{ReadClock}
+use Rattle.std.specs.declared.result.Result.{Result}
+use Rattle.refusals.specs.declared.Refusal.{Refusal}
+use Rattle.refusals.specs.Numbers.{number_told, done_or}
 
 abbrev pub clock_longest : ℕ
 clock_longest = dot_limit * 16
@@ -24,6 +26,15 @@ clock_image c = bytes_of (clock_records (dots_of c))
 -- the dots that the records of a clock's image stand for
 abbrev pub clock_in : List Record → List Dot
 clock_in l = dots_from (is_kind clock_dot_kind) l
+
+-- a number of 01, and the clock, which is empty where the number is not 0
+pub record ReadClock : Type 0 where
+  pub number : ℕ
+  pub clock : Clock
+
+-- what reading a clock answers
+abbrev pub clock_reading : Result Clock Refusal → ReadClock
+clock_reading r = record { number = number_told r; clock = done_or (clock_of []) r }
 
 abbrev pub refused_clock : ℕ → ReadClock
 refused_clock n = record { number = n; clock = clock_of [] }

@@ -9,23 +9,17 @@ ghost use Rattle.records.specs.declared.Record.{Record};
 ghost use Rattle.records.specs.Records.{bytes_of};
 ghost use Rattle.records.specs.Writing.{Wrote};
 ghost use Rattle.clockimage.specs.Image.{dot_records, dot_of};
-ghost use Rattle.clockimage.specs.ClockImage.{clock_image, judged_clock, refused_clock, read_clock};
+ghost use Rattle.clockimage.specs.ClockImage.{clock_image, clock_reading, judged_clock, read_clock};
 ghost use Rattle.clockimage.specs.SoFar.{ClockSoFar};
 
 use clock::{Clock, Dot};
 use limits::DOTS;
 use records::{CLOCK_DOT, Record};
+use refusals::Refusal;
 use scan::Scan;
 
 // The longest image of a clock.
 pub const CLOCK_LONGEST: usize = DOTS * 16;
-
-// What an image was read as: a number of document 01, and the clock, which is empty where the number is not 0.
-#[derive(Clone, Copy)]
-pub struct ReadClock {
-    pub number: u8,
-    pub clock: Clock,
-}
 
 // A clock's image so far: it takes one record at a time, and is asked at the end.
 #[derive(Clone, Copy)]
@@ -39,12 +33,8 @@ pub fn write_dots(out: &mut [u8], at: usize, kind: u8, index: u8, key: u32, cloc
     requires { at + length (dots_of clock) * 16 ≤ length out.old }
     ensures { Wrote at (bytes_of (dot_records kind index key (dots_of clock))) out.old out.new result }
 {
-    let n = clock.size();
     let mut next = at;
-    let mut i: usize = 0;
-    while i < n {
-        let d = clock.dots[i];
-        i += 1;
+    for d in clock.as_slice() {
         let r = Record {
             kind,
             index,
@@ -63,16 +53,6 @@ pub fn write_clock(clock: Clock, out: &mut [u8]) -> usize
     ensures { Wrote 0 (clock_image clock) out.old out.new result }
 {
     write_dots(out, 0, CLOCK_DOT, 0, 0, clock)
-}
-
-fn refused(number: u8) -> ReadClock
-    ensures { result ≡ refused_clock number }
-{
-    let none = Clock::new();
-    ReadClock {
-        number,
-        clock: none,
-    }
 }
 
 impl ClockReader {
@@ -96,34 +76,27 @@ impl ClockReader {
     }
 
     // What the records are as a whole.
-    pub fn verdict(self) -> ReadClock
-        ensures { (l : List Record) → ClockSoFar l self → result ≡ judged_clock l }
+    pub fn verdict(self) -> Result<Clock, Refusal>
+        ensures { (l : List Record) → ClockSoFar l self → clock_reading result ≡ judged_clock l }
     {
-        let scan = self.scan;
-        if scan.number == 0 {
-            let clock = self.clock;
-            return ReadClock { number: 0, clock };
-        }
-        refused(scan.number)
+        scan::verdict(self.scan.number)?;
+        Ok(self.clock)
     }
 }
 
-pub fn read_clock(bytes: &[u8]) -> ReadClock
-    ensures { result ≡ read_clock bytes.now }
+pub fn read_clock(bytes: &[u8]) -> Result<Clock, Refusal>
+    ensures { clock_reading result ≡ read_clock bytes.now }
 {
     let len = bytes.len();
     if CLOCK_LONGEST < len {
-        return refused(2);
+        return Err(Refusal::OverLimit);
     }
     if len % 16 != 0 {
-        return refused(1);
+        return Err(Refusal::Malformed);
     }
-    let n = len / 16;
     let mut reader = ClockReader::new();
-    let mut i: usize = 0;
-    while i < n {
+    for i in 0..len / 16 {
         let r = records::read_record(bytes, i * 16);
-        i += 1;
         reader = reader.take(r);
     }
     reader.verdict()

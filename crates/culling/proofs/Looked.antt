@@ -1,9 +1,9 @@
 -- Which records are wanted, in the words of step 4 and of step 5.
-use mathlib.Core.Path.{◌≡◌, refl, ap, sym, ◌∙◌}
+use mathlib.Core.Path.{◌≡◌, refl, ap}
 use mathlib.Core.Bool.{Bool, true, false, ◌&&◌, and-true}
 use mathlib.Core.List.{List, [], ◌∷◌}
 use Prim.Native.Nat.{ℕ}
-use lib.Dec.{eqb, leb}
+use lib.Dec.{eqb}
 use Rattle.listlaws.specs.First.{first_in, some}
 use Rattle.records.specs.declared.Record.{Record}
 use Rattle.maprecords.specs.Reading.{under_key, under_index, under_both}

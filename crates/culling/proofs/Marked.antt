@@ -4,10 +4,8 @@ use mathlib.Core.Bool.{Bool, true, false, cond, ◌&&◌, ◌||◌}
 use mathlib.Core.List.{List, [], ◌∷◌, ◌++◌, map}
 use Prim.Native.Nat.{ℕ, zero, suc, ◌+◌, ◌*◌, ◌/◌, ◌≤◌, ◌<◌}
 use native.Mathlib.Omega.{arith}
-use native.Mathlib.Numerals.{add-one}
-use lib.Dec.{eqb, ltb, leb}
-use lib.ListN.{length, take, drop, get_or, set, length-set}
-use lib.Seq.{take-suc, take-suc-set, take_all}
+use lib.Dec.{eqb}
+use lib.ListN.{length, get_or, set}
 use Rattle.listlaws.specs.Sift.{sift, those}
 use Rattle.listlaws.specs.First.{first_in, some}
 use Rattle.listlaws.proofs.Sifts.{sift-append}
@@ -15,7 +13,7 @@ use Rattle.records.specs.declared.Record.{Record}
 use Rattle.records.specs.Records.{record_from, records_from, records_of}
 use Rattle.records.proofs.Joined.{length-records}
 use Rattle.opimage.specs.OpImage.{no_record}
-use Rattle.salvagerules.specs.Fates.{Fate, staying}
+use Rattle.salvagerules.specs.Fates.{staying}
 use Rattle.culling.specs.Marks.{MarkedRecord, beside_marks, marked_of, is_left, is_left_at, left_items, plain_fate, plain_fates}
 use Rattle.culling.proofs.Taking.{map-append}
 

@@ -1,11 +1,11 @@
 -- The loop of step 4: what the marks of the places passed say, what step 3 had left, and a scan of what stays.
 use mathlib.Core.Path.{◌≡◌, refl, ap, ap₂, sym, ◌∙◌}
-use mathlib.Core.Bool.{Bool, true, false, not, cond, ◌&&◌, ◌||◌, and-false}
+use mathlib.Core.Bool.{Bool, true, false, cond, ◌&&◌, ◌||◌, and-false}
 use mathlib.Core.List.{List, [], ◌∷◌, ◌++◌, map}
 use Prim.Native.Nat.{ℕ, suc, ◌+◌, ◌≤◌, ◌<◌}
 use native.Mathlib.Omega.{arith}
-use borrow.Author.Tests.{eq-eqb, eqb-true, ltb-true, lt-leb, lt-ltb, ne_eqb}
-use lib.Dec.{eqb, ltb, leb}
+use borrow.Author.Tests.{eq-eqb, eqb-true, ltb-true, lt-leb}
+use lib.Dec.{eqb, ltb}
 use lib.ListN.{length, take, drop, get_or, set, replicate}
 use lib.Seq.{split_at, append_snoc}
 use Rattle.listlaws.specs.Sift.{sift, those}
@@ -17,13 +17,13 @@ use Rattle.scan.specs.Limits.{room, within}
 use Rattle.scan.specs.Numbers.{scan_number}
 use Rattle.scan.specs.Scanned.{Scanned, CountsUnder, CountedUnder}
 use Rattle.scan.specs.declared.Scan.{Scan}
-use Rattle.scan.proofs.Eachs.{both_left, both_right, both, decide}
+use Rattle.scan.proofs.Eachs.{both_left, both_right, both}
 use Rattle.scan.proofs.Scans.{formed-snoc, within-snoc}
 use Rattle.scan.proofs.Scanning.{scan_good, counts-under, under_more, under_none}
-use Rattle.salvagerules.specs.Fates.{Fate, untouched, staying, taken_after, taken}
+use Rattle.salvagerules.specs.Fates.{untouched, staying, taken}
 use Rattle.salvagerules.specs.Needs.{need_met, kept_by_four}
 use Rattle.salvagerules.specs.Steps.{step_two, step_three, step_four}
-use Rattle.culling.specs.Marks.{MarkedRecord, is_left, is_left_at, left_items, plain_fate, plain_fates, after_two, after_three, after_four}
+use Rattle.culling.specs.Marks.{MarkedRecord, is_left_at, left_items, plain_fates, after_three, after_four}
 use Rattle.culling.proofs.Taking.{every-after, steps-after, third-formed}
 use Rattle.culling.proofs.Marked.{no_marked, staying-plain, left-append, left_one, left-set}
 use Rattle.culling.proofs.Passes.{Pass, pass-start, pass-here, pass-gone, pass_kept, pass-goes, pass-end, kept_more, kept_same, kept-gone}

@@ -1,7 +1,7 @@
 -- The loops of steps 2 and 3: what the marks of the places passed say, and which record was kept last.
 use mathlib.Core.Path.{◌≡◌, refl, ap, ap₂, sym, ◌∙◌}
 use mathlib.Core.Logic.{inl, inr}
-use mathlib.Core.Bool.{Bool, true, false, not, cond, ◌&&◌, ◌||◌}
+use mathlib.Core.Bool.{Bool, true, false, not, ◌&&◌, ◌||◌}
 use mathlib.Core.List.Memᴰ
 use mathlib.Core.List.{List, [], ◌∷◌, ◌++◌, map}
 use Prim.Native.Nat.{ℕ, ◌+◌, ◌≤◌, ◌<◌}
@@ -9,18 +9,17 @@ use native.Mathlib.Omega.{arith}
 use native.Mathlib.Numerals.{add-one}
 use borrow.Author.Tests.{eq-eqb}
 use lib.Dec.{eqb}
-use lib.ListN.{length, take, drop, get_or, set, length-take}
+use lib.ListN.{length, take, get_or, set}
 use lib.Seq.{take-suc, take-suc-set, take_all, take-length}
 use Rattle.listlaws.specs.Sift.{sift}
-use Rattle.listlaws.specs.Order.{◌∈◌}
 use Rattle.listlaws.proofs.Rests.{in_list}
 use Rattle.records.specs.declared.Record.{Record}
 use Rattle.records.specs.Kinds.{record_ok, before}
 use Rattle.opimage.specs.OpImage.{no_record}
 use Rattle.scan.specs.Each.{every, each_after}
-use Rattle.scan.specs.Formed.{follows, well_formed}
+use Rattle.scan.specs.Formed.{well_formed}
 use Rattle.scan.specs.Scanned.{Ends}
-use Rattle.scan.proofs.Eachs.{both_left, both_right, both, decide, every-at}
+use Rattle.scan.proofs.Eachs.{both, decide, every-at}
 use Rattle.scan.proofs.Scans.{formed-snoc, follows-last}
 use Rattle.salvagerules.specs.Fates.{Fate, untouched, staying, tested, taken_after, taken}
 use Rattle.salvagerules.specs.Steps.{step_two, step_three}

@@ -1,16 +1,16 @@
 -- A loop that takes a step in order, in place: the marks of the places passed say what the step made of them.
 use mathlib.Core.Path.{◌≡◌, refl, ap, ap₂, sym, ◌∙◌}
 use mathlib.Core.Bool.{Bool, true, false}
-use mathlib.Core.List.{List, [], ◌∷◌, ◌++◌, map, append-nil}
+use mathlib.Core.List.{List, [], ◌∷◌, ◌++◌, append-nil}
 use Prim.Native.Nat.{ℕ, ◌+◌, ◌≤◌, ◌<◌}
 use native.Mathlib.Omega.{arith}
 use native.Mathlib.Numerals.{add-one}
 use borrow.Author.Tests.{eq-eqb, ne_eqb}
 use lib.Dec.{eqb}
-use lib.ListN.{length, take, drop, get_or, set, length-set, length-drop, take-append-drop}
+use lib.ListN.{length, take, drop, get_or, set, length-set}
 use lib.Seq.{take-suc, take-suc-set, take_all, drop-cons, drop-set-lt, get_or-drop}
 use Rattle.records.specs.declared.Record.{Record}
-use Rattle.salvagerules.specs.Fates.{Fate, gone_by, staying, tested, taken_after, taken}
+use Rattle.salvagerules.specs.Fates.{Fate, staying, tested, taken_after, taken}
 use Rattle.culling.specs.Marks.{MarkedRecord, left_items, plain_fate, plain_fates}
 use Rattle.culling.proofs.Taking.{map-append, taken-snoc, tested-gone, tested-kept, tested-goes}
 use Rattle.culling.proofs.Marked.{no_marked, staying-plain, left-append, left_one, left-none}

@@ -1,5 +1,5 @@
 -- A step taken in order: with one record more (`taken-snoc`), and what of those that stay it keeps (`every-taken`, `step-taken`).
-use mathlib.Core.Path.{◌≡◌, refl, ap, ap₂, sym, ◌∙◌}
+use mathlib.Core.Path.{◌≡◌, refl, ap, sym, ◌∙◌}
 use mathlib.Core.Bool.{Bool, true, false, not, cond, ◌&&◌}
 use mathlib.Core.List.{List, [], ◌∷◌, ◌++◌, map, append-nil, append_assoc}
 use Prim.Native.Nat.{ℕ, ◌<◌}
@@ -14,7 +14,7 @@ use Rattle.scan.specs.Formed.{follows, well_formed}
 use Rattle.scan.proofs.Eachs.{both_left, both_right, both, decide}
 use Rattle.salvagerules.specs.Fates.{Fate, untouched, gone_by, stayed, staying, tested, taken_after, taken}
 use Rattle.salvagerules.specs.Steps.{step_two, step_three}
-use Rattle.culling.specs.Marks.{after_two, after_three}
+use Rattle.culling.specs.Marks.{after_three}
 
 pub map-append : {A B : Type 0} (f : A → B) (l m : List A) → map f (l ++ m) ≡ map f l ++ map f m
 map-append f [] m = refl

@@ -1,7 +1,6 @@
 -- Which record a loop looks for.
-use Rattle.std.specs.Prelude.{ℕ, Bool, true, false, not, cond, ◌&&◌, ◌||◌, eqb, leb}
+use Rattle.std.specs.Prelude.{ℕ, Bool, true, false, not, ◌&&◌, ◌||◌, eqb, leb}
 use Rattle.records.specs.declared.Record.{Record}
-use Rattle.records.specs.Kinds.{record_ok}
 use Rattle.culling.specs.declared.Wanted.{Wanted}
 
 abbrev pub is_wanted : Wanted → Record → Bool

@@ -41,16 +41,13 @@ pub fn mark_bad(image: &[u8], marks: &mut [u16])
     ensures { Says marks.new image.now (after_two (records_of image.now)) }
 {
     let n = image.len() / 16;
-    let mut i: usize = 0;
-    while i < n {
+    for i in 0..n {
         let r = records::read_record(image, i * 16);
-        let k = i;
-        i += 1;
-        if records::record_ok(CLOCK_DOT, WAITING_KEY, r) {
-            marks[k] = 0;
+        marks[i] = if records::record_ok(CLOCK_DOT, WAITING_KEY, r) {
+            0
         } else {
-            marks[k] = 2;
-        }
+            2
+        };
     }
 }
 
@@ -60,25 +57,18 @@ pub fn mark_order(image: &[u8], marks: &mut [u16])
     ensures { Says marks.new image.now (after_three (records_of image.now)) }
 {
     let n = image.len() / 16;
-    let mut any = false;
-    let mut last = Record {
-        kind: 0,
-        index: 0,
-        actor: 0,
-        key: 0,
-        number: 0,
-    };
-    let mut i: usize = 0;
-    while i < n {
-        let k = i;
-        i += 1;
-        if marks[k] == 0 {
-            let r = records::read_record(image, k * 16);
-            if !any | records::before(last, r) {
-                any = true;
-                last = r;
+    let mut last: Option<Record> = None;
+    for i in 0..n {
+        if marks[i] == 0 {
+            let r = records::read_record(image, i * 16);
+            let above = match last {
+                Some(l) => records::before(l, r),
+                None => true,
+            };
+            if above {
+                last = Some(r);
             } else {
-                marks[k] = 3;
+                marks[i] = 3;
             }
         }
     }
@@ -93,18 +83,29 @@ pub fn is_wanted(w: Wanted, r: Record) -> bool
                 & (!w.dotted | ((r.actor == w.actor) & (w.number <= r.number)))))
 }
 
-pub fn of_index(kind: u8, index: u8) -> Wanted
-    ensures { result ≡ want_index kind index }
+// Any record of a kind.
+fn of_kind(kind: u8) -> Wanted
+    ensures { result ≡ record { kind = kind; keyed = false; key = 0; indexed = false; index = 0; dotted = false; actor = 0; number = 0 } }
 {
     Wanted {
         kind,
         keyed: false,
         key: 0,
-        indexed: true,
-        index,
+        indexed: false,
+        index: 0,
         dotted: false,
         actor: 0,
         number: 0,
+    }
+}
+
+pub fn of_index(kind: u8, index: u8) -> Wanted
+    ensures { result ≡ want_index kind index }
+{
+    Wanted {
+        indexed: true,
+        index,
+        ..of_kind(kind)
     }
 }
 
@@ -112,14 +113,9 @@ fn of_key(kind: u8, key: u32) -> Wanted
     ensures { result ≡ want_key kind key }
 {
     Wanted {
-        kind,
         keyed: true,
         key,
-        indexed: false,
-        index: 0,
-        dotted: false,
-        actor: 0,
-        number: 0,
+        ..of_kind(kind)
     }
 }
 
@@ -127,14 +123,9 @@ fn of_both(kind: u8, key: u32, index: u8) -> Wanted
     ensures { result ≡ want_both kind key index }
 {
     Wanted {
-        kind,
         keyed: true,
         key,
-        indexed: true,
-        index,
-        dotted: false,
-        actor: 0,
-        number: 0,
+        ..of_index(kind, index)
     }
 }
 
@@ -142,14 +133,10 @@ fn of_dot(kind: u8, actor: u16, number: u64) -> Wanted
     ensures { result ≡ want_dot kind actor number }
 {
     Wanted {
-        kind,
-        keyed: false,
-        key: 0,
-        indexed: false,
-        index: 0,
         dotted: true,
         actor,
         number,
+        ..of_kind(kind)
     }
 }
 
@@ -158,14 +145,9 @@ pub fn has_left(image: &[u8], marks: &[u16], n: usize, from: u16, w: Wanted) -> 
     requires { (n ≤ length image.now / 16) × (length image.now / 16 ≤ length marks.now) }
     ensures { result ≡ some (is_wanted w) (left_items from (take n (marked_of marks.now image.now))) }
 {
-    let mut i: usize = 0;
-    while i < n {
-        let k = i;
-        i += 1;
-        if is_left(from, marks[k]) {
-            if is_wanted(w, records::read_record(image, k * 16)) {
-                return true;
-            }
+    for i in 0..n {
+        if is_left(from, marks[i]) && is_wanted(w, records::read_record(image, i * 16)) {
+            return true;
         }
     }
     false
@@ -203,21 +185,18 @@ pub fn mark_needs(image: &[u8], marks: &mut [u16])
     let n = image.len() / 16;
     let mut scan = Scan::new();
     let mut under = [0u8; 256];
-    let mut i: usize = 0;
-    while i < n {
-        let k = i;
-        i += 1;
-        if marks[k] == 0 {
-            let r = records::read_record(image, k * 16);
+    for i in 0..n {
+        if marks[i] == 0 {
+            let r = records::read_record(image, i * 16);
             let x = r.index as usize;
             let u = under[x];
             let more = scan.take(CLOCK_DOT, WAITING_KEY, r, u);
-            let met = needs_met(image, marks, k, r);
+            let met = needs_met(image, marks, i, r);
             if met & (more.number == 0) {
                 scan = more;
                 under[x] = scan::under(u, r.kind);
             } else {
-                marks[k] = 4;
+                marks[i] = 4;
             }
         }
     }

@@ -72,10 +72,7 @@ fn draw_values(
     let n = values.to - first;
     let starts = e.starts;
     let mut out = before;
-    let mut i: usize = 0;
-    while i < n {
-        let k = i;
-        i += 1;
+    for k in 0..n {
         if stand[k] {
             let x = source_of(v, second, first + k, starts[k], starts[k + 1], gone);
             let marks = x.marks;
@@ -116,6 +113,7 @@ fn draw_cut(s: &[u8], l: Layout, all: bool, keys: Keys, by: Clock) -> Sketch
         value: end,
         dot: l.fourth,
     };
+    // A `while`: how far a turn goes stands in the image.
     while x.own < end {
         let e = entrywalk::entry_at(s, l, x);
         x = e.next;

@@ -9,7 +9,7 @@ use lib.ListN.{length}
 use Rattle.listlaws.specs.Sift.{sift}
 use Rattle.clock.specs.declared.Dot.{Dot}
 use Rattle.clock.specs.Dots.{dots_of}
-use Rattle.clockimage.specs.declared.ReadClock.{ReadClock}
+use Rattle.clockimage.specs.ClockImage.{ReadClock}
 use Rattle.clockimage.specs.ClockImage.{read_clock}
 use Rattle.removals.specs.declared.Removal.{Removal}
 use Rattle.entries.specs.Entries.{stays, cut_entry, remove_entries}
@@ -19,7 +19,7 @@ use Rattle.map.specs.Model.{entries_in}
 use Rattle.map.specs.Judging.{judged}
 use Rattle.map.specs.Removing.{remove}
 use Rattle.map.specs.Resetting.{reset}
-use Rattle.opimage.specs.declared.ReadOp.{ReadOp}
+use Rattle.opimage.specs.OpImage.{ReadOp}
 use Rattle.opimage.specs.OpImage.{read_op}
 use Rattle.maprecords.specs.Related.{read_map}
 use Rattle.answers.specs.Answer.{Answer, number_of, Counted}

@@ -93,11 +93,9 @@ pub fn apply_deleted(map: &[u8], op: &[u8], room: usize) -> u64
     if a.number != 0 {
         return 0;
     }
-    let o = opimage::read_op(op);
-    if o.number != 0 {
+    let Ok(change) = opimage::read_op(op) else {
         return 0;
-    }
-    let change = o.op;
+    };
     if change.up {
         return 0;
     }
@@ -133,9 +131,8 @@ pub fn reset_remove_deleted(map: &[u8], clock: &[u8], room: usize) -> u64
     if a.number != 0 {
         return 0;
     }
-    let k = clockimage::read_clock(clock);
-    if k.number != 0 {
+    let Ok(by) = clockimage::read_clock(clock) else {
         return 0;
-    }
-    reset_deleted(map, a, k.clock, room)
+    };
+    reset_deleted(map, a, by, room)
 }

@@ -1,4 +1,5 @@
 pub mod Belows
+pub mod Sums
 pub mod Views
 pub mod Lookups
 pub mod Rooms

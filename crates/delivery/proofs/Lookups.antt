@@ -8,7 +8,7 @@ use borrow.Author.Tests.{eq-eqb, ne_eqb, lt-ltb, le-ltb}
 use Rattle.listlaws.specs.First.{first_in}
 use Rattle.clock.specs.declared.Dot.{Dot}
 use Rattle.limits.specs.Limits.{dot_limit}
-use Rattle.clock.specs.Dots.{dots_of, is_empty, counter_in, covers}
+use Rattle.clock.specs.Dots.{is_empty, counter_in, covers}
 use Rattle.register.specs.declared.Value.{Value}
 use Rattle.scan.specs.Each.{every}
 use Rattle.maprecords.specs.Related.{dotted}

@@ -1,7 +1,7 @@
 // What a reader of pieces is answered with at the end, from its lent memory, whatever stands in it.
 #![tactic(auto)]
 
-ghost use Rattle.std.specs.Prelude.{◌≡◌, true, ◌+◌, ◌*◌, ◌^◌, ◌≤◌, ◌<◌, min, ltb, length};
+ghost use Rattle.std.specs.Prelude.{◌≡◌, true, ℕ, ◌+◌, ◌*◌, ◌^◌, ◌≤◌, ◌<◌, ltb, length};
 ghost use Rattle.limits.specs.Limits.{dot_limit, entry_limit, waiting_limit};
 ghost use Rattle.clock.specs.Dots.{clock_of, counter_in, covers};
 ghost use Rattle.register.specs.Values.{register_of};
@@ -11,12 +11,15 @@ ghost use Rattle.records.specs.Writing.{Wrote};
 ghost use Rattle.scan.specs.Each.{every};
 ghost use Rattle.mapimage.specs.Least.{least_from};
 ghost use Rattle.mapimage.specs.MapImage.{flat_from, entry_records, waiting_dots, key_numbers, waiting_keys};
+ghost use Rattle.maprecords.specs.Reading.{numbers_below};
 ghost use Rattle.maprecords.specs.Related.{dotted, entry_whole, ascend};
 ghost use Rattle.answers.specs.Sizes.{register_most, entries_most, value_size, entry_size};
 ghost use Rattle.listlaws.specs.Fold.{total_of};
 ghost use Rattle.memory.specs.Memory.{reader_room, dot_room, clock_room, value_room, clock_place, dot_at, dots_at, value_at, values_at};
 ghost use Rattle.memory.specs.Memory.{entry_held_at};
 ghost use Rattle.memory.specs.Memory.{entries_at, removal_at, waiting_at};
+ghost use Rattle.answers.specs.Answer.{word_in};
+ghost use Rattle.refusals.specs.Numbers.{number_told};
 ghost use Rattle.delivery.specs.Delivery.{related_at, end_number, image_at, Ended};
 
 use clock::{Clock, Dot};
@@ -28,6 +31,7 @@ use memory::{
     READER, REMOVAL_PLACE, REMOVAL_ROOM, VALUE_ROOM, WAITING_COUNT,
 };
 use records::{CLOCK_DOT, ENTRY_DOT, Record, VALUE, VALUE_DOT, WAITING_DOT, WAITING_KEY};
+use refusals::Refusal;
 use register::{Content, Register, Value};
 
 fn dot_at(mem: &[u8; READER], at: usize) -> Dot
@@ -45,10 +49,8 @@ pub fn clock_at(mem: &[u8; READER], at: usize) -> Clock
 {
     let n = memory::count(mem, at, DOTS);
     let mut clock = Clock::new();
-    let mut i: usize = 0;
-    while i < n {
+    for i in 0..n {
         let d = dot_at(mem, at + 1 + i * DOT_ROOM);
-        i += 1;
         let k = clock.len;
         clock.dots[k] = d;
         clock.len = k + 1;
@@ -74,10 +76,8 @@ fn register_at(mem: &[u8; READER], j: usize) -> Register
     let at = ENTRY_PLACE + j * ENTRY_ROOM + 4 + CLOCK_ROOM;
     let n = memory::count(mem, at, VALUES);
     let mut register = Register::new();
-    let mut i: usize = 0;
-    while i < n {
+    for i in 0..n {
         let v = value_at(mem, at + 1 + i * VALUE_ROOM);
-        i += 1;
         let k = register.len;
         register.values[k] = v;
         register.len = k + 1;
@@ -107,10 +107,8 @@ fn counter_at(mem: &[u8; READER], at: usize, actor: u16) -> u64
     ensures { result ≡ counter_in (dots_at mem.now at) actor }
 {
     let n = memory::count(mem, at, DOTS);
-    let mut i: usize = 0;
-    while i < n {
+    for i in 0..n {
         let d = dot_at(mem, at + 1 + i * DOT_ROOM);
-        i += 1;
         if d.actor == actor {
             return d.counter;
         }
@@ -124,10 +122,8 @@ fn covers_at(mem: &[u8; READER], at: usize, other: usize) -> bool
     ensures { result ≡ covers (dots_at mem.now at) (dots_at mem.now other) }
 {
     let n = memory::count(mem, other, DOTS);
-    let mut i: usize = 0;
-    while i < n {
+    for i in 0..n {
         let d = dot_at(mem, other + 1 + i * DOT_ROOM);
-        i += 1;
         if counter_at(mem, at, d.actor) < d.counter {
             return false;
         }
@@ -142,10 +138,8 @@ fn dotted_at(mem: &[u8; READER], j: usize) -> bool
 {
     let at = ENTRY_PLACE + j * ENTRY_ROOM + 4 + CLOCK_ROOM;
     let n = memory::count(mem, at, VALUES);
-    let mut i: usize = 0;
-    while i < n {
+    for i in 0..n {
         let dots = memory::count(mem, at + 1 + i * VALUE_ROOM + 8, DOTS);
-        i += 1;
         if dots == 0 {
             return false;
         }
@@ -165,11 +159,8 @@ fn entries_whole(mem: &[u8; READER]) -> bool
     ensures { result ≡ every (entry_whole (dots_at mem.now clock_place)) (entries_at mem.now) }
 {
     let n = memory::count(mem, ENTRY_COUNT, ENTRIES);
-    let mut j: usize = 0;
-    while j < n {
-        let k = j;
-        j += 1;
-        if !whole_at(mem, k) {
+    for j in 0..n {
+        if !whole_at(mem, j) {
             return false;
         }
     }
@@ -181,14 +172,12 @@ fn waiting_ascends(mem: &[u8; READER]) -> bool
     ensures { result ≡ ascend (waiting_at mem.now) }
 {
     let n = memory::count(mem, WAITING_COUNT, WAITING);
-    let mut k: usize = 1;
-    while k < n {
+    for k in 1..n {
         let before = clock_at(mem, REMOVAL_PLACE + (k - 1) * REMOVAL_ROOM);
         let after = clock_at(mem, REMOVAL_PLACE + k * REMOVAL_ROOM);
         if !removals::clock_before(before, after) {
             return false;
         }
-        k += 1;
     }
     true
 }
@@ -199,27 +188,32 @@ fn related(mem: &[u8; READER]) -> bool
     (mem[LOST] == 0) & (entries_whole(mem) & waiting_ascends(mem))
 }
 
-// The number of the records one by one.
-fn scanned(number: u8) -> u8
-    ensures { result ≡ min number 2 }
-{
-    if number < 2 { number } else { 2 }
-}
-
-// The first number that applies.
-pub fn number_of(mem: &[u8; READER]) -> u8
-    ensures { result ≡ end_number mem.now }
+// The first refusal that applies, if one does.
+pub fn verdict(mem: &[u8; READER]) -> Result<(), Refusal>
+    ensures { number_told result ≡ end_number mem.now }
 {
     let len = records::read32(mem, LENGTH) as usize;
-    let length = maprecords::length_number(len);
-    if length != 0 {
-        return length;
+    maprecords::check_length(len)?;
+    scan::verdict(mem[NUMBER])?;
+    if related(mem) {
+        Ok(())
+    } else {
+        Err(Refusal::Unrelated)
     }
-    let number = scanned(mem[NUMBER]);
-    if number != 0 {
-        return number;
+}
+
+// What `size` gives at each of the first n places, added up.
+fn total<F: Fn(usize) -> usize>(n: usize, size: F) -> usize
+    requires few { n ≤ entry_limit }
+    requires callable { (i : ℕ) → i < n → F.pre size i }
+    requires small { (i r : ℕ) → i < n → F.post size i r → r ≤ 2 ^ 16 }
+    ensures { (f : ℕ → ℕ) → ((i r : ℕ) → i < n → F.post size i r → r ≡ f i) → result ≡ total_of f (numbers_below n) }
+{
+    let mut total: usize = 0;
+    for i in 0..n {
+        total += size(i);
     }
-    if related(mem) { 0 } else { 3 }
+    total
 }
 
 // How many records the values of an entry have.
@@ -229,14 +223,10 @@ fn count_values(mem: &[u8; READER], j: usize) -> usize
 {
     let at = ENTRY_PLACE + j * ENTRY_ROOM + 4 + CLOCK_ROOM;
     let n = memory::count(mem, at, VALUES);
-    let mut total: usize = 0;
-    let mut i: usize = 0;
-    while i < n {
-        let dots = memory::count(mem, at + 1 + i * VALUE_ROOM + 8, DOTS);
-        i += 1;
-        total += 1 + dots;
-    }
-    total
+    total(
+        n,
+        |i| 1 + memory::count(mem, at + 1 + i * VALUE_ROOM + 8, DOTS),
+    )
 }
 
 // How many records the entries have.
@@ -244,15 +234,10 @@ fn count_entries(mem: &[u8; READER]) -> usize
     ensures { (result ≡ total_of entry_size (entries_at mem.now)) × (result ≤ entries_most) }
 {
     let n = memory::count(mem, ENTRY_COUNT, ENTRIES);
-    let mut total: usize = 0;
-    let mut j: usize = 0;
-    while j < n {
-        let dots = memory::count(mem, ENTRY_PLACE + j * ENTRY_ROOM + 4, DOTS);
-        let values = count_values(mem, j);
-        j += 1;
-        total += dots + values;
-    }
-    total
+    total(
+        n,
+        |j| memory::count(mem, ENTRY_PLACE + j * ENTRY_ROOM + 4, DOTS) + count_values(mem, j),
+    )
 }
 
 // How many dots the waiting removals have.
@@ -260,14 +245,10 @@ fn count_waiting(mem: &[u8; READER]) -> usize
     ensures { (result ≡ total_of (λ x. length (under_of x)) (waiting_at mem.now)) × (result ≤ waiting_limit * dot_limit) }
 {
     let n = memory::count(mem, WAITING_COUNT, WAITING);
-    let mut total: usize = 0;
-    let mut k: usize = 0;
-    while k < n {
-        let dots = memory::count(mem, REMOVAL_PLACE + k * REMOVAL_ROOM, DOTS);
-        k += 1;
-        total += dots;
-    }
-    total
+    total(
+        n,
+        |k| memory::count(mem, REMOVAL_PLACE + k * REMOVAL_ROOM, DOTS),
+    )
 }
 
 // The least number of a removal's keys from `low` on, where there is one below `m`, else `m`.
@@ -280,10 +261,8 @@ fn least_in(mem: &[u8; READER], k: usize, low: u64, m: u64) -> u64
     let n = memory::count(mem, at, KEYS);
     let index = k as u8;
     let mut best = m;
-    let mut i: usize = 0;
-    while i < n {
+    for i in 0..n {
         let key = records::read32(mem, at + 1 + i * 4);
-        i += 1;
         best = mapimage::lesser(low, best, mapimage::key_number(index, key));
     }
     best
@@ -296,10 +275,8 @@ fn least(mem: &[u8; READER], low: u64) -> u64
 {
     let n = memory::count(mem, WAITING_COUNT, WAITING);
     let mut best = NO_KEY;
-    let mut k: usize = 0;
-    while k < n {
+    for k in 0..n {
         best = least_in(mem, k, low, best);
-        k += 1;
     }
     best
 }
@@ -310,6 +287,7 @@ fn count_keys(mem: &[u8; READER]) -> usize
 {
     let mut total: usize = 0;
     let mut best = least(mem, 0);
+    // A `while`: the least key that is left is found anew at each turn.
     while best < NO_KEY {
         total += 1;
         best = least(mem, best + 1);
@@ -331,10 +309,8 @@ fn write_entries(mem: &[u8; READER], kind: u8, out: &mut [u8], at: usize) -> usi
 {
     let n = memory::count(mem, ENTRY_COUNT, ENTRIES);
     let mut next = at;
-    let mut j: usize = 0;
-    while j < n {
+    for j in 0..n {
         let e = entry_at(mem, j);
-        j += 1;
         next = mapimage::write_entry(out, next, kind, e);
     }
     next
@@ -346,11 +322,9 @@ fn write_waiting(mem: &[u8; READER], out: &mut [u8], at: usize) -> usize
 {
     let n = memory::count(mem, WAITING_COUNT, WAITING);
     let mut next = at;
-    let mut k: usize = 0;
-    while k < n {
+    for k in 0..n {
         let clock = clock_at(mem, REMOVAL_PLACE + k * REMOVAL_ROOM);
         let index = k as u8;
-        k += 1;
         next = clockimage::write_dots(out, next, WAITING_DOT, index, 0, clock);
     }
     next
@@ -363,6 +337,7 @@ fn write_waiting_keys(mem: &[u8; READER], out: &mut [u8], at: usize) -> usize
 {
     let mut next = at;
     let mut best = least(mem, 0);
+    // A `while`: the least key that is left is found anew at each turn.
     while best < NO_KEY {
         let r = Record {
             kind: WAITING_KEY,
@@ -395,18 +370,23 @@ fn write_image(mem: &[u8; READER], out: &mut [u8]) -> usize
 pub fn end(mem: &mut [u8; READER], out: &mut [u8]) -> u64
     ensures { Ended mem.old out.old mem.new out.new result }
 {
+    answers::told(give_held(mem, out))
+}
+
+fn give_held(mem: &mut [u8; READER], out: &mut [u8]) -> Result<usize, Refusal>
+    ensures { Ended mem.old out.old mem.new out.new (word_in result) }
+{
     if mem[OPEN] != 1 {
-        return answers::word(13);
+        return Err(Refusal::Ended);
     }
-    let number = number_of(mem);
-    if number != 0 {
+    if let Err(refusal) = verdict(mem) {
         records::put8(mem, OPEN, 0);
-        return answers::word(number);
+        return Err(refusal);
     }
     if out.len() < image_length(mem) {
-        return answers::word(10);
+        return Err(Refusal::ShortBuffer);
     }
     let n = write_image(mem, out);
     records::put8(mem, OPEN, 0);
-    n as u64
+    Ok(n)
 }

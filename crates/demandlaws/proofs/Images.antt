@@ -35,10 +35,10 @@ use Rattle.scan.specs.Numbers.{scan_number}
 use Rattle.scan.proofs.Eachs.{decide}
 use Rattle.clockimage.specs.Image.{image_of}
 use Rattle.clockimage.specs.ClockImage.{clock_longest, read_clock}
-use Rattle.opimage.specs.declared.ReadOp.{ReadOp}
+use Rattle.opimage.specs.OpImage.{ReadOp}
 use Rattle.opimage.specs.OpImage.{op_longest, op_related, refused_op, op_in, read_op}
 use Rattle.mapimage.specs.MapImage.{map_longest}
-use Rattle.maprecords.specs.declared.ReadMap.{ReadMap}
+use Rattle.maprecords.specs.Related.{ReadMap}
 use Rattle.maprecords.specs.Reading.{map_in}
 use Rattle.maprecords.specs.Related.{related, refused_map, read_map}
 use Rattle.demandlaws.specs.Rows.{Row, row, decided}

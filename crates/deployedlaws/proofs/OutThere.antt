@@ -16,7 +16,7 @@ use Rattle.scan.specs.Formed.{well_formed}
 use Rattle.scan.specs.Limits.{today, within_by}
 use Rattle.scan.proofs.Eachs.{decide}
 use Rattle.mapimage.specs.MapImage.{longest_by, map_longest, map_image, map_records}
-use Rattle.maprecords.specs.declared.ReadMap.{ReadMap}
+use Rattle.maprecords.specs.Related.{ReadMap}
 use Rattle.maprecords.specs.Reading.{map_in}
 use Rattle.maprecords.specs.Related.{related, refused_map, read_map}
 use Rattle.oneimagelaws.proofs.Maps.{one-map-image}

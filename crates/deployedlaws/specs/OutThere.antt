@@ -5,7 +5,7 @@ use Rattle.records.specs.Bytes.{Bytes}
 use Rattle.records.specs.Kinds.{clock_dot_kind, waiting_key_kind}
 use Rattle.clockimage.specs.Image.{image_of}
 use Rattle.mapimage.specs.MapImage.{longest_by, map_image}
-use Rattle.maprecords.specs.declared.ReadMap.{ReadMap}
+use Rattle.maprecords.specs.Related.{ReadMap}
 use Rattle.maprecords.specs.Reading.{map_in}
 use Rattle.maprecords.specs.Related.{related, refused_map, read_map}
 use Rattle.limitlaws.specs.Sleds.{old_sleds}

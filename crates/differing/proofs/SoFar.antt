@@ -1,10 +1,10 @@
 -- A walk along two maps' entries: what is told so far, and what is told of the entries ahead.
 use mathlib.Core.Path.{◌≡◌, refl, ap, ap₂, sym, subst, ◌∙◌}
 use mathlib.Core.List.{List, [], ◌∷◌, ◌++◌, append-nil, append_assoc}
-use Prim.Native.Nat.{ℕ, ◌+◌, ◌*◌, ◌≤◌, ◌<◌}
+use Prim.Native.Nat.{ℕ, ◌+◌, ◌*◌, ◌≤◌}
 use native.Mathlib.Omega.{arith}
 use lib.ListN.{length, length-append}
-use borrow.Author.Tests.{lt-ltb, le-ltb}
+use borrow.Author.Tests.{lt-ltb}
 use Rattle.listlaws.specs.Sift.{sift, those}
 use Rattle.listlaws.specs.Weave.{weave}
 use Rattle.listlaws.proofs.Pads.{length-snoc}

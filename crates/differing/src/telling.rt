@@ -87,6 +87,7 @@ fn count(s: &[u8], t: &[u8], l: Layout, m: Layout) -> usize
         dot: m.fourth,
     };
     let mut n: usize = 0;
+    // A `while`: each of the two maps is walked at its own pace.
     while (x.own < third) | (y.own < last) {
         let c = next(s, t, l, m, x, y);
         let told = c.told;
@@ -131,6 +132,7 @@ fn write(s: &[u8], t: &[u8], l: Layout, m: Layout, out: &mut [u8]) -> usize
         dot: m.fourth,
     };
     let mut place: usize = 0;
+    // A `while`: each of the two maps is walked at its own pace.
     while (x.own < third) | (y.own < last) {
         let c = next(s, t, l, m, x, y);
         let told = c.told;

@@ -16,7 +16,7 @@ use Rattle.entries.specs.Steps.{overfull}
 use Rattle.entries.proofs.Packs.{entries-of}
 use Rattle.removals.proofs.Packs.{waiting-of}
 use Rattle.map.specs.declared.Map.{Map}
-use Rattle.map.specs.declared.Judged.{Judged}
+use Rattle.map.specs.Judging.{Judged}
 use Rattle.map.specs.Model.{map_as}
 use Rattle.map.specs.Judging.{exceeding, over_dots, over_entries, over_values, over_waiting, over_keys, over_number, judged}
 use Rattle.map.proofs.Kept.{seen_of}

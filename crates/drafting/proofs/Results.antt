@@ -52,7 +52,7 @@ use Rattle.scan.specs.Numbers.{scan_number}
 use Rattle.scan.proofs.Eachs.{decide}
 use Rattle.mapimage.specs.MapImage.{map_longest}
 use Rattle.maprecords.specs.Related.{refused_map, judged_map, read_map}
-use Rattle.opimage.specs.declared.ReadOp.{ReadOp}
+use Rattle.opimage.specs.OpImage.{ReadOp}
 use Rattle.opimage.specs.OpImage.{op_longest, key_record, removal_head, removal_records, update_records, op_records, op_related, op_in, refused_op}
 use Rattle.opimage.specs.OpImage.{judged_op}
 use Rattle.opimage.specs.OpImage.{read_op}

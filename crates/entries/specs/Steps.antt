@@ -1,5 +1,5 @@
 -- What the code holds of entries on the way: one whose register may be over its limit, what a merge leaves of the next, and those that are finished.
-use Rattle.std.specs.Prelude.{◌≡◌, Bool, true, false, not, ◌&&◌, ◌||◌, cond, List, [], ◌∷◌, ◌≤◌, ltb, length}
+use Rattle.std.specs.Prelude.{◌≡◌, Bool, false, not, ◌&&◌, ◌||◌, cond, List, [], ◌∷◌, ◌≤◌, ltb, length, Option, Some, None}
 use Rattle.listlaws.specs.First.{some}
 use Rattle.listlaws.specs.Pad.{pad}
 use Rattle.clock.specs.declared.Dot.{Dot}
@@ -9,7 +9,6 @@ use Rattle.register.specs.InHand.{wide_values, wide_of, settled}
 use Rattle.entries.specs.declared.Entry.{Entry}
 use Rattle.entries.specs.declared.WideEntry.{WideEntry}
 use Rattle.entries.specs.declared.LaidEntry.{LaidEntry}
-use Rattle.entries.specs.declared.Survivor.{Survivor}
 use Rattle.entries.specs.declared.MergeStep.{MergeStep}
 use Rattle.entries.specs.declared.FinishedEntries.{FinishedEntries}
 use Rattle.entries.specs.Model.{dots_in, values_in, no_entry}
@@ -31,9 +30,9 @@ MergeFits ours theirs e f = (length (keep_dots ours theirs (dots_in e) (dots_in 
     × (length (join_dots (dots_in e) (dots_in f)) ≤ dot_limit)
 
 -- what a merge leaves of an entry: nothing, or one
-abbrev pub survivor_of : List Entry → Survivor
-survivor_of [] = record { stays = false; entry = wide_entry no_entry }
-survivor_of (e ∷ l) = record { stays = true; entry = wide_entry e }
+abbrev pub survivor_of : List Entry → Option WideEntry
+survivor_of [] = None
+survivor_of (e ∷ l) = Some (wide_entry e)
 
 -- what is left of the next of a merge, and how many it takes of each side, where a side may have no more
 unfoldable pub merge_step : List Dot → List Dot → Bool → Bool → Entry → Entry → MergeStep

@@ -30,8 +30,14 @@ impl Entries {
     pub fn size(self) -> usize
         ensures { (result ≡ length (entries_of self)) × (result ≤ entry_limit) }
     {
-        let n = self.len;
-        if n < ENTRIES { n } else { ENTRIES }
+        self.len.min(ENTRIES)
+    }
+
+    // The entries in use.
+    pub fn as_slice(&self) -> &[Entry]
+        ensures { result.now ≡ entries_of self.now }
+    {
+        &self.items[..self.size()]
     }
 
     // One entry more behind the last.
@@ -50,14 +56,10 @@ impl Entries {
     pub fn at(self, key: u32) -> Entry
         ensures { result ≡ entry_at key (entries_of self) }
     {
-        let n = self.size();
-        let mut i: usize = 0;
-        while i < n {
-            let e = self.items[i];
+        for e in self.as_slice() {
             if e.key == key {
-                return e;
+                return *e;
             }
-            i += 1;
         }
         Entry::new(key)
     }
@@ -66,15 +68,11 @@ impl Entries {
     pub fn only(self, key: u32) -> Entries
         ensures { result ≡ entries_as (those (λ e. eqb e.key key) (entries_of self)) }
     {
-        let n = self.size();
         let mut out = Entries::new();
-        let mut i: usize = 0;
-        while i < n {
-            let e = self.items[i];
-            i += 1;
+        for e in self.as_slice() {
             if e.key == key {
                 let k = out.len;
-                out.items[k] = e;
+                out.items[k] = *e;
                 out.len = k + 1;
             }
         }
@@ -85,12 +83,8 @@ impl Entries {
     pub fn remove(self, r: Removal) -> Entries
         ensures { result ≡ entries_as (remove_entries r (entries_of self)) }
     {
-        let n = self.size();
         let mut out = Entries::new();
-        let mut i: usize = 0;
-        while i < n {
-            let e = self.items[i];
-            i += 1;
+        for e in self.as_slice() {
             let left = e.removed(r);
             if !left.clock.is_empty() {
                 let k = out.len;
@@ -105,12 +99,8 @@ impl Entries {
     pub fn reset(self, by: Clock) -> Entries
         ensures { result ≡ entries_as (sift stays (cut_entry (dots_of by)) (entries_of self)) }
     {
-        let n = self.size();
         let mut out = Entries::new();
-        let mut i: usize = 0;
-        while i < n {
-            let e = self.items[i];
-            i += 1;
+        for e in self.as_slice() {
             let left = e.cut(by);
             if !left.clock.is_empty() {
                 let k = out.len;
@@ -139,6 +129,7 @@ impl Entries {
         let mut out = FinishedEntries::new();
         let mut i: usize = 0;
         let mut j: usize = 0;
+        // A `while`: each of the two is walked at its own pace.
         while (i < n) | (j < m) {
             let a = slot(i);
             let x = self.items[a];
@@ -147,9 +138,8 @@ impl Entries {
             let step = merge_step(x, y, i < n, j < m, mine, yours);
             i += step.ours;
             j += step.theirs;
-            let left = step.survivor;
-            if left.stays {
-                let h = left.entry.run(theirs).run(ours);
+            if let Some(left) = step.survivor {
+                let h = left.run(theirs).run(ours);
                 if !h.clock.is_empty() {
                     let laid = h.lay();
                     let e = laid.entry;

@@ -17,7 +17,7 @@ use removals::Waiting;
 pub fn slot(count: usize) -> usize
     ensures { (result < entry_limit) × (count < entry_limit → result ≡ count) }
 {
-    if count < ENTRIES { count } else { ENTRIES - 1 }
+    count.min(ENTRIES - 1)
 }
 
 impl FinishedEntries {
@@ -57,12 +57,8 @@ impl FinishedEntries {
         ensures { (result.count ≤ self.count + entry_limit) × ((l : List Entry) → ((e : Entry) → e ∈ entries_of from → LaidDown e) → Finishes l self
             → Finishes (l ++ sift stays (run (waiting_of waiting)) (those (aside below key) (entries_of from))) result) }
     {
-        let n = from.size();
         let mut out = self;
-        let mut i: usize = 0;
-        while i < n {
-            let x = from.items[i];
-            i += 1;
+        for x in from.as_slice() {
             if x.aside(key, below) {
                 let h = x.widened().run(waiting);
                 if !h.clock.is_empty() {

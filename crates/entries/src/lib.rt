@@ -37,17 +37,10 @@ pub struct LaidEntry {
     pub entry: Entry,
 }
 
-// What is left of an entry in a merge: where `stays` is not set it goes, and the entry is empty.
-#[derive(Clone, Copy)]
-pub struct Survivor {
-    pub stays: bool,
-    pub entry: WideEntry,
-}
-
-// What is left of the next entry of a merge, and how many it takes of ours and of theirs.
+// What is left of the next entry of a merge, if it stays, and how many it takes of ours and of theirs.
 #[derive(Clone, Copy)]
 pub struct MergeStep {
-    pub survivor: Survivor,
+    pub survivor: Option<WideEntry>,
     pub ours: usize,
     pub theirs: usize,
 }

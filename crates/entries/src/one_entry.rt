@@ -8,7 +8,7 @@ ghost use Rattle.entries.specs.Model.{dots_in, entry_as};
 ghost use Rattle.entries.specs.Entries.{cut_entry, remove_from, run, put_entry, aside, alone, together};
 ghost use Rattle.entries.specs.Steps.{wide_entry, laid_entry, MergeFits, survivor_of};
 
-use crate::{Entry, LaidEntry, Survivor, Update, WideEntry};
+use crate::{Entry, LaidEntry, Update, WideEntry};
 use clock::Clock;
 use register::Register;
 use removals::{Removal, Waiting};
@@ -89,25 +89,24 @@ impl Entry {
     }
 
     // What a merge leaves of an entry that one map has alone; `other` is the other map's clock.
-    pub fn alone(self, other: Clock) -> Survivor
+    pub fn alone(self, other: Clock) -> Option<WideEntry>
         ensures { result ≡ survivor_of (alone (dots_of other) self) }
     {
         if other.covers(self.clock) {
-            return Survivor::none();
+            return None; // the other map has seen all of it
         }
         let clock = self.clock.cut(other).clock;
         let deleted = other.cut(clock).clock;
         let wide = self.register.wide().cut(deleted);
-        let entry = WideEntry {
+        Some(WideEntry {
             key: self.key,
             clock,
             wide,
-        };
-        Survivor { stays: true, entry }
+        })
     }
 
     // What a merge makes of an entry that both maps have; `ours` and `theirs` are the maps' clocks.
-    pub fn together(self, other: Entry, ours: Clock, theirs: Clock) -> Survivor
+    pub fn together(self, other: Entry, ours: Clock, theirs: Clock) -> Option<WideEntry>
         requires { MergeFits (dots_of ours) (dots_of theirs) self other }
         ensures { result ≡ survivor_of (together (dots_of ours) (dots_of theirs) self other) }
     {
@@ -117,29 +116,16 @@ impl Entry {
         let keep = common.join(mine).join(yours);
         let clock = keep.clock;
         if clock.is_empty() {
-            return Survivor::none();
+            return None;
         }
         let all = self.clock.join(other.clock);
         let deleted = all.clock.cut(clock).clock;
         let wide = self.register.merge(other.register).cut(deleted);
-        let entry = WideEntry {
+        Some(WideEntry {
             key: self.key,
             clock,
             wide,
-        };
-        Survivor { stays: true, entry }
-    }
-}
-
-impl Survivor {
-    fn none() -> Survivor
-        ensures { result ≡ survivor_of [] }
-    {
-        let entry = Entry::new(0).widened();
-        Survivor {
-            stays: false,
-            entry,
-        }
+        })
     }
 }
 
@@ -148,14 +134,10 @@ impl WideEntry {
     pub fn run(self, waiting: Waiting) -> WideEntry
         ensures { (e : Entry) → self ≡ wide_entry e → result ≡ wide_entry (run (waiting_of waiting) e) }
     {
-        let n = waiting.size();
         let key = self.key;
         let mut clock = self.clock;
         let mut wide = self.wide;
-        let mut i: usize = 0;
-        while i < n {
-            let w = waiting.items[i];
-            i += 1;
+        for w in waiting.as_slice() {
             if w.keys.contains(key) {
                 clock = clock.cut(w.clock).clock;
                 wide = wide.cut(w.clock);

@@ -44,15 +44,13 @@ fn next_from(s: &[u8], field: u8, bound: u64, from: usize, end: usize) -> usize
     requires { (from ≤ end) × (end * 16 ≤ length s.now) }
     ensures { (from ≤ result) × ((result ≤ end) × ((at : ℕ) → Splits s.now field bound from end at → result ≡ at)) }
 {
-    let mut i = from;
-    while i < end {
+    for i in from..end {
         let r = records::read_record(s, i * 16);
         if bound <= walks::field_of(field, r) {
             return i;
         }
-        i += 1;
     }
-    i
+    end
 }
 
 // Where the dots of each of n values begin, and where the last one's end.
@@ -63,11 +61,9 @@ pub fn starts_of(s: &[u8], n: usize, from: usize, end: usize) -> [usize; VALUE_S
 {
     let mut starts: [usize; VALUE_STARTS] = [from; VALUE_STARTS];
     let mut at = from;
-    let mut i: usize = 0;
-    while i < n {
+    for i in 0..n {
         at = next_from(s, BY_INDEX, i as u64 + 1, at, end);
-        i += 1;
-        starts[i] = at;
+        starts[i + 1] = at;
     }
     starts
 }

@@ -1,1 +1,2 @@
 pub mod Equivalence
+pub mod Library

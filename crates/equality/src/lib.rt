@@ -13,15 +13,9 @@ use register::{Register, Value};
 fn same_pair(v: Value, other: Value) -> bool
     ensures { result ≡ same_pair v other }
 {
-    let x = v.value;
-    let y = other.value;
-    let equal = (x.number == y.number) & (x.origin == y.origin);
-    let o = v.clock.compare(other.clock);
-    match o {
-        Order::Equal => equal,
-        Order::Less => false,
-        Order::Greater => false,
-        Order::Concurrent => false,
+    match v.clock.compare(other.clock) {
+        Order::Equal => v.value == other.value,
+        Order::Less | Order::Greater | Order::Concurrent => false,
     }
 }
 
@@ -29,33 +23,20 @@ fn same_pair(v: Value, other: Value) -> bool
 fn times(register: Register, v: Value) -> usize
     ensures { (result ≡ times_in (values_of register) v) × (result ≤ value_limit) }
 {
-    let n = register.size();
-    let mut count: usize = 0;
-    let mut i: usize = 0;
-    while i < n {
-        let w = register.values[i];
-        i += 1;
-        if same_pair(v, w) {
-            count += 1;
-        }
-    }
-    count
+    register
+        .as_slice()
+        .iter()
+        .filter(|w| same_pair(v, **w))
+        .count()
 }
 
 // Whether every value that stands `here` stands in both the same number of times under its clock.
 fn as_often(register: Register, other: Register, here: Register) -> bool
     ensures { result ≡ as_often (values_of register) (values_of other) (values_of here) }
 {
-    let n = here.size();
-    let mut i: usize = 0;
-    while i < n {
-        let v = here.values[i];
-        if times(register, v) != times(other, v) {
-            return false;
-        }
-        i += 1;
-    }
-    true
+    here.as_slice()
+        .iter()
+        .all(|v| times(register, *v) == times(other, *v))
 }
 
 // Equality, in whatever order: the Rust's `eq`, where no pair stands twice.

@@ -1,11 +1,12 @@
 // The floor of some peers' clocks: one peer after the other, by value.
 #![tactic(auto)]
 
-ghost use Rattle.std.specs.Prelude.{◌≡◌, min};
+ghost use Rattle.std.specs.Prelude.{◌≡◌};
 ghost use Rattle.clock.specs.Dots.{dots_of, clock_of};
 ghost use Rattle.flooring.specs.Steps.{lowered_by, begun_of, next_of};
 
 use clock::{Clock, Dot};
+use refusals::Refusal;
 
 // The most peers in a list.
 pub const PEERS: usize = 64;
@@ -19,24 +20,14 @@ pub struct Floored {
     pub clock: Clock,
 }
 
-fn smaller(counter: u64, other: u64) -> u64
-    ensures { result ≡ min counter other }
-{
-    if counter < other { counter } else { other }
-}
-
 // The smaller counter of each actor, zero left out.
 fn lower(clock: Clock, peer: Clock) -> Clock
     ensures { result ≡ clock_of (lowered_by (dots_of peer) (dots_of clock)) }
 {
-    let n = clock.size();
     let mut out = Clock::new();
-    let mut i: usize = 0;
-    while i < n {
-        let d = clock.dots[i];
-        i += 1;
+    for d in clock.as_slice() {
         let seen = peer.get(d.actor);
-        let least = smaller(d.counter, seen);
+        let least = d.counter.min(seen);
         if 0 < least {
             let k = out.len;
             out.dots[k] = Dot {
@@ -53,21 +44,20 @@ fn lower(clock: Clock, peer: Clock) -> Clock
 pub fn begin(count: usize) -> Floored
     ensures { result ≡ begun_of count }
 {
-    let none = Clock::new();
-    if PEERS < count {
-        return Floored {
-            word: answers::word(18),
-            many: 0,
-            any: false,
-            clock: none,
-        };
-    }
-    Floored {
+    let none = Floored {
         word: 0,
         many: count,
         any: false,
-        clock: none,
+        clock: Clock::new(),
+    };
+    if PEERS < count {
+        return Floored {
+            word: answers::told(Err(Refusal::TooManyPeers)),
+            many: 0,
+            ..none
+        };
     }
+    none
 }
 
 // One peer more: the first bad one decides.
@@ -77,30 +67,21 @@ pub fn next(f: Floored, peer: Clock) -> Floored
     if f.word != 0 {
         return f;
     }
-    let was = f.clock;
     let number = advance::lent_number(peer);
     if number != 0 {
         return Floored {
             word: answers::word(number),
-            many: f.many,
-            any: f.any,
-            clock: was,
+            ..f
         };
     }
-    if f.any {
-        let low = lower(was, peer);
-        return Floored {
-            word: 0,
-            many: f.many,
-            any: true,
-            clock: low,
-        };
-    }
-    let first = lower(peer, peer);
+    let clock = if f.any {
+        lower(f.clock, peer)
+    } else {
+        lower(peer, peer)
+    };
     Floored {
-        word: 0,
-        many: f.many,
         any: true,
-        clock: first,
+        clock,
+        ..f
     }
 }

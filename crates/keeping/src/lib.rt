@@ -1,7 +1,7 @@
 // What a merge keeps of the dots of two entries, and what it deletes.
 #![tactic(auto)]
 
-ghost use Rattle.std.specs.Prelude.{◌≡◌, cond, ◌+◌, ◌≤◌, ◌<◌, max, length, drop};
+ghost use Rattle.std.specs.Prelude.{◌≡◌, cond, ◌+◌, ◌≤◌, ◌<◌, length, drop};
 ghost use Rattle.limits.specs.Limits.{dot_limit};
 ghost use Rattle.clock.specs.Dots.{dots_of, clock_of, cut_dots, join_dots};
 ghost use Rattle.clock.specs.Lawful.{Lawful};
@@ -34,12 +34,6 @@ pub struct Sought {
     pub next: usize,
 }
 
-fn larger(x: u64, y: u64) -> u64
-    ensures { result ≡ max x y }
-{
-    if x < y { y } else { x }
-}
-
 fn counted(stays: bool, x: u64) -> u64
     ensures { result ≡ cond stays x 0 }
 {
@@ -50,10 +44,9 @@ fn counted(stays: bool, x: u64) -> u64
 fn kept_counter(x: u64, y: u64, mine: u64, yours: u64) -> u64
     ensures { result ≡ kept_counter x y mine yours }
 {
-    larger(
-        larger(counted(y == x, x), counted(yours < x, x)),
-        counted(mine < y, y),
-    )
+    counted(y == x, x)
+        .max(counted(yours < x, x))
+        .max(counted(mine < y, y))
 }
 
 // The counter of an actor in a clock of n dots from a place on, and the place behind the actor.
@@ -62,6 +55,7 @@ fn seek(clock: Clock, n: usize, from: usize, actor: u16) -> Sought
     ensures { result ≡ sought actor from (drop from (dots_of clock)) }
 {
     let mut i = from;
+    // A `while`: the place where it stops is what it gives, also where `from` is behind the last dot.
     while i < n {
         let d = clock.dots[i];
         if d.actor == actor {
@@ -167,6 +161,7 @@ pub fn keeps(x: Clock, y: Clock, mine: Clock, yours: Clock) -> Kept
     let mut j: usize = 0;
     let mut p: usize = 0;
     let mut q: usize = 0;
+    // A `while`: each of the two is walked at its own pace.
     while (i < n) | (j < m) {
         let r = meet(x, n, i, y, m, j);
         let e = seek(mine, a, p, r.actor);
@@ -176,7 +171,7 @@ pub fn keeps(x: Clock, y: Clock, mine: Clock, yours: Clock) -> Kept
         p = e.next;
         q = f.next;
         let k = kept_counter(r.ours, r.theirs, e.counter, f.counter);
-        let all = larger(r.ours, r.theirs);
+        let all = r.ours.max(r.theirs);
         if 0 < k {
             let w = keep.len;
             let left = Dot {

@@ -1,14 +1,16 @@
 // A map's image recognised where it stands, and the places of its sections.
 #![tactic(auto)]
 
-ghost use Rattle.std.specs.Prelude.{◌≡◌, ◌+◌, ◌<◌};
+ghost use Rattle.std.specs.Prelude.{◌≡◌, ◌+◌, ◌<◌, IfOk};
 ghost use Rattle.records.specs.Records.{records_of};
+ghost use Rattle.refusals.specs.Numbers.{number_for, number_told};
 ghost use Rattle.maprecords.specs.Related.{read_map};
 ghost use Rattle.layout.specs.Whole.{Parted, slow_number, LaidOut};
 
 use clock::Clock;
 use limits::{ENTRIES, WAITING};
 use records::{CLOCK_DOT, ENTRY_DOT, VALUE, VALUE_DOT, WAITING_DOT, WAITING_KEY};
+use refusals::Refusal;
 use scan::Scan;
 use walks::{BY_KIND, Layout};
 
@@ -32,23 +34,24 @@ fn sections(s: &[u8]) -> Layout
     }
 }
 
-// Of an image that is refused: 1 or 2 where its records show it one by one, else 3.
-fn slow_number(s: &[u8]) -> u8
-    ensures { result ≡ slow_number (records_of s.now) }
+// Of an image that is refused: malformed or over a limit where its records show it one by one, else unrelated.
+fn slow_refusal(s: &[u8]) -> Refusal
+    ensures { number_for result ≡ slow_number (records_of s.now) }
 {
     let n = s.len() / 16;
     let mut scan = Scan::new();
     let mut under = [0u8; 256];
-    let mut i: usize = 0;
-    while i < n {
+    for i in 0..n {
         let r = records::read_record(s, i * 16);
-        i += 1;
         let x = r.index as usize;
         let u = under[x];
         scan = scan.take(CLOCK_DOT, WAITING_KEY, r, u);
         under[x] = scan::under(u, r.kind);
     }
-    if scan.number == 0 { 3 } else { scan.number }
+    match scan::verdict(scan.number) {
+        Ok(()) => Refusal::Unrelated,
+        Err(refusal) => refusal,
+    }
 }
 
 // A verdict on an image, the map clock, and where the rest stands.
@@ -61,8 +64,8 @@ pub struct Laid {
     pub layout: Layout,
 }
 
-fn refused(number: u8) -> Laid
-    ensures { result.number ≡ number }
+fn refused(refusal: Refusal) -> Laid
+    ensures { result.number ≡ number_for refusal }
 {
     let clock = Clock::new();
     let layout = Layout {
@@ -74,7 +77,7 @@ fn refused(number: u8) -> Laid
         end: 0,
     };
     Laid {
-        number,
+        number: refusal.number(),
         entries: 0,
         waits: 0,
         clock,
@@ -86,33 +89,41 @@ fn refused(number: u8) -> Laid
 pub fn lay_out(s: &[u8]) -> Laid
     ensures { (result.number ≡ (read_map s.now).number) × (result.number ≡ 0 → LaidOut s.now (read_map s.now).map result) }
 {
-    let number = maprecords::length_number(s.len());
-    if number != 0 {
-        return refused(number);
+    match lay(s) {
+        Ok(laid) => laid,
+        Err(refusal) => refused(refusal),
     }
+}
+
+// Where the parts of an image stand, or why it is refused.
+fn lay(s: &[u8]) -> Result<Laid, Refusal>
+    ensures { (number_told result ≡ (read_map s.now).number)
+        × IfOk result (λ laid. (laid.number ≡ 0) × LaidOut s.now (read_map s.now).map laid) }
+{
+    maprecords::check_length(s.len())?;
     let layout = sections(s);
     let second = layout.second;
     let sixth = layout.sixth;
     let end = layout.end;
     let run = walks::run_end(s, 0, second, CLOCK_DOT, 0, 0);
     if run != second {
-        return refused(slow_number(s));
+        return Err(slow_refusal(s));
     }
     let to = second * 16;
     let clock = runs::clock_of(&s[0..to]);
     let entries = walks::count_entries(s, layout, clock);
     let waits = walks::count_waiting(s, layout);
     if (ENTRIES < entries) | (WAITING < waits) {
-        return refused(slow_number(s));
+        return Err(slow_refusal(s));
     }
     if !walks::keys_good(s, sixth, end, waits) {
-        return refused(slow_number(s));
+        return Err(slow_refusal(s));
     }
-    Laid {
+    Ok(Laid {
         number: 0,
         entries,
         waits,
         clock,
         layout,
-    }
+    })
 }

@@ -15,8 +15,7 @@ use Rattle.clock.specs.Lawful.{Lawful}
 use Rattle.clock.proofs.Cuts.{cut-none}
 use Rattle.removals.specs.declared.Removal.{Removal}
 use Rattle.limits.specs.Limits.{waiting_limit}
-use Rattle.removals.specs.Model.{under_of, listed_in}
-use Rattle.removals.specs.Waits.{listed}
+use Rattle.removals.specs.Model.{under_of}
 use Rattle.queued.specs.declared.Queue.{Queue}
 use Rattle.queued.specs.Queue.{cuts_for, lists, Queued, Marked}
 use Rattle.leaving.specs.Left.{NothingCuts}

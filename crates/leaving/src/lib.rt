@@ -32,14 +32,7 @@ fn any_listed(under: [bool; WAITING], n: usize) -> bool
     requires { n ≤ waiting_limit }
     ensures { result ≡ some (λ b. b) (take n under) }
 {
-    let mut i: usize = 0;
-    while i < n {
-        if under[i] {
-            return true;
-        }
-        i += 1;
-    }
-    false
+    under[..n].contains(&true)
 }
 
 // Whether values stay whole: a clock deletes nothing, and no removal lists their key.
@@ -157,10 +150,7 @@ pub fn draw_values(
     let values = x.values;
     let n = values.to - values.from;
     let mut out = before;
-    let mut i: usize = 0;
-    while i < n {
-        let k = i;
-        i += 1;
+    for k in 0..n {
         if stand[k] {
             let one = source_of(v, x, k, second, whole, gone, t, ds, theirs, s, cs, ours);
             let marks = one.marks;

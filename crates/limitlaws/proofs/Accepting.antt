@@ -21,7 +21,7 @@ use Rattle.scan.proofs.Eachs.{decide, both_left}
 use Rattle.clockimage.specs.Image.{image_of}
 use Rattle.clockimage.proofs.RoundTrip.{accepted}
 use Rattle.mapimage.specs.MapImage.{longest_by, map_longest}
-use Rattle.maprecords.specs.declared.ReadMap.{ReadMap}
+use Rattle.maprecords.specs.Related.{ReadMap}
 use Rattle.maprecords.specs.Reading.{entry_keys, entry_in, entries_for, waiting_count, waiting_removal_in, numbers_below, waiting_for, map_in}
 use Rattle.maprecords.specs.Related.{finds_place, related, refused_map, judged_map, read_map}
 use Rattle.maprecords.proofs.Counts.{entries-most}

@@ -7,7 +7,7 @@ use Rattle.scan.specs.Formed.{well_formed}
 use Rattle.scan.specs.Limits.{Limits, within_by}
 use Rattle.clockimage.specs.Image.{image_of}
 use Rattle.mapimage.specs.MapImage.{longest_by}
-use Rattle.maprecords.specs.declared.ReadMap.{ReadMap}
+use Rattle.maprecords.specs.Related.{ReadMap}
 use Rattle.maprecords.specs.Reading.{map_in}
 use Rattle.maprecords.specs.Related.{related, refused_map}
 

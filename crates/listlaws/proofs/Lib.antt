@@ -27,3 +27,13 @@ pub mod Rising
 pub mod Alike
 pub mod Beside
 pub mod Checking
+pub mod SliceRests
+pub mod SliceSifting
+pub mod SlicePassing
+pub mod SliceFolding
+pub mod SliceTrailing
+pub mod SliceWeaving
+pub mod SliceChecking
+pub mod SliceRising
+pub mod SliceAlike
+pub mod SliceBeside

@@ -1,10 +1,10 @@
 // The boot loader's choice: for a bay, the smallest of the values that no other has overwritten, as a report of eleven bytes.
 #![tactic(auto)]
 
-ghost use Rattle.std.specs.Prelude.{◌≡◌, false, List, [], ◌∷◌, ◌++◌, ℕ, ◌*◌, ◌+◌, ◌≤◌, ◌<◌, length, get_or};
+ghost use Rattle.std.specs.Prelude.{◌≡◌, List, [], ◌∷◌, ◌++◌, ℕ, ◌*◌, ◌+◌, ◌≤◌, ◌<◌, length, get_or};
 ghost use Rattle.register.specs.declared.Value.{Value};
 ghost use Rattle.limits.specs.Limits.{value_limit};
-ghost use Rattle.register.specs.Values.{no_value, yielding};
+ghost use Rattle.register.specs.Values.{no_value};
 ghost use Rattle.records.specs.Writing.{Wrote};
 ghost use Rattle.records.specs.Kinds.{value_kind};
 ghost use Rattle.mapimage.specs.MapImage.{flat_from, value_records};
@@ -37,32 +37,14 @@ pub struct Report {
     pub value: u64,
 }
 
-// Whether the first of two clocks is strictly below the second.
-fn is_less(o: Order) -> bool
-    ensures { result ≡ yielding false o }
-{
-    match o {
-        Order::Less => true,
-        Order::Equal => false,
-        Order::Greater => false,
-        Order::Concurrent => false,
-    }
-}
-
 // Whether the clock of the value at place k is strictly below that of another, by the runs of their dots where they lie.
 fn is_below(map: &[u8], starts: [usize; VALUE_STARTS], n: usize, k: usize) -> bool
     requires { (k < n) × ((l : List Value) × RunsOf map.now starts n l) }
     ensures { (l : List Value) → RunsOf map.now starts n l → result ≡ is_below l (get_or l k no_value) }
 {
-    let from = starts[k] * 16;
-    let to = starts[k + 1] * 16;
-    let mut j: usize = 0;
-    while j < n {
-        let p = starts[j] * 16;
-        let q = starts[j + 1] * 16;
-        let o = comparing::compare_runs(&map[from..to], &map[p..q]);
-        j += 1;
-        if is_less(o) {
+    let run = comparing::value_run(map, starts, k);
+    for j in 0..n {
+        if let Order::Less = comparing::compare_runs(run, comparing::value_run(map, starts, j)) {
             return true;
         }
     }
@@ -123,12 +105,9 @@ fn choose(map: &[u8], values: Span, clocks: Span) -> Report
         found: false,
         value: 0,
     };
-    let mut i: usize = 0;
-    while i < n {
-        let k = i;
-        i += 1;
-        if !is_below(map, starts, n, k) {
-            r = with_value(r, number_at(map, values, k));
+    for i in 0..n {
+        if !is_below(map, starts, n, i) {
+            r = with_value(r, number_at(map, values, i));
         }
     }
     r
@@ -161,9 +140,7 @@ fn write_reports(map: &[u8], l: Layout, out: &mut [u8]) -> usize
     ensures { Wrote 0 (reports_after (read_map map.now).map 0 bay_count) out.old out.new result }
 {
     let mut next: usize = 0;
-    let mut bay: u32 = 0;
-    while bay < BAYS {
-        bay += 1;
+    for bay in 1..=BAYS {
         next = write_report(out, next, report_at(map, l, bay));
     }
     next

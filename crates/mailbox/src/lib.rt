@@ -52,12 +52,8 @@ pub fn take(mem: &mut [u8; READER], piece: &[u8]) -> u64
     if mem[OPEN] != 1 {
         return 13 * 0x1_0000_0000;
     }
-    let n = piece.len();
-    let mut i: usize = 0;
-    while i < n {
-        let b = piece[i];
-        i += 1;
-        take_byte(mem, b);
+    for b in piece {
+        take_byte(mem, *b);
     }
     0
 }
@@ -77,10 +73,8 @@ pub fn begin(mem: &mut [u8; READER]) -> u64
     ensures { (result ≡ 0) × (mem.new ≡ begun mem.old) }
 {
     records::put8(mem, OPEN, 1);
-    let mut i: usize = 0;
-    while i < CLOCK {
+    for i in 0..CLOCK {
         clear(mem, LENGTH + i);
-        i += 1;
     }
     0
 }

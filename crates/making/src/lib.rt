@@ -23,8 +23,10 @@ pub fn update(map: &[u8], actor: u16, key: u32, value: u64, origin: u16, out: &m
         origin,
     };
     let made = ctx.derive_add_ctx(actor).update(key, content);
-    let op = made.op;
-    answers::give_op(made.number, op, out)
+    if made.number != 0 {
+        return answers::word(made.number);
+    }
+    answers::told(answers::give_op(made.op, out))
 }
 
 pub fn rm_get(map: &[u8], key: u32, out: &mut [u8]) -> u64
@@ -35,7 +37,7 @@ pub fn rm_get(map: &[u8], key: u32, out: &mut [u8]) -> u64
         return answers::word(l.number);
     }
     let held = keyed::clock_at(map, l.layout, key);
-    answers::give_op(0, asking::rm(held, key), out)
+    answers::told(answers::give_op(asking::rm(held, key), out))
 }
 
 pub fn rm_read_ctx(map: &[u8], key: u32, out: &mut [u8]) -> u64
@@ -45,5 +47,5 @@ pub fn rm_read_ctx(map: &[u8], key: u32, out: &mut [u8]) -> u64
     if l.number != 0 {
         return answers::word(l.number);
     }
-    answers::give_op(0, asking::rm(l.clock, key), out)
+    answers::told(answers::give_op(asking::rm(l.clock, key), out))
 }

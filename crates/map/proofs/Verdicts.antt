@@ -24,7 +24,7 @@ use Rattle.removals.specs.Counted.{overlong}
 use Rattle.entries.proofs.Packs.{entries-of}
 use Rattle.removals.proofs.Packs.{waiting-of}
 use Rattle.map.specs.declared.Map.{Map}
-use Rattle.map.specs.declared.Judged.{Judged}
+use Rattle.map.specs.Judging.{Judged}
 use Rattle.map.specs.Model.{waiting_in, map_as, no_map}
 use Rattle.map.specs.Judging.{exceeding, over_entries, over_values, over_waiting, over_keys, over_number, judged}
 use Rattle.map.specs.Valid.{Valid, Within}

@@ -4,7 +4,9 @@ use Rattle.listlaws.specs.First.{some}
 use Rattle.limits.specs.Limits.{dot_limit, value_limit, entry_limit, waiting_limit, key_limit}
 use Rattle.clock.specs.Dots.{dots_of}
 use Rattle.map.specs.declared.Map.{Map}
-use Rattle.map.specs.declared.Judged.{Judged}
+use Rattle.std.specs.declared.result.Result.{Result}
+use Rattle.refusals.specs.declared.Refusal.{Refusal}
+use Rattle.refusals.specs.Numbers.{number_told, done_or}
 use Rattle.entries.specs.Model.{dots_in, values_in}
 use Rattle.removals.specs.Model.{under_of, listed_in}
 use Rattle.map.specs.Model.{seen_by, entries_in, waiting_in, no_map}
@@ -33,6 +35,15 @@ over_keys m = some (λ r. exceeding key_limit (listed_in r)) (waiting_in m)
 
 unfoldable pub over_number : Map → ℕ
 over_number m = cond (over_dots m) 4 (cond (over_entries m) 5 (cond (over_values m) 6 (cond (over_waiting m) 7 (cond (over_keys m) 8 0))))
+
+-- a number, and the map, which is empty where the number is not 0
+pub record Judged : Type 0 where
+  pub number : ℕ
+  pub map : Map
+
+-- what a change answers
+abbrev pub judgement : Result Map Refusal → Judged
+judgement r = record { number = number_told r; map = done_or no_map r }
 
 -- the map, or the number of the first limit that it breaks
 unfoldable pub judged : Map → Judged

@@ -1,5 +1,5 @@
 -- A map as lists: its clock's dots, its entries by key, its waiting removals by clock.
-use Rattle.std.specs.Prelude.{List, []}
+use Rattle.std.specs.Prelude.{false, List, []}
 use Rattle.clock.specs.declared.Dot.{Dot}
 use Rattle.clock.specs.declared.Clock.{Clock}
 use Rattle.clock.specs.Dots.{dots_of, clock_of}
@@ -8,9 +8,10 @@ use Rattle.removals.specs.declared.Waiting.{Waiting}
 use Rattle.rules.specs.WholeMap.{StoredMap}
 use Rattle.entries.specs.declared.Entry.{Entry}
 use Rattle.entries.specs.declared.Entries.{Entries}
-use Rattle.entries.specs.Model.{entries_of, entries_as}
-use Rattle.removals.specs.Model.{waiting_of, waiting_as}
+use Rattle.entries.specs.Model.{entries_of, entries_as, no_update}
+use Rattle.removals.specs.Model.{waiting_of, waiting_as, no_removal}
 use Rattle.map.specs.declared.Map.{Map}
+use Rattle.map.specs.declared.Op.{Op}
 
 -- a map's three parts
 abbrev pub seen_by : Map → List Dot
@@ -27,6 +28,10 @@ map_as c e w = record { clock = clock_of c; entries = entries_as e; waiting = wa
 
 abbrev pub no_map : Map
 no_map = map_as [] [] []
+
+-- an operation that says nothing
+abbrev pub no_op : Op
+no_op = record { up = false; removal = no_removal; update = no_update }
 
 -- a map's three parts laid into arrays
 abbrev pub packed_map : StoredMap Entry Clock Entries Waiting Map

@@ -7,13 +7,14 @@ ghost use Rattle.map.specs.Updating.{update};
 ghost use Rattle.map.specs.Applying.{apply};
 ghost use Rattle.map.specs.Merging.{merge};
 ghost use Rattle.map.specs.Resetting.{reset};
-ghost use Rattle.map.specs.Judging.{judged};
+ghost use Rattle.map.specs.Judging.{judged, judgement};
 ghost use Rattle.map.specs.Valid.{Within, RemovalWithin, UpdateWithin, OpWithin};
 
-use crate::{Judged, Map, Op};
+use crate::{Map, Op};
 use clock::Clock;
 use entries::{Entries, FinishedEntries, Update};
 use limits::{ENTRIES, WAITING};
+use refusals::Refusal;
 use removals::{Removal, Waiting};
 
 impl Map {
@@ -31,53 +32,58 @@ impl Map {
     }
 
     // A removal: entries lose what its clock has seen, and it waits where the map clock does not cover it.
-    fn apply_keyset_rm(self, r: Removal) -> Judged
+    fn apply_keyset_rm(self, r: Removal) -> Result<Map, Refusal>
         requires { Within self × RemovalWithin r }
-        ensures { result ≡ judged (remove self r) }
+        ensures { judgement result ≡ judged (remove self r) }
     {
         let clock = self.clock;
         let entries = self.entries.remove(r);
         if !r.waits(clock) {
             let waiting = self.waiting;
-            return Judged::accepted(clock, entries, waiting);
+            return Ok(Map {
+                clock,
+                entries,
+                waiting,
+            });
         }
         let one = Waiting::new().push(r);
         let g = self.waiting.join(one);
         if WAITING < g.count {
-            return Judged::refused(7);
+            return Err(Refusal::TooManyWaiting);
         }
         if g.long {
-            return Judged::refused(8);
+            return Err(Refusal::TooManyKeys);
         }
         let waiting = g.waiting;
-        Judged::accepted(clock, entries, waiting)
+        Ok(Map {
+            clock,
+            entries,
+            waiting,
+        })
     }
 
     // An update: an entry takes its dot and its put, and every entry what the waiting removals leave of it.
-    fn apply_update(self, u: Update) -> Judged
+    fn apply_update(self, u: Update) -> Result<Map, Refusal>
         requires { Within self × UpdateWithin u }
-        ensures { result ≡ judged (update self u) }
+        ensures { judgement result ≡ judged (update self u) }
     {
         let d = u.dot;
         if d.counter <= self.clock.get(d.actor) {
-            return Judged {
-                number: 0,
-                map: self,
-            };
+            return Ok(self);
         }
         let grown = self.clock.add(d);
         if grown.over {
-            return Judged::refused(4);
+            return Err(Refusal::TooManyDots);
         }
         let mut all = FinishedEntries::new();
         all = all.side(self.entries, u.key, true, self.waiting);
         all = all.add(self.entries.at(u.key).put(u).run(self.waiting));
         all = all.side(self.entries, u.key, false, self.waiting);
         if ENTRIES < all.count {
-            return Judged::refused(5);
+            return Err(Refusal::TooManyEntries);
         }
         if all.wide {
-            return Judged::refused(6);
+            return Err(Refusal::TooManyValues);
         }
         let clock = grown.clock;
         let left = self.waiting.uncovered(clock);
@@ -86,12 +92,16 @@ impl Map {
             items,
             len: all.count,
         };
-        Judged::accepted(clock, done, left)
+        Ok(Map {
+            clock,
+            entries: done,
+            waiting: left,
+        })
     }
 
-    pub fn apply(self, op: Op) -> Judged
+    pub fn apply(self, op: Op) -> Result<Map, Refusal>
         requires { Within self × OpWithin op }
-        ensures { result ≡ judged (apply self op) }
+        ensures { judgement result ≡ judged (apply self op) }
     {
         if op.up {
             return self.apply_update(op.update);
@@ -99,33 +109,33 @@ impl Map {
         self.apply_keyset_rm(op.removal)
     }
 
-    pub fn merge(self, other: Map) -> Judged
+    pub fn merge(self, other: Map) -> Result<Map, Refusal>
         requires { Within self × Within other }
-        ensures { result ≡ judged (merge self other) }
+        ensures { judgement result ≡ judged (merge self other) }
     {
         let mine = self.clock;
         let yours = other.clock;
         let joined = mine.join(yours);
         if joined.over {
-            return Judged::refused(4);
+            return Err(Refusal::TooManyDots);
         }
         let clock = joined.clock;
         let ours = self.waiting;
         let theirs = other.waiting;
         let both = self.entries.merge(other.entries, mine, yours, ours, theirs);
         if ENTRIES < both.count {
-            return Judged::refused(5);
+            return Err(Refusal::TooManyEntries);
         }
         if both.wide {
-            return Judged::refused(6);
+            return Err(Refusal::TooManyValues);
         }
         let left = ours.uncovered(clock);
         let united = left.join(theirs.uncovered(clock));
         if WAITING < united.count {
-            return Judged::refused(7);
+            return Err(Refusal::TooManyWaiting);
         }
         if united.long {
-            return Judged::refused(8);
+            return Err(Refusal::TooManyKeys);
         }
         let items = both.items;
         let entries = Entries {
@@ -133,42 +143,28 @@ impl Map {
             len: both.count,
         };
         let waiting = united.waiting;
-        Judged::accepted(clock, entries, waiting)
+        Ok(Map {
+            clock,
+            entries,
+            waiting,
+        })
     }
 
-    pub fn reset_remove(self, by: Clock) -> Judged
+    pub fn reset_remove(self, by: Clock) -> Result<Map, Refusal>
         requires { Within self }
-        ensures { result ≡ judged (reset self (dots_of by)) }
+        ensures { judgement result ≡ judged (reset self (dots_of by)) }
     {
         let clock = self.clock.cut(by).clock;
         let entries = self.entries.reset(by);
         let left = self.waiting.reset(by);
         if left.over {
-            return Judged::refused(8);
+            return Err(Refusal::TooManyKeys);
         }
         let waiting = left.waiting;
-        Judged::accepted(clock, entries, waiting)
-    }
-}
-
-impl Judged {
-    pub fn accepted(clock: Clock, entries: Entries, waiting: Waiting) -> Judged
-        ensures { result ≡ record { number = 0; map = record { clock = clock; entries = entries; waiting = waiting } } }
-    {
-        Judged {
-            number: 0,
-            map: Map {
-                clock,
-                entries,
-                waiting,
-            },
-        }
-    }
-
-    pub fn refused(number: u8) -> Judged
-        ensures { result ≡ record { number = number; map = no_map } }
-    {
-        let map = Map::new();
-        Judged { number, map }
+        Ok(Map {
+            clock,
+            entries,
+            waiting,
+        })
     }
 }

@@ -21,10 +21,3 @@ pub struct Op {
     pub removal: Removal,
     pub update: Update,
 }
-
-// The new map, or the number of the limit that it breaks, with an empty map.
-#[derive(Clone, Copy)]
-pub struct Judged {
-    pub number: u8,
-    pub map: Map,
-}

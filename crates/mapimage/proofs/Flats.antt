@@ -9,6 +9,7 @@ use lib.ListN.{length, take, drop, get_or}
 use Rattle.listlaws.specs.Fold.{fold}
 use Rattle.listlaws.proofs.Folds.{fold-append}
 use Rattle.listlaws.proofs.Rests.{drop-step, drop-end}
+use Rattle.listlaws.proofs.SliceRests
 use Rattle.mapimage.specs.Least.{lesser, least_from}
 use Rattle.mapimage.specs.MapImage.{flat_from}
 
@@ -17,6 +18,12 @@ module _ {A B : Type 0} (f : ℕ → A → List B) where
       → flat_from f i (drop i (take n xs)) ≡ f i (get_or xs i d) ++ flat_from f (i + 1) (drop (i + 1) (take n xs))
   unfolding flat_from
   flat_on xs n i d h = rw (drop-step xs n i d h)
+
+  -- the same for a loop over a slice's items
+  pub flat-step : (l : List A) (i : ℕ) (d : A) → i < length l
+      → flat_from f i (drop i l) ≡ f i (get_or l i d) ++ flat_from f (i + 1) (drop (i + 1) l)
+  unfolding flat_from
+  flat-step l i d h = rw (SliceRests.drop-step l i d h)
 
   pub flat-end : (l : List A) (i : ℕ) → length l ≤ i → flat_from f i (drop i l) ≡ []
   unfolding flat_from

@@ -50,14 +50,9 @@ fn write_values(out: &mut [u8], at: usize, kind: u8, key: u32, register: Registe
     requires { at + length (flat_from (value_records kind key) 0 (values_of register)) * 16 ≤ length out.old }
     ensures { Wrote at (bytes_of (flat_from (value_records kind key) 0 (values_of register))) out.old out.new result }
 {
-    let n = register.size();
     let mut next = at;
-    let mut i: usize = 0;
-    while i < n {
-        let v = register.values[i];
-        let index = i as u8;
-        i += 1;
-        next = write_value(out, next, kind, key, index, v);
+    for (i, v) in register.as_slice().iter().enumerate() {
+        next = write_value(out, next, kind, key, i as u8, *v);
     }
     next
 }
@@ -78,13 +73,9 @@ fn write_entries(out: &mut [u8], at: usize, kind: u8, entries: Entries) -> usize
     requires { at + length (flat_from (entry_records kind) 0 (entries_of entries)) * 16 ≤ length out.old }
     ensures { Wrote at (bytes_of (flat_from (entry_records kind) 0 (entries_of entries))) out.old out.new result }
 {
-    let n = entries.size();
     let mut next = at;
-    let mut i: usize = 0;
-    while i < n {
-        let e = entries.items[i];
-        i += 1;
-        next = write_entry(out, next, kind, e);
+    for e in entries.as_slice() {
+        next = write_entry(out, next, kind, *e);
     }
     next
 }
@@ -93,15 +84,9 @@ fn write_waiting(out: &mut [u8], at: usize, waiting: Waiting) -> usize
     requires { at + length (flat_from waiting_dots 0 (waiting_of waiting)) * 16 ≤ length out.old }
     ensures { Wrote at (bytes_of (flat_from waiting_dots 0 (waiting_of waiting))) out.old out.new result }
 {
-    let n = waiting.size();
     let mut next = at;
-    let mut i: usize = 0;
-    while i < n {
-        let w = waiting.items[i];
-        let index = i as u8;
-        i += 1;
-        let clock = w.clock;
-        next = clockimage::write_dots(out, next, WAITING_DOT, index, 0, clock);
+    for (i, w) in waiting.as_slice().iter().enumerate() {
+        next = clockimage::write_dots(out, next, WAITING_DOT, i as u8, 0, w.clock);
     }
     next
 }
@@ -124,14 +109,9 @@ pub fn lesser(low: u64, m: u64, x: u64) -> u64
 fn least_in(removal: Removal, index: u8, low: u64, m: u64) -> u64
     ensures { (result ≡ least_from low m (key_numbers index removal)) × (every (λ x. ltb x (2 ^ 40)) (key_numbers index removal) ≡ true) }
 {
-    let keys = removal.keys;
-    let n = keys.size();
     let mut best = m;
-    let mut i: usize = 0;
-    while i < n {
-        let k = keys.items[i];
-        i += 1;
-        best = lesser(low, best, key_number(index, k));
+    for k in removal.keys.as_slice() {
+        best = lesser(low, best, key_number(index, *k));
     }
     best
 }
@@ -141,14 +121,9 @@ fn least(waiting: Waiting, low: u64) -> u64
     ensures { (result ≡ least_from low (2 ^ 40) (flat_from key_numbers 0 (waiting_of waiting)))
         × (every (λ x. ltb x (2 ^ 40)) (flat_from key_numbers 0 (waiting_of waiting)) ≡ true) }
 {
-    let n = waiting.size();
     let mut best = NO_KEY;
-    let mut i: usize = 0;
-    while i < n {
-        let w = waiting.items[i];
-        let index = i as u8;
-        i += 1;
-        best = least_in(w, index, low, best);
+    for (i, w) in waiting.as_slice().iter().enumerate() {
+        best = least_in(*w, i as u8, low, best);
     }
     best
 }
@@ -160,6 +135,7 @@ fn write_waiting_keys(out: &mut [u8], at: usize, waiting: Waiting) -> usize
 {
     let mut next = at;
     let mut best = least(waiting, 0);
+    // A `while`: the step goes from one number to the next greater one that some removal has.
     while best < NO_KEY {
         let r = Record {
             kind: WAITING_KEY,

@@ -18,7 +18,7 @@ use Rattle.map.specs.declared.Map.{Map}
 use Rattle.asking.specs.declared.CmRDTValidation.TheVariants.{Missing}
 use Rattle.entries.specs.Model.{entry_as}
 use Rattle.removals.specs.Model.{removal_as}
-use Rattle.map.specs.Model.{map_as, no_map}
+use Rattle.map.specs.Model.{map_as, no_map, no_op}
 use Rattle.entries.specs.Entries.{cut_entry, remove_from, remove_entries, put_entry, entry_at, put_entries, cut_alone, alone, keep_dots, merge_both}
 use Rattle.entries.specs.Entries.{together}
 use Rattle.entries.specs.Entries.{merge_entries}
@@ -29,7 +29,7 @@ use Rattle.map.specs.Merging.{merge}
 use Rattle.map.specs.Resetting.{reset}
 use Rattle.map.specs.Judging.{over_dots, over_entries, over_values, over_waiting, over_keys, over_number, judged}
 use Rattle.asking.specs.Contexts.{add_context}
-use Rattle.asking.specs.Asking.{clock_at, following, validate_update, update_under, make_update, no_op}
+use Rattle.asking.specs.Asking.{clock_at, following, validate_update, update_under, make_update}
 
 -- actor : counter
 abbrev updates : ℕ → ℕ → ℕ → ℕ → Update

@@ -25,7 +25,7 @@ use Rattle.scan.proofs.Scanning.{counts-under, under_more, scan-before, scan-las
 use Rattle.clockimage.specs.Image.{is_kind, dot_of}
 use Rattle.clockimage.proofs.Dots.{dots-more, dots-same, dots-room}
 use Rattle.mapimage.specs.MapImage.{map_longest}
-use Rattle.maprecords.specs.declared.ReadMap.{ReadMap}
+use Rattle.maprecords.specs.Related.{ReadMap}
 use Rattle.clockimage.specs.ClockImage.{clock_in}
 use Rattle.maprecords.specs.Reading.{entries_for, waiting_count}
 use Rattle.maprecords.specs.Related.{entry_fits, waiting_fits, finds_place, entry_whole, ascend, related, refused_map, judged_map, read_map}

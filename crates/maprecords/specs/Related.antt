@@ -8,6 +8,7 @@ use Rattle.entries.specs.declared.Entry.{Entry}
 use Rattle.removals.specs.declared.Removal.{Removal}
 use Rattle.entries.specs.Model.{dots_in, values_in}
 use Rattle.removals.specs.Waits.{removal_before}
+use Rattle.map.specs.declared.Map.{Map}
 use Rattle.map.specs.Model.{no_map}
 use Rattle.records.specs.declared.Record.{Record}
 use Rattle.records.specs.Kinds.{clock_dot_kind, value_kind, value_dot_kind, waiting_dot_kind, waiting_key_kind}
@@ -17,7 +18,9 @@ use Rattle.clockimage.specs.Image.{is_kind, image_of}
 use Rattle.mapimage.specs.MapImage.{map_longest}
 use Rattle.clockimage.specs.ClockImage.{clock_in}
 use Rattle.maprecords.specs.Reading.{entries_for, waiting_count, waiting_for, map_in}
-use Rattle.maprecords.specs.declared.ReadMap.{ReadMap}
+use Rattle.std.specs.declared.result.Result.{Result}
+use Rattle.refusals.specs.declared.Refusal.{Refusal}
+use Rattle.refusals.specs.Numbers.{number_told, done_or}
 
 -- a value needs an entry, and its index is the next of its key: "indexes have no gap"
 abbrev pub value_fits : Record → Entry → Bool
@@ -54,6 +57,15 @@ ascend (v ∷ (w ∷ l)) = removal_before v w && ascend (w ∷ l)
 
 unfoldable pub related : List Record → Bool
 related l = each finds_place l && (every (entry_whole (clock_in l)) (entries_for l) && ascend (waiting_for l))
+
+-- a number of 01, and the map, which is empty where the number is not 0
+pub record ReadMap : Type 0 where
+  pub number : ℕ
+  pub map : Map
+
+-- what reading a map answers
+abbrev pub map_reading : Result Map Refusal → ReadMap
+map_reading r = record { number = number_told r; map = done_or no_map r }
 
 abbrev pub refused_map : ℕ → ReadMap
 refused_map n = record { number = n; map = no_map }

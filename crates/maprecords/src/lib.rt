@@ -1,23 +1,20 @@
-// What an image was read as, and what its length alone is answered with.
+// What the length of a map's image alone is answered with.
 #![tactic(auto)]
 
 ghost use Rattle.std.specs.Prelude.{◌≡◌};
 ghost use Rattle.maprecords.specs.Related.{length_number};
+ghost use Rattle.refusals.specs.Numbers.{number_told};
 
-use map::Map;
+use refusals::Refusal;
 
-// A number of document 01, and the map, which is empty where the number is not 0.
-#[derive(Clone, Copy)]
-pub struct ReadMap {
-    pub number: u8,
-    pub map: Map,
-}
-
-pub fn length_number(len: usize) -> u8
-    ensures { result ≡ length_number len }
+pub fn check_length(len: usize) -> Result<(), Refusal>
+    ensures { number_told result ≡ length_number len }
 {
     if mapimage::MAP_LONGEST < len {
-        return 2;
+        return Err(Refusal::OverLimit);
     }
-    if len % 16 == 0 { 0 } else { 1 }
+    if len % 16 != 0 {
+        return Err(Refusal::Malformed);
+    }
+    Ok(())
 }

@@ -1,10 +1,11 @@
 // Marks on the dots of a run, where it lies: which of them are left.
 #![tactic(auto)]
 
-ghost use Rattle.std.specs.Prelude.{◌≡◌, ◌+◌, ◌*◌, ◌≤◌, length, take};
+ghost use Rattle.std.specs.Prelude.{◌≡◌, List, ℕ, ◌+◌, ◌*◌, ◌≤◌, ◌<◌, length, take, get_or};
 ghost use Rattle.listlaws.specs.First.{some};
 ghost use Rattle.limits.specs.Limits.{dot_limit};
-ghost use Rattle.clock.specs.Dots.{dots_of, clock_of, cut_dots};
+ghost use Rattle.clock.specs.declared.Dot.{Dot};
+ghost use Rattle.clock.specs.Dots.{no_dot, dots_of, clock_of, cut_dots};
 ghost use Rattle.clock.specs.Lawful.{Lawful};
 ghost use Rattle.records.specs.Records.{record_from, bytes_of};
 ghost use Rattle.records.specs.Writing.{Wrote};
@@ -21,16 +22,7 @@ pub fn count_marks(marks: [bool; DOTS], n: usize) -> usize
     requires { n ≤ dot_limit }
     ensures { (result ≡ marks_set (take n marks)) × (result ≤ n) }
 {
-    let mut count: usize = 0;
-    let mut i: usize = 0;
-    while i < n {
-        let left = marks[i];
-        i += 1;
-        if left {
-            count += 1;
-        }
-    }
-    count
+    marks[..n].iter().filter(|left| **left).count()
 }
 
 // Whether one of the first n marks is set.
@@ -38,14 +30,7 @@ pub fn some_marks(marks: [bool; DOTS], n: usize) -> bool
     requires { n ≤ dot_limit }
     ensures { result ≡ some (λ b. b) (take n marks) }
 {
-    let mut i: usize = 0;
-    while i < n {
-        if marks[i] {
-            return true;
-        }
-        i += 1;
-    }
-    false
+    marks[..n].contains(&true)
 }
 
 // The dot of the record at place i of a run.
@@ -58,33 +43,42 @@ pub fn dot_at(run: &[u8], i: usize) -> Dot
     Dot { actor, counter }
 }
 
-// The marks of those dots that are left where what `by` has seen is cut: one walk along both.
-pub fn cut_marks(run: &[u8], marks: [bool; DOTS], by: Clock) -> [bool; DOTS]
-    requires { (length run.now ≤ dot_limit * 16) × (Lawful (run_dots run.now) × Lawful (dots_of by)) }
-    ensures { picked result (run_dots run.now) ≡ cut_dots (dots_of by) (picked marks (run_dots run.now)) }
+// The marks of those dots that are left where what m dots have seen is cut: one walk along both.
+fn cut<F: Fn(usize) -> Dot>(run: &[u8], marks: [bool; DOTS], m: usize, seen: F) -> [bool; DOTS]
+    requires callable { (j : ℕ) → j < m → F.pre seen j }
+    requires run { (length run.now ≤ dot_limit * 16) × Lawful (run_dots run.now) }
+    ensures { (by : List Dot) → Lawful by → length by ≡ m → ((j : ℕ) (d : Dot) → j < m → F.post seen j d → d ≡ get_or by j no_dot)
+        → picked result (run_dots run.now) ≡ cut_dots by (picked marks (run_dots run.now)) }
 {
     let n = run.len() / 16;
-    let m = by.size();
     let mut left = marks;
     let mut i: usize = 0;
     let mut j: usize = 0;
+    // A `while`: each of the two is walked at its own pace.
     while i < n && j < m {
         let d = dot_at(run, i);
-        let e = by.dots[j];
+        let e = seen(j);
         if e.actor < d.actor {
             j += 1;
         } else if d.actor < e.actor {
             i += 1;
         } else {
-            let k = i;
+            if d.counter <= e.counter {
+                left[i] = false;
+            }
             i += 1;
             j += 1;
-            if d.counter <= e.counter {
-                left[k] = false;
-            }
         }
     }
     left
+}
+
+// The marks of those dots that are left where what `by` has seen is cut.
+pub fn cut_marks(run: &[u8], marks: [bool; DOTS], by: Clock) -> [bool; DOTS]
+    requires { (length run.now ≤ dot_limit * 16) × (Lawful (run_dots run.now) × Lawful (dots_of by)) }
+    ensures { picked result (run_dots run.now) ≡ cut_dots (dots_of by) (picked marks (run_dots run.now)) }
+{
+    cut(run, marks, by.size(), |j| by.dots[j])
 }
 
 // The same by the clock of a run, where it lies.
@@ -93,28 +87,7 @@ pub fn cut_marks_by(run: &[u8], marks: [bool; DOTS], by: &[u8]) -> [bool; DOTS]
     ensures { picked result (run_dots run.now)
         ≡ cut_dots (run_dots by.now) (picked marks (run_dots run.now)) }
 {
-    let n = run.len() / 16;
-    let m = by.len() / 16;
-    let mut left = marks;
-    let mut i: usize = 0;
-    let mut j: usize = 0;
-    while i < n && j < m {
-        let d = dot_at(run, i);
-        let seen = dot_at(by, j);
-        if seen.actor < d.actor {
-            j += 1;
-        } else if d.actor < seen.actor {
-            i += 1;
-        } else {
-            let k = i;
-            i += 1;
-            j += 1;
-            if d.counter <= seen.counter {
-                left[k] = false;
-            }
-        }
-    }
-    left
+    cut(run, marks, by.len() / 16, |j| dot_at(by, j))
 }
 
 // The clock of those dots whose marks are set.
@@ -124,12 +97,9 @@ pub fn pick_clock(run: &[u8], marks: [bool; DOTS]) -> Clock
 {
     let n = run.len() / 16;
     let mut clock = Clock::new();
-    let mut i: usize = 0;
-    while i < n {
+    for i in 0..n {
         let d = dot_at(run, i);
-        let left = marks[i];
-        i += 1;
-        if left {
+        if marks[i] {
             let k = clock.len;
             clock.dots[k] = d;
             clock.len = k + 1;
@@ -154,12 +124,9 @@ pub fn write_picked(
 {
     let n = run.len() / 16;
     let mut next = at;
-    let mut i: usize = 0;
-    while i < n {
+    for i in 0..n {
         let d = dot_at(run, i);
-        let left = marks[i];
-        i += 1;
-        if left {
+        if marks[i] {
             let r = Record {
                 kind,
                 index,

@@ -16,7 +16,7 @@ use Rattle.memory.specs.Putting.{entry_place_of}
 
 -- j of the n entries are passed, and none of them has the key
 abbrev pub Looking : List ℕ → ℕ → ℕ → ℕ → Type 0
-Looking w n key j = (j ≤ n) × Passing (λ k. eqb (key_at w k) key) (λ k. k) n (numbers_below n) n j
+Looking w n key j = Passing (λ k. eqb (key_at w k) key) (λ k. k) n (numbers_below n) n j
 
 module _ (w : List ℕ) (n key : ℕ) where
   abbrev hit : ℕ → Bool

@@ -149,12 +149,10 @@ fn find(mem: &[u8; READER], n: usize, key: u32) -> usize
     requires { n ≡ entry_count mem.now }
     ensures { result ≡ entry_place_of mem.now key }
 {
-    let mut j: usize = 0;
-    while j < n {
+    for j in 0..n {
         if records::read32(mem, ENTRY_PLACE + j * ENTRY_ROOM) == key {
             return j;
         }
-        j += 1;
     }
     n
 }

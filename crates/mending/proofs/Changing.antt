@@ -1,6 +1,6 @@
 -- The loop that gives each record that stays its index.
 use mathlib.Core.Path.{◌≡◌, refl, ap, ap₂, sym, ◌∙◌}
-use mathlib.Core.Bool.{Bool, true, false, not, cond, ◌&&◌, ◌||◌}
+use mathlib.Core.Bool.{true, ◌&&◌, ◌||◌}
 use mathlib.Core.List.Memᴰ
 use mathlib.Core.List.{List, [], ◌∷◌, ◌++◌, map}
 use Prim.Native.Nat.{ℕ, ◌+◌, ◌-◌, ◌≤◌, ◌<◌}
@@ -14,7 +14,7 @@ use Rattle.listlaws.proofs.Rests.{in_list}
 use Rattle.records.specs.declared.Record.{Record}
 use Rattle.scan.specs.Each.{every}
 use Rattle.scan.proofs.Eachs.{every-at}
-use Rattle.salvagerules.specs.Fates.{Fate, staying, taken}
+use Rattle.salvagerules.specs.Fates.{Fate, staying}
 use Rattle.listlaws.specs.Order.{◌∈◌}
 use Rattle.listlaws.specs.Sift.{those}
 use Rattle.maprecords.specs.Reading.{under_key}
@@ -23,13 +23,12 @@ use Rattle.salvagelaws.proofs.Fourth.{Supplied}
 use Rattle.salvagelaws.proofs.Values.{below-few}
 use Rattle.salvagelaws.proofs.Limited.{key-known}
 use Rattle.salvagelaws.proofs.Waiting.{index-all, index-few, indexes-few}
-use Rattle.salvagerules.specs.Indexes.{new_index, with_index, kept_by_five, waiting_indexes, waiting_index}
+use Rattle.salvagerules.specs.Indexes.{new_index, waiting_indexes, waiting_index}
 use Rattle.salvagerules.specs.Steps.{renumbered, step_five, fates_of}
 use Rattle.culling.specs.Marks.{MarkedRecord, is_left, left_items, plain_fate, plain_fates, after_four}
 use Rattle.culling.proofs.Taking.{map-append}
 use Rattle.culling.proofs.Marked.{no_marked, left-set}
 use Rattle.mending.specs.Fated.{fate_of, united_fates}
-use Rattle.mending.proofs.Fourths.{united-early}
 
 -- i of the records have their index; k are those that step 4 left
 pub record Changing (k : List Record) (xs₀ : List MarkedRecord) (i : ℕ) (xs : List MarkedRecord) : Type 0 where

@@ -1,7 +1,7 @@
 -- The dots of a waiting index from a place on, and two clocks compared dot by dot.
 use mathlib.Core.Path.{◌≡◌, refl, ap, ap₂, sym, ◌∙◌}
-use mathlib.Core.Bool.{Bool, true, false, not, cond, ◌&&◌, and-true}
-use mathlib.Core.List.{List, [], ◌∷◌, ◌++◌, map}
+use mathlib.Core.Bool.{Bool, true, false, not, ◌&&◌, and-true}
+use mathlib.Core.List.{List, [], ◌∷◌}
 use mathlib.Core.Logic.{⊎_elim}
 use Prim.Native.Nat.{ℕ, suc, ◌+◌, ◌*◌, ◌/◌, ◌≤◌, ◌<◌}
 use native.Mathlib.Omega.{arith}
@@ -10,7 +10,7 @@ use borrow.Author.Tests.{le-ltb, ltb-true, ltb-false}
 use lib.Dec.{eqb, ltb}
 use lib.ListN.{length, drop, get_or}
 use lib.Seq.{drop-cons}
-use Rattle.listlaws.specs.Sift.{sift, those}
+use Rattle.listlaws.specs.Sift.{sift}
 use Rattle.listlaws.proofs.Rests.{drop-end}
 use Rattle.clock.specs.declared.Dot.{Dot}
 use Rattle.records.specs.declared.Record.{Record}
@@ -22,7 +22,7 @@ use Rattle.maprecords.specs.Reading.{under_index}
 use Rattle.salvagerules.specs.Indexes.{same_dots, waiting_clock}
 use Rattle.scan.proofs.Eachs.{decide}
 use Rattle.salvagelaws.proofs.Waiting.{same-dots, clocks-apart}
-use Rattle.culling.specs.Marks.{MarkedRecord, marked_of, is_left, is_left_at, left_items}
+use Rattle.culling.specs.Marks.{marked_of, is_left, left_items}
 use Rattle.culling.specs.Looking.{is_wanted, want_index}
 use Rattle.culling.proofs.Marked.{no_marked, count-marked, marked-at}
 use Rattle.mending.specs.Tables.{fourth_of, dots_after, DotPlace}

@@ -1,9 +1,9 @@
 -- The records that step 4 left, by their marks: which they are, what is known of them, and the loop that takes step 5 in order.
-use mathlib.Core.Path.{◌≡◌, refl, ap, ap₂, sym, ◌∙◌}
-use mathlib.Core.Bool.{Bool, true, false, ◌&&◌, ◌||◌}
+use mathlib.Core.Path.{◌≡◌, refl, ap, sym, ◌∙◌}
+use mathlib.Core.Bool.{Bool, true, false}
 use mathlib.Core.List.Memᴰ
 use mathlib.Core.List.{List, [], ◌∷◌, ◌++◌, map, append-nil}
-use Prim.Native.Nat.{ℕ, ◌+◌, ◌*◌, ◌/◌, ◌^◌, ◌≤◌, ◌<◌}
+use Prim.Native.Nat.{ℕ, ◌+◌, ◌*◌, ◌/◌, ◌≤◌, ◌<◌}
 use native.Mathlib.Omega.{arith}
 use native.Mathlib.Numerals.{add-one}
 use mathlib.Core.Logic.{⊎_elim}
@@ -18,24 +18,24 @@ use Rattle.listlaws.proofs.Those.{those-means, those-holds}
 use Rattle.records.specs.declared.Record.{Record}
 use Rattle.records.specs.Bytes.{Bytes}
 use Rattle.records.specs.Records.{record_from, records_of}
-use Rattle.records.proofs.RoundTrips.{Fitting, read-all-fit}
+use Rattle.records.proofs.RoundTrips.{read-all-fit}
 use Rattle.listlaws.proofs.Orders.{apart}
 use Rattle.listlaws.proofs.Pads.{length-snoc}
 use Rattle.scan.proofs.Rooms.{those-yes, those-no}
 use Rattle.scan.proofs.Eachs.{decide}
 use Rattle.scan.specs.Each.{every}
 use Rattle.scan.specs.Numbers.{scan_number}
-use Rattle.salvagerules.specs.Fates.{Fate, untouched, staying, taken}
+use Rattle.salvagerules.specs.Fates.{untouched, staying, taken}
 use Rattle.salvagerules.specs.Indexes.{kept_by_five, waiting_indexes}
 use Rattle.salvagerules.specs.Steps.{step_two, step_three, step_four}
-use Rattle.salvagelaws.proofs.Stages.{left_by_four, staying-four}
+use Rattle.salvagelaws.proofs.Stages.{staying-four}
 use Rattle.salvagelaws.proofs.Fourth.{Supplied, four-supplied}
 use Rattle.salvagelaws.proofs.Waiting.{index-from}
-use Rattle.culling.specs.Marks.{MarkedRecord, beside_marks, marked_of, is_left, is_left_at, left_items, plain_fate, plain_fates, Says, after_three}
+use Rattle.culling.specs.Marks.{MarkedRecord, beside_marks, marked_of, is_left, is_left_at, left_items, plain_fates}
 use Rattle.culling.specs.Marks.{after_four}
 use Rattle.culling.proofs.Taking.{steps-after}
 use Rattle.culling.proofs.Marked.{no_marked, staying-plain, left-append, left_one, left-none, left-set, marked-at, count-marked}
-use Rattle.culling.proofs.Passes.{Pass, pass-start, pass-here, pass-gone, pass_kept, pass-goes, pass-end}
+use Rattle.culling.proofs.Passes.{Pass, pass-start, pass-gone, pass_kept, pass-goes, pass-end}
 use Rattle.culling.proofs.Needed.{left-early}
 use Rattle.mending.specs.Tables.{fourth_of}
 use Rattle.mending.specs.Fated.{united_fates}

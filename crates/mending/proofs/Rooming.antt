@@ -3,7 +3,7 @@ use mathlib.Core.Path.{◌≡◌, refl, ap, ap₂, sym, ◌∙◌}
 use mathlib.Core.Bool.{Bool, true, false, not, ◌&&◌}
 use mathlib.Core.Logic.{⊎_elim}
 use mathlib.Core.List.Memᴰ
-use mathlib.Core.List.{List, [], ◌∷◌, ◌++◌, append-nil}
+use mathlib.Core.List.{List, [], ◌∷◌, ◌++◌}
 use Prim.Native.Nat.{ℕ, ◌+◌, ◌*◌, ◌/◌, ◌≤◌, ◌<◌}
 use native.Mathlib.Omega.{arith}
 use borrow.Author.Tests.{eqb-true, eq-eqb, ne_eqb}
@@ -11,13 +11,12 @@ use lib.Dec.{eqb, ltb}
 use lib.ListN.{length, take, get_or, length-take}
 use Rattle.listlaws.specs.Order.{◌∈◌}
 use Rattle.listlaws.specs.Sift.{sift, those}
-use Rattle.listlaws.specs.First.{some}
 use Rattle.listlaws.proofs.Pads.{length-snoc}
 use Rattle.listlaws.proofs.Somes.{some_holds, false-some}
 use Rattle.records.specs.declared.Record.{Record}
 use Rattle.scan.proofs.Eachs.{decide}
 use Rattle.scan.proofs.Rooms.{those-yes, those-no}
-use Rattle.salvagerules.specs.Indexes.{same_dots, waiting_clock, waiting_indexes, of_united_clock, lists_already, key_room}
+use Rattle.salvagerules.specs.Indexes.{waiting_indexes, of_united_clock, lists_already, key_room}
 use Rattle.salvagelaws.proofs.Fourth.{Supplied}
 use Rattle.salvagelaws.proofs.Limited.{key-known}
 use Rattle.records.specs.Records.{record_from}

@@ -33,14 +33,11 @@ fn dot_from(image: &[u8], marks: &[u16], index: u8, from: usize) -> usize
 {
     let n = image.len() / 16;
     let w = culling::of_index(WAITING_DOT, index);
-    let mut i = from;
-    while i < n {
-        let k = i;
-        i += 1;
-        if culling::is_left(5, marks[k]) {
-            if culling::is_wanted(w, records::read_record(image, k * 16)) {
-                return k;
-            }
+    for i in from..n {
+        if culling::is_left(5, marks[i])
+            && culling::is_wanted(w, records::read_record(image, i * 16))
+        {
+            return i;
         }
     }
     n
@@ -54,6 +51,7 @@ fn waits_before(image: &[u8], marks: &[u16], a: u8, b: u8) -> bool
     let n = image.len() / 16;
     let mut i = dot_from(image, marks, a, 0);
     let mut j = dot_from(image, marks, b, 0);
+    // A `while`: each of the two clocks is walked at its own pace.
     while i < n && j < n {
         let x = records::read_record(image, i * 16);
         let y = records::read_record(image, j * 16);
@@ -101,14 +99,9 @@ fn lead_of(image: &[u8], marks: &[u16], leads: &[u16], index: u8) -> u16
     ) {
         return INDEXES as u16;
     }
-    let mut i: u8 = 0;
-    while i < index {
-        let k = i;
-        i += 1;
-        if is_lead(leads, k as usize) {
-            if waits_same(image, marks, k, index) {
-                return k as u16;
-            }
+    for i in 0..index {
+        if is_lead(leads, i as usize) && waits_same(image, marks, i, index) {
+            return i as u16;
         }
     }
     index as u16
@@ -120,10 +113,8 @@ fn find_leads(image: &[u8], marks: &[u16], leads: &mut [u16])
         image.now) ≡ 0) }
     ensures { LeadsOf (fourth_of marks.now image.now) leads.new }
 {
-    let mut i: usize = 0;
-    while i < INDEXES {
+    for i in 0..INDEXES {
         leads[i] = lead_of(image, marks, leads, i as u8);
-        i += 1;
     }
 }
 
@@ -134,14 +125,9 @@ fn rank_of(image: &[u8], marks: &[u16], leads: &[u16], index: u8) -> u16
     ensures { result ≡ waiting_index (fourth_of marks.now image.now) index }
 {
     let mut count: u16 = 0;
-    let mut i: usize = 0;
-    while i < INDEXES {
-        let k = i;
-        i += 1;
-        if is_lead(leads, k) {
-            if waits_before(image, marks, k as u8, index) {
-                count += 1;
-            }
+    for i in 0..INDEXES {
+        if is_lead(leads, i) && waits_before(image, marks, i as u8, index) {
+            count += 1;
         }
     }
     count
@@ -153,12 +139,9 @@ fn find_ranks(image: &[u8], marks: &[u16], leads: &[u16], ranks: &mut [u16])
         marks.now image.now) leads.now × (length ranks.old ≡ 256) }
     ensures { RanksOf (fourth_of marks.now image.now) ranks.new }
 {
-    let mut i: usize = 0;
-    while i < INDEXES {
-        let k = i;
-        i += 1;
-        if leads[k] < INDEXES as u16 {
-            ranks[k] = rank_of(image, marks, leads, k as u8);
+    for i in 0..INDEXES {
+        if leads[i] < INDEXES as u16 {
+            ranks[i] = rank_of(image, marks, leads, i as u8);
         }
     }
 }
@@ -173,12 +156,9 @@ fn has_room(image: &[u8], marks: &[u16], leads: &[u16], n: usize, r: Record) -> 
 {
     let lead = leads[r.index as usize];
     let mut count: usize = 0;
-    let mut i: usize = 0;
-    while i < n {
-        let k = i;
-        i += 1;
-        if culling::is_left(0, marks[k]) {
-            let s = records::read_record(image, k * 16);
+    for i in 0..n {
+        if culling::is_left(0, marks[i]) {
+            let s = records::read_record(image, i * 16);
             if (s.kind == WAITING_KEY) & (leads[s.index as usize] == lead) {
                 if s.key == r.key {
                     return false;
@@ -215,14 +195,11 @@ fn mark_united(image: &[u8], marks: &mut [u16], leads: &[u16])
         × (fourth_of marks.new image.now ≡ staying (after_four (records_of image.now))) }
 {
     let n = image.len() / 16;
-    let mut i: usize = 0;
-    while i < n {
-        let k = i;
-        i += 1;
-        if marks[k] == 0 {
-            if !is_united(image, marks, leads, k, records::read_record(image, k * 16)) {
-                marks[k] = 5;
-            }
+    for i in 0..n {
+        if marks[i] == 0
+            && !is_united(image, marks, leads, i, records::read_record(image, i * 16))
+        {
+            marks[i] = 5;
         }
     }
 }
@@ -235,12 +212,9 @@ fn values_below(image: &[u8], marks: &[u16], key: u32, index: u8) -> u16
 {
     let n = image.len() / 16;
     let mut count: u16 = 0;
-    let mut i: usize = 0;
-    while i < n {
-        let k = i;
-        i += 1;
-        if culling::is_left(5, marks[k]) {
-            let s = records::read_record(image, k * 16);
+    for i in 0..n {
+        if culling::is_left(5, marks[i]) {
+            let s = records::read_record(image, i * 16);
             if ((s.kind == VALUE) & (s.key == key)) & (s.index < index) {
                 count += 1;
             }
@@ -274,15 +248,12 @@ fn mark_changed(image: &[u8], marks: &mut [u16], ranks: &[u16])
     ensures { Tells marks.new image.now (fates_of (records_of image.now)) }
 {
     let n = image.len() / 16;
-    let mut i: usize = 0;
-    while i < n {
-        let k = i;
-        i += 1;
-        if marks[k] == 0 {
-            let r = records::read_record(image, k * 16);
+    for i in 0..n {
+        if marks[i] == 0 {
+            let r = records::read_record(image, i * 16);
             let index = new_index(image, marks, ranks, r);
             if index != r.index as u16 {
-                marks[k] = CHANGED + index;
+                marks[i] = CHANGED + index;
             }
         }
     }

@@ -2,7 +2,6 @@
 use mathlib.Core.Path.{◌≡◌, ap, sym, ◌∙◌}
 use mathlib.Core.Bool.{Bool}
 use mathlib.Core.List.{List, ◌++◌}
-use Prim.Native.Nat.{◌-◌}
 use Rattle.listlaws.specs.Sift.{sift}
 use Rattle.listlaws.proofs.Sifts.{sift-append}
 use Rattle.clock.specs.declared.Dot.{Dot}

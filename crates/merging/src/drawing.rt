@@ -139,6 +139,7 @@ fn draw_keys(s: &[u8], t: &[u8], a: Laid, b: Laid, cs: Queue, ds: Queue) -> Sket
         value: m.third,
         dot: m.fourth,
     };
+    // A `while`: each of the two maps is walked at its own pace.
     while (x.own < third) | (y.own < last) {
         let c = crate::stepping::next(s, t, l, m, mine, yours, x, y);
         let e = c.x;

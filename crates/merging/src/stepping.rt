@@ -27,25 +27,6 @@ fn alone(s: &[u8], l: Layout, x: Cursor, other: Clock) -> Alone
     Alone { entry, keep, gone }
 }
 
-fn is_equal(o: Order) -> bool
-    ensures { result ≡ true → o ≡ Order.Equal }
-{
-    match o {
-        Order::Equal => {
-            return true;
-        }
-        Order::Greater => {
-            return false;
-        }
-        Order::Less => {
-            return false;
-        }
-        Order::Concurrent => {
-            return false;
-        }
-    }
-}
-
 // What a merge keeps of the dots of two entries, and what it deletes: all and nothing where both have the same.
 fn meet(s: &[u8], e: Lain, t: &[u8], f: Lain, mine: Clock, yours: Clock) -> Kept
     requires { ((x y : Entry) × LiesAt s.now x e × LiesAt t.now y f × (length (join_dots (dots_in x) (dots_in y)) ≤ dot_limit))
@@ -62,7 +43,7 @@ fn meet(s: &[u8], e: Lain, t: &[u8], f: Lain, mine: Clock, yours: Clock) -> Kept
     let l = theirs.to * 16;
     let c = entrywalk::own_clock(s, e);
     let o = comparing::compare_runs(&s[i..j], &t[k..l]);
-    if is_equal(o) {
+    if let Order::Equal = o {
         let none = Clock::new();
         return Kept {
             keep: c,

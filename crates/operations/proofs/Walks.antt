@@ -39,8 +39,8 @@ module _ (list : List ℕ) (at : ℕ) where
       record { left = cut_on (drop at list) (omega (arith, length-drop at list)) ∙ rw (e, drop-drop 16 at list) refl }
 
   module _ (p : ℕ) (h : at < p) (w : Walked list at p) where
-    pub walked_on : p + 16 ≤ length list → head_first (drop p list) ≡ false → Walked list at (p + 16)
-    walked_on l f =
+    record_on : p + 16 ≤ length list → head_first (drop p list) ≡ false → Walked list at (p + 16)
+    record_on l f =
         let e : p + 16 - at ≡ (p - at) + 16 = omega arith in
         let longer : take (p + 16 - at) (drop at list) ≡ take (p - at) (drop at list) ++ take 16 (drop p list)
         = ap (λ n. take n (drop at list)) e ∙ take-add (p - at) 16 (drop at list)
@@ -54,6 +54,9 @@ module _ (list : List ℕ) (at : ℕ) where
               (operations_of (drop (p + 16) list))
               ∙ ap (λ b. in_front b (head_first (drop (p + 16) list)) (operations_of (drop (p + 16) list))) (sym longer);
         }
+
+    pub walked_on : {q : ℕ} → q ≡ p + 16 → p + 16 ≤ length list → head_first (drop p list) ≡ false → Walked list at q
+    walked_on r l f = rw r (record_on l f)
 
     pub walked-head : p ≤ length list → head_first (drop p list) ≡ true → EndsAt list at p
     unfolding in_front

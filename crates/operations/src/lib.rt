@@ -23,12 +23,11 @@ pub fn operation_end(list: &[u8], at: usize) -> usize
     if n - at < 16 {
         return n;
     }
-    let mut p = at + 16;
-    while 16 <= n - p {
+    for k in 1..(n - at) / 16 {
+        let p = at + k * 16;
         if is_head(list[p]) {
             return p;
         }
-        p += 16;
     }
     n
 }
@@ -39,6 +38,7 @@ pub fn count_operations(list: &[u8]) -> usize
     let n = list.len();
     let mut at: usize = 0;
     let mut count: usize = 0;
+    // A `while`: where an operation ends stands in the list.
     while at < n {
         at = operation_end(list, at);
         count += 1;

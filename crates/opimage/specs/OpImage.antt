@@ -7,15 +7,17 @@ use Rattle.limits.specs.Limits.{dot_limit, key_limit}
 use Rattle.clock.specs.Dots.{dots_of, clock_of}
 use Rattle.removals.specs.declared.Removal.{Removal}
 use Rattle.entries.specs.declared.Update.{Update}
-use Rattle.removals.specs.Model.{under_of, listed_in, removal_as, no_removal}
-use Rattle.entries.specs.Model.{no_update}
+use Rattle.removals.specs.Model.{under_of, listed_in, removal_as}
 use Rattle.map.specs.declared.Op.{Op}
+use Rattle.map.specs.Model.{no_op}
 use Rattle.records.specs.declared.Record.{Record}
 use Rattle.records.specs.Records.{bytes_of}
 use Rattle.records.specs.Kinds.{removal_kind, removal_dot_kind, removal_key_kind, update_kind, put_value_kind, put_dot_kind}
 use Rattle.scan.specs.Numbers.{scan_number}
 use Rattle.clockimage.specs.Image.{is_kind, dot_of, dot_records, content_of, content_record, dots_from, image_of}
-use Rattle.opimage.specs.declared.ReadOp.{ReadOp}
+use Rattle.std.specs.declared.result.Result.{Result}
+use Rattle.refusals.specs.declared.Refusal.{Refusal}
+use Rattle.refusals.specs.Numbers.{number_told, done_or}
 
 abbrev pub op_longest : ℕ
 op_longest = (1 + dot_limit + key_limit) * 16
@@ -84,8 +86,17 @@ update_in l = record {
 abbrev pub op_in : List Record → Op
 op_in l = record { up = eqb (how_many update_kind l) 1; removal = removal_in l; update = update_in l }
 
+-- a number of 01, and the operation, which holds zeros where the number is not 0
+pub record ReadOp : Type 0 where
+  pub number : ℕ
+  pub op : Op
+
+-- what reading an operation answers
+abbrev pub op_reading : Result Op Refusal → ReadOp
+op_reading r = record { number = number_told r; op = done_or no_op r }
+
 abbrev pub refused_op : ℕ → ReadOp
-refused_op n = record { number = n; op = record { up = mathlib.Core.Bool.false; removal = no_removal; update = no_update } }
+refused_op n = record { number = n; op = no_op }
 
 -- the records of an operation's image: 1, 2, 3, or the operation
 abbrev pub judged_op : List Record → ReadOp

@@ -8,7 +8,7 @@ ghost use Rattle.records.specs.declared.Record.{Record};
 ghost use Rattle.records.specs.Records.{bytes_of};
 ghost use Rattle.records.specs.Writing.{Wrote};
 ghost use Rattle.records.specs.Kinds.{removal_kind, put_dot_kind};
-ghost use Rattle.opimage.specs.OpImage.{key_record, removal_records, update_records, op_image, removes, updates, judged_op, refused_op, read_op};
+ghost use Rattle.opimage.specs.OpImage.{key_record, removal_records, update_records, op_image, removes, updates, judged_op, op_reading, read_op};
 ghost use Rattle.opimage.specs.SoFar.{OpParts, OpSoFar};
 ghost use Rattle.scan.specs.Scanned.{Scanned};
 
@@ -17,19 +17,13 @@ use entries::Update;
 use limits::{DOTS, KEYS};
 use map::Op;
 use records::{PUT_DOT, PUT_VALUE, REMOVAL, REMOVAL_DOT, REMOVAL_KEY, Record, UPDATE};
+use refusals::Refusal;
 use register::{Content, Value};
 use removals::{Keys, Removal};
 use scan::Scan;
 
 // The longest image of an operation.
 pub const OP_LONGEST: usize = (1 + DOTS + KEYS) * 16;
-
-// What an image was read as: a number of document 01, and the operation, which is the empty removal where the number is not 0.
-#[derive(Clone, Copy)]
-pub struct ReadOp {
-    pub number: u8,
-    pub op: Op,
-}
 
 // An operation's image so far: it takes one record at a time, and is asked at the end.
 #[derive(Clone, Copy)]
@@ -49,17 +43,13 @@ pub fn write_keys(out: &mut [u8], at: usize, kind: u8, index: u8, keys: Keys) ->
     requires { at + length (keys_of keys) * 16 ≤ length out.old }
     ensures { Wrote at (bytes_of (map (key_record kind index) (keys_of keys))) out.old out.new result }
 {
-    let n = keys.size();
     let mut next = at;
-    let mut i: usize = 0;
-    while i < n {
-        let k = keys.items[i];
-        i += 1;
+    for k in keys.as_slice() {
         let r = Record {
             kind,
             index,
             actor: 0,
-            key: k,
+            key: *k,
             number: 0,
         };
         next = records::write_record(out, next, r);
@@ -174,32 +164,6 @@ fn updates(counts: [u8; 13]) -> bool
                 & ((counts[REMOVAL_DOT as usize] == 0) & (counts[REMOVAL_KEY as usize] == 0))))
 }
 
-fn refused(number: u8) -> ReadOp
-    ensures { result ≡ refused_op number }
-{
-    let none = Clock::new();
-    let keys = Keys::new();
-    let removal = Removal { clock: none, keys };
-    let dot = Dot {
-        actor: 0,
-        counter: 0,
-    };
-    let put = Value {
-        clock: none,
-        value: Content {
-            number: 0,
-            origin: 0,
-        },
-    };
-    let update = Update { dot, key: 0, put };
-    let op = Op {
-        up: false,
-        removal,
-        update,
-    };
-    ReadOp { number, op }
-}
-
 impl OpReader {
     pub fn new() -> OpReader
         ensures { OpSoFar [] result }
@@ -269,13 +233,10 @@ impl OpReader {
     }
 
     // What the records are as a whole.
-    pub fn verdict(self) -> ReadOp
-        ensures { (l : List Record) → OpSoFar l self → result ≡ judged_op l }
+    pub fn verdict(self) -> Result<Op, Refusal>
+        ensures { (l : List Record) → OpSoFar l self → op_reading result ≡ judged_op l }
     {
-        let scan = self.scan;
-        if scan.number != 0 {
-            return refused(scan.number);
-        }
+        scan::verdict(self.scan.number)?;
         let counts = self.counts;
         let up = updates(counts);
         if removes(counts) | up {
@@ -304,28 +265,25 @@ impl OpReader {
                 removal,
                 update,
             };
-            return ReadOp { number: 0, op };
+            return Ok(op);
         }
-        refused(3)
+        Err(Refusal::Unrelated)
     }
 }
 
-pub fn read_op(bytes: &[u8]) -> ReadOp
-    ensures { result ≡ read_op bytes.now }
+pub fn read_op(bytes: &[u8]) -> Result<Op, Refusal>
+    ensures { op_reading result ≡ read_op bytes.now }
 {
     let len = bytes.len();
     if OP_LONGEST < len {
-        return refused(2);
+        return Err(Refusal::OverLimit);
     }
     if len % 16 != 0 {
-        return refused(1);
+        return Err(Refusal::Malformed);
     }
-    let n = len / 16;
     let mut reader = OpReader::new();
-    let mut i: usize = 0;
-    while i < n {
+    for i in 0..len / 16 {
         let r = records::read_record(bytes, i * 16);
-        i += 1;
         reader = reader.take(r);
     }
     reader.verdict()

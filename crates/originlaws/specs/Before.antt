@@ -6,10 +6,10 @@ use Rattle.records.specs.Kinds.{fields_ok, counter_ok, clock_dot_kind, waiting_k
 use Rattle.scan.specs.Each.{every, each}
 use Rattle.scan.specs.Limits.{Limits, today, outer, middle, same_kind, same_outer, same_middle, tally, within_limits_by}
 use Rattle.clockimage.specs.Image.{image_of}
-use Rattle.opimage.specs.declared.ReadOp.{ReadOp}
+use Rattle.opimage.specs.OpImage.{ReadOp}
 use Rattle.opimage.specs.OpImage.{op_longest, op_related, op_in, refused_op}
 use Rattle.mapimage.specs.MapImage.{map_longest}
-use Rattle.maprecords.specs.declared.ReadMap.{ReadMap}
+use Rattle.maprecords.specs.Related.{ReadMap}
 use Rattle.maprecords.specs.Reading.{map_in}
 use Rattle.maprecords.specs.Related.{related, refused_map}
 

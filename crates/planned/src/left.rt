@@ -11,6 +11,7 @@ ghost use Rattle.records.specs.Kinds.{waiting_dot_kind};
 ghost use Rattle.clockimage.specs.Image.{dot_records};
 ghost use Rattle.runs.specs.Run.{run_dots};
 ghost use Rattle.marks.specs.Marks.{picked};
+ghost use Rattle.walks.specs.Walk.{between};
 ghost use Rattle.planned.specs.declared.Held.{Held};
 ghost use Rattle.planned.specs.Left.{left_in, RunWithin, Clear, whole_run};
 
@@ -31,20 +32,26 @@ pub fn whole(second: bool, from: usize, to: usize) -> Held
     }
 }
 
+// Its run where it lies.
+fn run_of(s: &[u8], x: Held) -> &[u8]
+    requires { RunWithin s.now x }
+    ensures { result.now ≡ between s.now x.from x.to }
+{
+    &s[x.from * 16..x.to * 16]
+}
+
 // The first place from one on whose mark is set, or n.
 fn next_left(marks: [bool; DOTS], from: usize, n: usize) -> usize
     requires { (from ≤ n) × (n ≤ dot_limit) }
     ensures { ((from ≤ result) × (result ≤ n)) × ((result < n → get_or marks result false ≡ true)
         × ((l : List Dot) → length l ≡ n → picked (drop from marks) (drop from l) ≡ picked (drop result marks) (drop result l))) }
 {
-    let mut i = from;
-    while i < n {
+    for i in from..n {
         if marks[i] {
             return i;
         }
-        i += 1;
     }
-    i
+    n
 }
 
 // Whether what is left of one run stands before what is left of another: dots pair by pair, a prefix first.
@@ -56,6 +63,7 @@ fn left_before(x: &[u8], mine: [bool; DOTS], y: &[u8], yours: [bool; DOTS]) -> b
     let m = y.len() / 16;
     let mut i = next_left(mine, 0, n);
     let mut j = next_left(yours, 0, m);
+    // A `while`: each of the two runs is walked at its own pace.
     while i < n && j < m {
         let d = marks::dot_at(x, i);
         let e = marks::dot_at(y, j);
@@ -76,13 +84,7 @@ pub fn before(s: &[u8], x: Held, t: &[u8], y: Held) -> bool
     requires { RunWithin s.now x × RunWithin t.now y }
     ensures { result ≡ clock_before (left_in s.now x) (left_in t.now y) }
 {
-    let mine = x.marks;
-    let yours = y.marks;
-    let from = x.from * 16;
-    let to = x.to * 16;
-    let start = y.from * 16;
-    let end = y.to * 16;
-    left_before(&s[from..to], mine, &t[start..end], yours)
+    left_before(run_of(s, x), x.marks, run_of(t, y), y.marks)
 }
 
 // Without what a clock has seen.
@@ -91,10 +93,7 @@ pub fn cut(s: &[u8], x: Held, by: Clock) -> Held
     ensures { ((result.second ≡ x.second) × ((result.from ≡ x.from) × (result.to ≡ x.to)))
         × (left_in s.now result ≡ cut_dots (dots_of by) (left_in s.now x)) }
 {
-    let all = x.marks;
-    let from = x.from * 16;
-    let to = x.to * 16;
-    let marks = marks::cut_marks(&s[from..to], all, by);
+    let marks = marks::cut_marks(run_of(s, x), x.marks, by);
     Held {
         second: x.second,
         from: x.from,
@@ -108,8 +107,7 @@ pub fn count(x: Held) -> usize
     requires { (s : List ℕ) × RunWithin s x }
     ensures { (result ≤ dot_limit) × ((s : List ℕ) → RunWithin s x → result ≡ length (left_in s x)) }
 {
-    let marks = x.marks;
-    marks::count_marks(marks, x.to - x.from)
+    marks::count_marks(x.marks, x.to - x.from)
 }
 
 // Whether a dot is left where what a clock has seen is cut.
@@ -128,8 +126,5 @@ pub fn write(out: &mut [u8], at: usize, index: u8, s: &[u8], x: Held) -> usize
     ensures { Wrote at (bytes_of (dot_records waiting_dot_kind index 0 (left_in s.now x))) out.old
         out.new result }
 {
-    let marks = x.marks;
-    let from = x.from * 16;
-    let to = x.to * 16;
-    marks::write_picked(out, at, WAITING_DOT, index, 0, &s[from..to], marks)
+    marks::write_picked(out, at, WAITING_DOT, index, 0, run_of(s, x), x.marks)
 }

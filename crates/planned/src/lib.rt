@@ -66,13 +66,7 @@ fn in_turn(s: &[u8], mine: bool, x: Held, t: &[u8], yours: bool, y: Held) -> boo
     requires { (mine ≡ true → RunWithin s.now x) × (yours ≡ true → RunWithin t.now y) }
     ensures { result ≡ mine && not (yours && clock_before (left_in t.now y) (left_in s.now x)) }
 {
-    if mine {
-        if yours {
-            return !left::before(t, y, s, x);
-        }
-        return true;
-    }
-    false
+    mine && !(yours && left::before(t, y, s, x))
 }
 
 // What comes next of two lists, of which one at least has a removal left.
@@ -107,7 +101,7 @@ fn next_turn(s: &[u8], mine: bool, x: Held, t: &[u8], yours: bool, y: Held, seen
 fn place(i: usize) -> usize
     ensures { (result < waiting_limit) × (i < waiting_limit → result ≡ i) }
 {
-    if i < WAITING { i } else { WAITING - 1 }
+    i.min(WAITING - 1)
 }
 
 // One more where it is in turn.
@@ -141,6 +135,7 @@ pub fn join_plan(s: &[u8], q: Queue, t: &[u8], p: Queue, seen: Clock) -> Plan
     let mut count: usize = 0;
     let mut i: usize = 0;
     let mut j: usize = 0;
+    // A `while`: each of the two queues is walked at its own pace.
     while (i < n) | (j < m) {
         let a = place(i);
         let b = place(j);
@@ -192,13 +187,9 @@ pub fn count_dots(p: Plan) -> usize
     requires { (p.over ≡ false) × ((s t : List ℕ) × (w v result : List Removal) × Plans s t w v result p) }
     ensures { (s t : List ℕ) (w v united : List Removal) → Plans s t w v united p → result ≡ length (flat_from waiting_dots 0 united) }
 {
-    let n = queued::places(p.len);
     let mut total: usize = 0;
-    let mut i: usize = 0;
-    while i < n {
-        let x = p.items[i];
-        i += 1;
-        total += left::count(x);
+    for x in &p.items[..queued::places(p.len)] {
+        total += left::count(*x);
     }
     total
 }
@@ -223,14 +214,9 @@ pub fn write_clocks(out: &mut [u8], at: usize, s: &[u8], t: &[u8], p: Plan) -> u
         → at + length (flat_from waiting_dots 0 united) * 16 ≤ length out.old
         → Wrote at (bytes_of (flat_from waiting_dots 0 united)) out.old out.new result) }
 {
-    let n = queued::places(p.len);
     let mut next = at;
-    let mut i: usize = 0;
-    while i < n {
-        let x = p.items[i];
-        let index = i as u8;
-        i += 1;
-        next = write_held(out, next, index, s, t, x);
+    for (i, x) in p.items[..queued::places(p.len)].iter().enumerate() {
+        next = write_held(out, next, i as u8, s, t, *x);
     }
     next
 }

@@ -23,15 +23,12 @@ fn seat(s: &[u8], all: Ordered, x: Held) -> usize
         → result ≡ seat_of d l) }
 {
     let n = queued::places(all.len);
-    let mut i: usize = 0;
-    while i < n {
-        let y = all.items[i];
-        if !left::before(s, y, s, x) {
+    for i in 0..n {
+        if !left::before(s, all.items[i], s, x) {
             return i;
         }
-        i += 1;
     }
-    i
+    n
 }
 
 // Whether one is there, at its place.
@@ -57,11 +54,9 @@ fn insert(all: Ordered, k: usize, x: Held) -> Ordered
     let n = all.len;
     let mut out = all;
     out.items[k] = x;
-    let mut i = k;
-    while i < n {
-        let y = all.items[i];
-        i += 1;
-        out.items[i] = y;
+    // A copy of the whole slice would make the archive call memmove.
+    for i in k..n {
+        out.items[i + 1] = all.items[i];
     }
     out.len = n + 1;
     out
@@ -96,16 +91,13 @@ pub fn cut_all(s: &[u8], q: Queue, by: Clock) -> Ordered
     ensures { (w : List Removal) → Queued s.now q w
         → Lined s.now result (gather_all [] (map under_of (map (cut_removal (dots_of by)) w))) }
 {
-    let n = queued::places(q.len);
     let none = left::whole(false, 0, 0);
     let mut all = Ordered {
         items: [none; WAITING],
         len: 0,
     };
-    let mut i: usize = 0;
-    while i < n {
-        let x = cut_at(s, q, i, by);
-        i += 1;
+    for k in 0..queued::places(q.len) {
+        let x = cut_at(s, q, k, by);
         if 0 < left::count(x) {
             all = add(s, all, x);
         }
@@ -120,13 +112,9 @@ pub fn seats(s: &[u8], q: Queue, by: Clock, all: Ordered) -> [u8; WAITING]
         → (a : ℕ) → a < waiting_limit → get_or result a waiting_limit
         ≡ place_among l (get_or (map under_of (map (cut_removal (dots_of by)) w)) a []) }
 {
-    let n = queued::places(q.len);
     let mut out: [u8; WAITING] = [WAITING as u8; WAITING];
-    let mut i: usize = 0;
-    while i < n {
-        let x = cut_at(s, q, i, by);
-        let k = i;
-        i += 1;
+    for k in 0..queued::places(q.len) {
+        let x = cut_at(s, q, k, by);
         if 0 < left::count(x) {
             out[k] = seat(s, all, x) as u8;
         }

@@ -6,7 +6,7 @@ use native.Mathlib.Omega.{arith}
 use borrow.Author.Tests.{ne_eqb}
 use lib.Dec.{eqb}
 use lib.ListN.{length}
-use Rattle.map.specs.declared.Judged.{Judged}
+use Rattle.map.specs.Judging.{Judged}
 use Rattle.asking.specs.declared.Made.{Made}
 use Rattle.opimage.specs.OpImage.{op_image}
 use Rattle.mapimage.specs.MapImage.{map_image}
@@ -22,6 +22,10 @@ module _ (a : Answer) (o : List ℕ) {n w : ℕ} where
 
   pub second-out : a.first ≡ 0 → n ≡ a.second → (n ≡ 0 → ⊥) → w ≡ n * 2 ^ 32 → Answered a o o w
   second-out p e h q = rw q (refuses a o (number-second a o p e h) h)
+
+  -- both images pass, and the call's own work is refused
+  pub own-out : a.first ≡ 0 → a.second ≡ 0 → n ≡ a.own → (n ≡ 0 → ⊥) → w ≡ n * 2 ^ 32 → Answered a o o w
+  own-out p q e h z = rw z (refuses a o (number-own a o p q e h) h)
 
 -- both images pass, and a map or an operation is answered
 pub map-out : (first second : ℕ) {j k : Judged} {o d : List ℕ} {r : ℕ} → first ≡ 0 → second ≡ 0 → j ≡ k

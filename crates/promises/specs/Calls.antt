@@ -2,7 +2,7 @@
 use Rattle.std.specs.Prelude.{ℕ, List, []}
 use Rattle.clock.specs.Dots.{dots_of}
 use Rattle.register.specs.declared.Content.{Content}
-use Rattle.map.specs.declared.Judged.{Judged}
+use Rattle.map.specs.Judging.{Judged}
 use Rattle.asking.specs.declared.Made.{Made}
 use Rattle.asking.specs.declared.CmRDTValidation.{CmRDTValidation}
 use Rattle.asking.specs.declared.CvRDTValidation.{CvRDTValidation}

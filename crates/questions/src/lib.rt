@@ -1,10 +1,11 @@
 // The file of cases that replay makes: decimal numbers in a fixed order, and between them whatever helps a reader.
 #![tactic(auto)]
 
+ghost use Rattle.std.specs.Prelude.{◌<◌};
+
 use clock::{Clock, Dot};
 use limits::{DOTS, ENTRIES, KEYS, VALUES, WAITING};
 use records::{CLOCK_DOT, Record};
-use std::num::wrapping_add_u64;
 
 // The records that a buffer has room for, a dozen more than the longest map has, and their bytes.
 pub const RECORDS: usize = DOTS
@@ -14,12 +15,8 @@ pub const RECORDS: usize = DOTS
 
 pub const BUFFER: usize = RECORDS * 16;
 
-// A number of the file, and the place behind it.
-#[derive(Clone, Copy)]
-pub struct Found {
-    pub value: u64,
-    pub at: usize,
-}
+// One more than the longest map has bytes.
+const LENGTHS: u64 = 28993;
 
 // One call with its plain arguments, and the word that the oracle answers.
 #[derive(Clone, Copy)]
@@ -35,130 +32,116 @@ pub struct Question {
     pub room: usize,
     pub number: usize,
     pub word: u64,
-    pub at: usize,
 }
 
-// An image's length, and the place behind it.
-#[derive(Clone, Copy)]
-pub struct Extent {
+// An image at the start of a buffer.
+#[derive(Drop)]
+pub struct Image {
+    pub buffer: [u8; BUFFER],
     pub len: usize,
-    pub at: usize,
 }
 
-// The number with one digit more; the low half of a digit's byte is the digit.
-fn longer(value: u64, digit: u8) -> u64 {
-    let twice = wrapping_add_u64(value, value);
-    let four = wrapping_add_u64(twice, twice);
-    let eight = wrapping_add_u64(four, four);
-    let ten = wrapping_add_u64(eight, twice);
-    wrapping_add_u64(ten, (digit % 16) as u64)
-}
-
-// The next number from a place on; 0 behind the last one.
-pub fn number(file: &[u8], from: usize) -> Found {
-    let mut value = 0;
-    let mut begun = false;
-    let mut at = from;
-    while at < file.len() {
-        let b = file[at];
-        at += 1;
-        if (48 <= b) & (b <= 57) {
-            value = longer(value, b);
-            begun = true;
-        } else if begun {
-            break;
+impl Image {
+    // No image, in a buffer full of one byte.
+    pub fn painted(paint: u8) -> Self {
+        Image {
+            buffer: [paint; BUFFER],
+            len: 0,
         }
     }
-    Found { value, at }
-}
 
-// A field too large for its type is cut to it: the host writes none, and the file's sum tells of others.
-pub fn read_question(file: &[u8], from: usize) -> Question {
-    let call = number(file, from);
-    let fresh = number(file, call.at);
-    let actor = number(file, fresh.at);
-    let key = number(file, actor.at);
-    let value = number(file, key.at);
-    let origin = number(file, value.at);
-    let room = number(file, origin.at);
-    let refusal = number(file, room.at);
-    let length = number(file, refusal.at);
-    Question {
-        call: (call.value % 21) as usize,
-        fresh: fresh.value != 0,
-        actor: (actor.value % 65536) as u16,
-        key: (key.value % 4294967296) as u32,
-        value: value.value,
-        origin: (origin.value % 65536) as u16,
-        room: (room.value % 28993) as usize,
-        number: (refusal.value % 13) as usize,
-        word: wrapping_add_u64((refusal.value % 13) * 4294967296, length.value),
-        at: length.at,
+    pub fn bytes(&self) -> &[u8] {
+        &self.buffer[..self.len.min(BUFFER)]
     }
 }
 
-// A record, and the place behind it.
-#[derive(Clone, Copy)]
-struct Placed {
-    record: Record,
-    at: usize,
+// What of a file is not read yet.
+#[derive(Drop)]
+pub struct Reader<'a> {
+    rest: &'a [u8],
 }
 
-fn line(file: &[u8], from: usize) -> Placed {
-    let kind = number(file, from);
-    let index = number(file, kind.at);
-    let actor = number(file, index.at);
-    let key = number(file, actor.at);
-    let last = number(file, key.at);
-    let record = Record {
-        kind: (kind.value % 256) as u8,
-        index: (index.value % 256) as u8,
-        actor: (actor.value % 65536) as u16,
-        key: (key.value % 4294967296) as u32,
-        number: last.value,
-    };
-    Placed {
-        record,
-        at: last.at,
+impl<'a> Reader<'a> {
+    pub fn new(file: &'a [u8]) -> Self {
+        Reader { rest: file }
     }
-}
 
-// Reads an image: its length in bytes, and records until there are that many; the last may be cut.
-pub fn read_image(file: &[u8], from: usize, into: &mut [u8; BUFFER]) -> Extent {
-    let length = number(file, from);
-    let len = (length.value % 28993) as usize;
-    let mut at = length.at;
-    for i in 0..RECORDS {
-        if i * 16 < len {
-            let l = line(file, at);
-            records::write_record(into, i * 16, l.record);
-            at = l.at;
+    // The next number; 0 behind the last one. The low half of a digit's byte is the digit.
+    pub fn number(&mut self) -> u64 {
+        let file = self.rest;
+        let start = file
+            .iter()
+            .position(|b| b.is_ascii_digit())
+            .unwrap_or(file.len());
+        let file = &file[start..];
+        let end = file
+            .iter()
+            .position(|b| !b.is_ascii_digit())
+            .unwrap_or(file.len());
+        self.rest = &file[end..];
+        let mut value: u64 = 0;
+        for digit in &file[..end] {
+            value = value.wrapping_mul(10).wrapping_add(u64::from(*digit % 16));
+        }
+        value
+    }
+
+    // A field too large for its type is cut to it: the host writes none, and the file's sum tells of others.
+    pub fn question(&mut self) -> Question {
+        let call = (self.number() % 21) as usize;
+        let fresh = self.number() != 0;
+        let actor = (self.number() % 65536) as u16;
+        let key = (self.number() % 4294967296) as u32;
+        let value = self.number();
+        let origin = (self.number() % 65536) as u16;
+        let room = (self.number() % LENGTHS) as usize;
+        let number = self.number() % 13;
+        let length = self.number();
+        Question {
+            call,
+            fresh,
+            actor,
+            key,
+            value,
+            origin,
+            room,
+            number: number as usize,
+            word: (number * 4294967296).wrapping_add(length),
         }
     }
-    Extent { len, at }
-}
 
-// Whether two buffers hold the same bytes.
-pub fn same(a: &[u8; BUFFER], b: &[u8; BUFFER]) -> bool {
-    for i in 0..BUFFER {
-        if a[i] != b[i] {
-            return false;
+    fn record(&mut self) -> Record {
+        Record {
+            kind: (self.number() % 256) as u8,
+            index: (self.number() % 256) as u8,
+            actor: (self.number() % 65536) as u16,
+            key: (self.number() % 4294967296) as u32,
+            number: self.number(),
         }
     }
-    true
+
+    // Reads an image: its length in bytes, and records until there are that many; the last may be cut.
+    pub fn image(&mut self, into: &mut Image) {
+        into.len = (self.number() % LENGTHS) as usize;
+        for i in 0..into.len.div_ceil(16) {
+            records::write_record(&mut into.buffer, i * 16, self.record());
+        }
+    }
 }
 
-fn dot(image: &[u8; BUFFER], place: usize) -> Dot {
-    let at = (place % 9) * 16;
-    let r = records::read_record(image, at);
+fn dot(image: &[u8; BUFFER], place: usize) -> Dot
+    requires { place < 9 }
+{
+    let r = records::read_record(image, place * 16);
     Dot {
         actor: r.actor,
         counter: r.number,
     }
 }
 
-fn put(out: &mut [u8; BUFFER], place: usize, d: Dot) {
-    let at = (place % 9) * 16;
+fn put(out: &mut [u8; BUFFER], place: usize, d: Dot)
+    requires { place < 9 }
+{
     let record = Record {
         kind: CLOCK_DOT,
         index: 0,
@@ -166,56 +149,42 @@ fn put(out: &mut [u8; BUFFER], place: usize, d: Dot) {
         key: 0,
         number: d.counter,
     };
-    records::write_record(out, at, record);
+    records::write_record(out, place * 16, record);
 }
 
 // A lent clock is written as its eight places and, in a ninth record, its length.
 pub fn lent_clock(image: &[u8; BUFFER]) -> Clock {
-    let dots = [
-        dot(image, 0),
-        dot(image, 1),
-        dot(image, 2),
-        dot(image, 3),
-        dot(image, 4),
-        dot(image, 5),
-        dot(image, 6),
-        dot(image, 7),
-    ];
-    let last = dot(image, 8);
+    let mut dots = [Dot {
+        actor: 0,
+        counter: 0,
+    }; DOTS];
+    for i in 0..DOTS {
+        dots[i] = dot(image, i);
+    }
     Clock {
         dots,
-        len: last.counter as usize,
+        len: dot(image, DOTS).counter as usize,
     }
 }
 
 pub fn write_lent_clock(out: &mut [u8; BUFFER], clock: Clock) {
-    put(out, 0, clock.dots[0]);
-    put(out, 1, clock.dots[1]);
-    put(out, 2, clock.dots[2]);
-    put(out, 3, clock.dots[3]);
-    put(out, 4, clock.dots[4]);
-    put(out, 5, clock.dots[5]);
-    put(out, 6, clock.dots[6]);
-    put(out, 7, clock.dots[7]);
+    for i in 0..DOTS {
+        put(out, i, clock.dots[i]);
+    }
     let length = Dot {
         actor: 0,
         counter: clock.len as u64,
     };
-    put(out, 8, length);
+    put(out, DOTS, length);
 }
 
-fn wide(x: u8) -> u64 {
-    x as u64
-}
-
-// Adler-32 of the whole file, so that a changed file shows. A remainder is taken where it is used, so that
-// no invariant has to carry it.
+// Adler-32 of the whole file, so that a changed file shows.
 pub fn sum(file: &[u8]) -> u64 {
     let mut low: u64 = 1;
     let mut high: u64 = 0;
-    for i in 0..file.len() {
-        low = (low % 65521 + wide(file[i]) % 256) % 65521;
-        high = (high % 65521 + low % 65521) % 65521;
+    for b in file {
+        low = (low + u64::from(*b)) % 65521;
+        high = (high + low) % 65521;
     }
-    (high % 65521) * 65536 + low % 65521
+    high * 65536 + low
 }

@@ -3,10 +3,8 @@ use mathlib.Core.Path.{◌≡◌, ap, ap₂, ◌∙◌}
 use mathlib.Core.Bool.{true, false, cond}
 use mathlib.Core.List.{List}
 use Prim.Native.Nat.{ℕ, ◌+◌, ◌≤◌, ◌<◌}
-use lib.ListN.{length, take, get_or}
-use lib.Seq.{take-length}
-use Rattle.listlaws.specs.Fold.{fold}
-use Rattle.listlaws.proofs.Folding.{Folding, folding-on, folding-end}
+use lib.ListN.{length, get_or}
+use Rattle.listlaws.proofs.SliceFolding.{Folding, folding-on, folding-end}
 use Rattle.clock.specs.declared.Clock.{Clock}
 use Rattle.clock.specs.declared.Dot.{Dot}
 use Rattle.clock.specs.Dots.{dots_of, clock_of, cut_dots}
@@ -22,38 +20,32 @@ module _ (w : List Removal) (key : ℕ) where
 
   -- i removals have been looked at
   abbrev pub Cutting : List Dot → ℕ → Clock → Type 0
-  Cutting d i out = Folding clock_of cut_by d w (length w) i out
+  Cutting d i out = Folding clock_of cut_by d w i out
 
   module _ {d : List Dot} {i : ℕ} {out : Clock} (f : Cutting d i out) (h : i < length w) where
-    here : i < length (take (length w) w)
-    here = rw (take-length w) h
-
     pub cut_on : {by next : Clock} → by ≡ clock_of (under_of (get_or w i no_removal)) → lists w i key ≡ true
         → next ≡ clock_of (cut_dots (dots_of by) (dots_of out)) → Cutting d (i + 1) next
-    cut_on b t n = folding-on no_removal f here (λ s p. n
+    cut_on b t n = folding-on no_removal f h (λ s p. n
         ∙ rw t (ap clock_of (ap₂ cut_dots (dots-of (under_of (get_or w i no_removal)) b) (dots-of s p))))
 
     pub cut-not : lists w i key ≡ false → Cutting d (i + 1) out
-    cut-not t = folding-on no_removal f here (λ s p. p ∙ rw t)
+    cut-not t = folding-on no_removal f h (λ s p. p ∙ rw t)
 
   pub cut-end : {d : List Dot} {i : ℕ} {out : Clock} → Cutting d i out → length w ≤ i → out ≡ clock_of (cuts_for w key d)
   unfolding cuts_for
-  cut-end {d} f h = folding-end f (rw (take-length w) h) ∙ ap (λ l. clock_of (fold cut_by d l)) (take-length w)
+  cut-end f h = folding-end f h
 
   -- the same of marks on a run, whose dots are these
   abbrev pub MarksCutting : List Dot → ℕ → List Dot → Type 0
-  MarksCutting d i left = Folding (λ x. x) cut_by d w (length w) i left
+  MarksCutting d i left = Folding (λ x. x) cut_by d w i left
 
   module _ {d : List Dot} {i : ℕ} {left : List Dot} (f : MarksCutting d i left) (h : i < length w) where
-    inside : i < length (take (length w) w)
-    inside = rw (take-length w) h
-
     pub marks-on : {more : List Dot} → lists w i key ≡ true → more ≡ cut_dots (under_of (get_or w i no_removal)) left → MarksCutting d (i + 1) more
-    marks-on t n = folding-on no_removal f inside (λ s p. n ∙ rw t (ap (cut_dots (under_of (get_or w i no_removal))) p))
+    marks-on t n = folding-on no_removal f h (λ s p. n ∙ rw t (ap (cut_dots (under_of (get_or w i no_removal))) p))
 
     pub marks-not : lists w i key ≡ false → MarksCutting d (i + 1) left
-    marks-not t = folding-on no_removal f inside (λ s p. p ∙ rw t)
+    marks-not t = folding-on no_removal f h (λ s p. p ∙ rw t)
 
   pub marks-end : {d : List Dot} {i : ℕ} {left : List Dot} → MarksCutting d i left → length w ≤ i → left ≡ cuts_for w key d
   unfolding cuts_for
-  marks-end {d} f h = folding-end f (rw (take-length w) h) ∙ ap (λ l. fold cut_by d l) (take-length w)
+  marks-end f h = folding-end f h

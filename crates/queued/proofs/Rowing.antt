@@ -4,7 +4,7 @@ use mathlib.Core.Bool.{Bool, true, false, ◌||◌}
 use mathlib.Core.List.Memᴰ
 use mathlib.Core.List.{List, [], ◌∷◌, ◌++◌, map}
 use mathlib.Core.Logic.{◌⊎◌, inl, inr, ⊎_elim}
-use Prim.Native.Nat.{ℕ, suc, ◌+◌, ◌*◌, ◌^◌, ◌≤◌, ◌<◌}
+use Prim.Native.Nat.{ℕ, suc, ◌+◌, ◌*◌, ◌^◌, ◌≤◌, ◌<◌, min}
 use native.Mathlib.Omega.{arith}
 use native.Mathlib.Numerals.{add-one}
 use lib.Dec.{eqb, ltb, leb}
@@ -113,6 +113,10 @@ module _ {s : List ℕ} {i n low : ℕ} {w : List Removal} (k : Keyed s i n (key
   none-next h a key t g =
       none_from (key_number 0 low) (numbers_of w) (sym (ap (map rank) (part_end s i n h)) ∙ k.numbers) (key_number a key)
       (lists-number w k.few a key t) (omega arith)
+
+-- the lower of two numbers
+pub lower : (a b : ℕ) {m : ℕ} → m ≡ min a b → (m ≤ a) × ((m ≤ b) × (m < a → m ≡ b))
+lower a b e = (omega (arith, e), (omega (arith, e), λ h. omega (arith, e, h)))
 
 -- the lower of two heads is the head of a list that has one, and no higher than the other's
 pub record Heads (s : List ℕ) (i n : ℕ) (key : ℕ) : Type 0 where

@@ -4,16 +4,16 @@
 ghost use Rattle.std.specs.Prelude.{◌≡◌, List, [], ℕ, ◌+◌, ◌*◌, ◌≤◌, ◌<◌, length, get_or};
 ghost use Rattle.clock.specs.declared.Dot.{Dot};
 ghost use Rattle.limits.specs.Limits.{dot_limit, waiting_limit};
-ghost use Rattle.clock.specs.Dots.{clock_of, cut_dots};
+ghost use Rattle.clock.specs.Dots.{clock_of};
 ghost use Rattle.clock.specs.Lawful.{Lawful};
 ghost use Rattle.runs.specs.Run.{run_dots};
 ghost use Rattle.marks.specs.Marks.{picked};
 ghost use Rattle.removals.specs.declared.Removal.{Removal};
-ghost use Rattle.removals.specs.Model.{no_removal, under_of};
 ghost use Rattle.map.specs.Model.{waiting_in};
 ghost use Rattle.records.specs.Records.{record_from};
 ghost use Rattle.mapimage.specs.MapImage.{key_number};
 ghost use Rattle.maprecords.specs.Related.{read_map};
+ghost use Rattle.walks.specs.Walk.{between};
 ghost use Rattle.layout.specs.Whole.{Lies};
 ghost use Rattle.queued.specs.Queue.{Queued, cuts_for, Marked, Keyed};
 
@@ -76,23 +76,19 @@ pub fn queue_of(s: &[u8], l: Layout, n: usize) -> Queue
     let end = l.sixth;
     let mut at = l.fifth;
     let mut starts: [usize; QUEUE_STARTS] = [at; QUEUE_STARTS];
-    let mut i: usize = 0;
-    while i < n {
+    for i in 0..n {
         at = walks::first_from(s, BY_INDEX, i as u64 + 1, at, end);
-        i += 1;
-        starts[i] = at;
+        starts[i + 1] = at;
     }
     Queue { starts, len: n }
 }
 
-// The clock of a waiting removal.
-fn clock_at(s: &[u8], q: Queue, k: usize) -> Clock
+// The dots of a waiting removal where they lie.
+fn run_at(s: &[u8], q: Queue, k: usize) -> &[u8]
     requires { (w : List Removal) × Queued s.now q w × (k < length w) }
-    ensures { (w : List Removal) → Queued s.now q w → k < length w → result ≡ clock_of (under_of (get_or w k no_removal)) }
+    ensures { result.now ≡ between s.now (get_or q.starts k 0) (get_or q.starts (k + 1) 0) }
 {
-    let from = q.starts[k] * 16;
-    let to = q.starts[k + 1] * 16;
-    runs::clock_of(&s[from..to])
+    &s[q.starts[k] * 16..q.starts[k + 1] * 16]
 }
 
 // Which waiting removals list a key; keys below it are passed.
@@ -103,13 +99,11 @@ pub fn listers(s: &[u8], at: usize, end: usize, key: u32) -> Listing
         → Marked w key result.under × Keyed s.now result.next end (key_number 0 (key + 1)) w) }
 {
     let mut under: [bool; WAITING] = [false; WAITING];
-    let mut i = at;
-    while i < end {
+    for i in at..end {
         let r = records::read_record(s, i * 16);
         if key < r.key {
             return Listing { under, next: i };
         }
-        i += 1;
         if r.key == key {
             let k = r.index as usize;
             if k < WAITING {
@@ -117,14 +111,14 @@ pub fn listers(s: &[u8], at: usize, end: usize, key: u32) -> Listing
             }
         }
     }
-    Listing { under, next: i }
+    Listing { under, next: end }
 }
 
 // How many of n can be in use.
 pub fn places(n: usize) -> usize
     ensures { ((result ≤ waiting_limit) × (result ≤ n)) × (n ≤ waiting_limit → result ≡ n) }
 {
-    if n < WAITING { n } else { WAITING }
+    n.min(WAITING)
 }
 
 // A clock without what the removals that list a key have seen.
@@ -133,29 +127,14 @@ pub fn cut_listed(s: &[u8], q: Queue, under: [bool; WAITING], clock: Clock) -> C
     ensures { (w : List Removal) (key : ℕ) (d : List Dot) → Queued s.now q w → Marked w key under → clock ≡ clock_of d
         → result ≡ clock_of (cuts_for w key d) }
 {
-    let n = places(q.len);
     let mut out = clock;
-    let mut i: usize = 0;
-    while i < n {
-        let k = i;
-        i += 1;
+    for k in 0..places(q.len) {
         if under[k] {
-            let by = clock_at(s, q, k);
+            let by = runs::clock_of(run_at(s, q, k));
             out = out.cut(by).clock;
         }
     }
     out
-}
-
-// The marks of a run without what one waiting removal has seen.
-fn cut_marks_at(s: &[u8], q: Queue, k: usize, run: &[u8], marks: [bool; DOTS]) -> [bool; DOTS]
-    requires { ((w : List Removal) × Queued s.now q w × (k < length w)) × ((length run.now ≤ dot_limit * 16) × Lawful (run_dots run.now)) }
-    ensures { (w : List Removal) → Queued s.now q w → k < length w
-        → picked result (run_dots run.now) ≡ cut_dots (under_of (get_or w k no_removal)) (picked marks (run_dots run.now)) }
-{
-    let from = q.starts[k] * 16;
-    let to = q.starts[k + 1] * 16;
-    marks::cut_marks_by(run, marks, &s[from..to])
 }
 
 // The marks of a run without what the removals that list a key have seen.
@@ -170,14 +149,10 @@ pub fn cut_listed_marks(
     ensures { (w : List Removal) (key : ℕ) → Queued s.now q w → Marked w key under
         → picked result (run_dots run.now) ≡ cuts_for w key (picked marks (run_dots run.now)) }
 {
-    let n = places(q.len);
     let mut out = marks;
-    let mut i: usize = 0;
-    while i < n {
-        let k = i;
-        i += 1;
+    for k in 0..places(q.len) {
         if under[k] {
-            let left = cut_marks_at(s, q, k, run, out);
+            let left = marks::cut_marks_by(run, out, run_at(s, q, k));
             out = left;
         }
     }

@@ -21,10 +21,7 @@ fn carry(under: [bool; WAITING], marks: [bool; WAITING], table: [u8; WAITING]) -
     ensures { Carried under marks table result }
 {
     let mut out = under;
-    let mut i: usize = 0;
-    while i < WAITING {
-        let k = i;
-        i += 1;
+    for k in 0..WAITING {
         if marks[k] {
             let p = table[k] as usize;
             if p < WAITING {
@@ -48,12 +45,6 @@ fn head(s: &[u8], at: usize, end: usize) -> u64
     BEYOND_KEYS
 }
 
-fn lower(a: u64, b: u64) -> u64
-    ensures { (result ≤ a) × ((result ≤ b) × (result < a → result ≡ b)) }
-{
-    if a < b { a } else { b }
-}
-
 // The next key of a result, and which of its removals list it.
 fn row(
     s: &[u8],
@@ -73,7 +64,7 @@ fn row(
 {
     let a = head(s, i, n);
     let b = head(t, j, m);
-    let key = lower(a, b) as u32;
+    let key = a.min(b) as u32;
     let x = crate::listers(s, i, n, key);
     let y = crate::listers(t, j, m, key);
     let none: [bool; WAITING] = [false; WAITING];
@@ -95,11 +86,8 @@ fn write_row(out: &mut [u8], at: usize, key: u32, under: [bool; WAITING]) -> usi
     ensures { Wrote at (bytes_of (row_records key 0 under)) out.old out.new result }
 {
     let mut next = at;
-    let mut i: usize = 0;
-    while i < WAITING {
-        let k = i;
-        i += 1;
-        if under[k] {
+    for (k, listed) in under.iter().enumerate() {
+        if *listed {
             let r = Record {
                 kind: WAITING_KEY,
                 index: k as u8,
@@ -136,6 +124,7 @@ pub fn write_keys(
     let mut next = at;
     let mut i = from;
     let mut j = start;
+    // A `while`: each of the two lists is walked at its own pace.
     while (i < n) | (j < m) {
         let r = row(s, i, n, ours, t, j, m, theirs);
         i = r.i;
@@ -151,11 +140,8 @@ fn count_row(under: [bool; WAITING]) -> usize
     ensures { (result ≤ waiting_limit) × ((key : ℕ) → result ≡ length (row_records key 0 under)) }
 {
     let mut total: usize = 0;
-    let mut i: usize = 0;
-    while i < WAITING {
-        let k = i;
-        i += 1;
-        if under[k] {
+    for listed in under {
+        if listed {
             total += 1;
         }
     }
@@ -168,13 +154,9 @@ fn add_row(counts: [usize; WAITING], under: [bool; WAITING]) -> [usize; WAITING]
     ensures { (p : ℕ) → p < waiting_limit → get_or result p 0 ≡ get_or counts p 0 + one_if_marked under p }
 {
     let mut out = counts;
-    let mut i: usize = 0;
-    while i < WAITING {
-        let k = i;
-        i += 1;
-        if under[k] {
-            let c = out[k];
-            out[k] = c + 1;
+    for (k, listed) in under.iter().enumerate() {
+        if *listed {
+            out[k] += 1;
         }
     }
     out
@@ -185,10 +167,7 @@ fn any_long(counts: [usize; WAITING]) -> bool
     ensures { ((united : List Removal) → length united ≤ waiting_limit
         → ((p : ℕ) → p < waiting_limit → get_or counts p 0 ≡ length (keys_at united p)) → result ≡ some overlong united) }
 {
-    let mut i: usize = 0;
-    while i < WAITING {
-        let c = counts[i];
-        i += 1;
+    for c in counts {
         if KEYS < c {
             return true;
         }
@@ -217,6 +196,7 @@ pub fn count_keys(
     let mut counts: [usize; WAITING] = [0; WAITING];
     let mut i = from;
     let mut j = start;
+    // A `while`: each of the two lists is walked at its own pace.
     while (i < n) | (j < m) {
         let r = row(s, i, n, ours, t, j, m, theirs);
         i = r.i;

@@ -36,16 +36,12 @@ fn first_lacking(seen: Clock, own: Dot, put: Clock) -> Readiness
     requires { 0 < own.counter }
     ensures { result ≡ first_lacking (dots_of seen) own (dots_of put) }
 {
-    let n = put.size();
-    let mut i: usize = 0;
-    while i < n {
-        let d = put.dots[i];
+    for d in put.as_slice() {
         let s = seen.get(d.actor);
-        let needs = needed(own, d);
+        let needs = needed(own, *d);
         if s < needs {
             return Readiness::Hold(d.actor, s + 1);
         }
-        i += 1;
     }
     Readiness::Next
 }

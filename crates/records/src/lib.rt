@@ -44,17 +44,11 @@ pub const PUT_DOT: u8 = 12;
 // By kind, from kind 0, which is none: bits 1 index, 2 actor, 4 key, 8 number.
 const MASKS: [u8; 13] = [0, 10, 14, 15, 15, 11, 5, 0, 10, 4, 14, 10, 10];
 
-fn wide(x: u8) -> u16
-    ensures { (result ≡ x) × (result < 256) }
-{
-    x as u16
-}
-
 pub fn read16(s: &[u8], at: usize) -> u16
     requires { at + 2 ≤ length s.now }
     ensures { result ≡ num_at 1 at s.now }
 {
-    wide(s[at]) + 256 * wide(s[at + 1])
+    u16::from(s[at]) + 256 * u16::from(s[at + 1])
 }
 
 pub fn read32(s: &[u8], at: usize) -> u32
@@ -63,7 +57,7 @@ pub fn read32(s: &[u8], at: usize) -> u32
 {
     let low = read16(s, at);
     let high = read16(s, at + 2);
-    (low as u32) + 65536 * (high as u32)
+    u32::from(low) + 65536 * u32::from(high)
 }
 
 pub fn read64(s: &[u8], at: usize) -> u64
@@ -72,24 +66,19 @@ pub fn read64(s: &[u8], at: usize) -> u64
 {
     let low = read32(s, at);
     let high = read32(s, at + 4);
-    (low as u64) + 0x1_0000_0000 * (high as u64)
+    u64::from(low) + 0x1_0000_0000 * u64::from(high)
 }
 
 pub fn read_record(s: &[u8], at: usize) -> Record
     requires { at + 16 ≤ length s.now }
     ensures { result ≡ record_from s.now at }
 {
-    let kind = s[at];
-    let index = s[at + 1];
-    let actor = read16(s, at + 2);
-    let key = read32(s, at + 4);
-    let number = read64(s, at + 8);
     Record {
-        kind,
-        index,
-        actor,
-        key,
-        number,
+        kind: s[at],
+        index: s[at + 1],
+        actor: read16(s, at + 2),
+        key: read32(s, at + 4),
+        number: read64(s, at + 8),
     }
 }
 
@@ -140,7 +129,7 @@ pub fn write_record(out: &mut [u8], at: usize, r: Record) -> usize
 fn mask_of(kind: u8) -> u8
     ensures { result ≡ mask_of kind }
 {
-    if kind < 13 { MASKS[kind as usize] } else { 0 }
+    MASKS.get(kind as usize).map_or(0, |m| *m)
 }
 
 fn field_ok(mask: u8, bit: u8, x: u64) -> bool
@@ -186,17 +175,12 @@ fn actor_of(r: Record) -> u16
 pub fn before(a: Record, b: Record) -> bool
     ensures { result ≡ before a b }
 {
-    (a.kind < b.kind)
-        | ((a.kind == b.kind)
-            & ((a.key < b.key)
-                | ((a.key == b.key)
-                    & ((a.index < b.index)
-                        | ((a.index == b.index) & (actor_of(a) < actor_of(b)))))))
+    (a.kind, a.key, a.index, actor_of(a)) < (b.kind, b.key, b.index, actor_of(b))
 }
 
 // A flag as a byte.
 pub fn flag(b: bool) -> u8
     ensures { result ≡ flag_of b }
 {
-    if b { 1 } else { 0 }
+    u8::from(b)
 }

@@ -18,7 +18,7 @@ use limits::VALUES;
 pub const WIDE: usize = 2 * VALUES;
 
 // What a value is: its number, and the origin code of who set it.
-#[derive(Clone, Copy)]
+#[derive(Clone, Copy, PartialEq, Eq)]
 pub struct Content {
     pub number: u64,
     pub origin: u16,
@@ -69,12 +69,10 @@ impl Value {
     fn yields(self, other: Value, equal_too: bool) -> bool
         ensures { result ≡ yields equal_too self other }
     {
-        let o = self.clock.compare(other.clock);
-        match o {
+        match self.clock.compare(other.clock) {
             Order::Less => true,
             Order::Equal => equal_too,
-            Order::Greater => false,
-            Order::Concurrent => false,
+            Order::Greater | Order::Concurrent => false,
         }
     }
 
@@ -109,8 +107,14 @@ impl Register {
     pub fn size(self) -> usize
         ensures { (result ≡ length (values_of self)) × (result ≤ value_limit) }
     {
-        let n = self.len;
-        if n < VALUES { n } else { VALUES }
+        self.len.min(VALUES)
+    }
+
+    // The values in use.
+    pub fn as_slice(&self) -> &[Value]
+        ensures { result.now ≡ values_of self.now }
+    {
+        &self.values[..self.size()]
     }
 
     // One value more behind the last.
@@ -129,31 +133,18 @@ impl Register {
     fn outdoes(self, v: Value, equal_too: bool) -> bool
         ensures { result ≡ outdone equal_too (values_of self) v }
     {
-        let n = self.size();
-        let mut i: usize = 0;
-        while i < n {
-            let w = self.values[i];
-            if v.yields(w, equal_too) {
-                return true;
-            }
-            i += 1;
-        }
-        false
+        self.as_slice().iter().any(|w| v.yields(*w, equal_too))
     }
 
     // The values that yield to none of `over`.
     pub fn standing(self, over: Register, equal_too: bool) -> Register
         ensures { result ≡ register_of (those (standing equal_too (values_of over)) (values_of self)) }
     {
-        let n = self.size();
         let mut out = Register::new();
-        let mut i: usize = 0;
-        while i < n {
-            let v = self.values[i];
-            i += 1;
-            if !over.outdoes(v, equal_too) {
+        for v in self.as_slice() {
+            if !over.outdoes(*v, equal_too) {
                 let k = out.len;
-                out.values[k] = v;
+                out.values[k] = *v;
                 out.len = k + 1;
             }
         }
@@ -204,12 +195,8 @@ impl Register {
     fn clock_over(self) -> Joined
         ensures { result ≡ fitted (clock_over (values_of self)) }
     {
-        let n = self.size();
         let mut out = Joined::new();
-        let mut i: usize = 0;
-        while i < n {
-            let v = self.values[i];
-            i += 1;
+        for v in self.as_slice() {
             out = out.join(v.clock);
         }
         out
@@ -219,7 +206,6 @@ impl Register {
     fn contents(self) -> Contents
         ensures { result ≡ contents_of (map (λ v. v.value) (values_of self)) }
     {
-        let n = self.size();
         let none = Content {
             number: 0,
             origin: 0,
@@ -228,10 +214,7 @@ impl Register {
             items: [none; VALUES],
             len: 0,
         };
-        let mut i: usize = 0;
-        while i < n {
-            let v = self.values[i];
-            i += 1;
+        for v in self.as_slice() {
             out = out.push(v.value);
         }
         out
@@ -281,8 +264,14 @@ impl Wide {
     pub fn size(self) -> usize
         ensures { (result ≡ length (wide_values self)) × (result ≤ wide_room) }
     {
-        let n = self.len;
-        if n < WIDE { n } else { WIDE }
+        self.len.min(WIDE)
+    }
+
+    // The values in use.
+    pub fn as_slice(&self) -> &[Value]
+        ensures { result.now ≡ wide_values self.now }
+    {
+        &self.values[..self.size()]
     }
 
     // One value more behind the last.
@@ -302,16 +291,11 @@ impl Wide {
         requires { self.len + length (values_of from) ≤ wide_room }
         ensures { (l : List Value) → self ≡ wide_of l → result ≡ wide_of (l ++ values_of from) }
     {
-        let n = from.size();
         let mut out = self;
-        let mut i: usize = 0;
-        while i < n {
-            let v = from.values[i];
-            i += 1;
-            let k = out.len;
-            out.values[k] = v;
-            out.len = k + 1;
-        }
+        let n = out.len;
+        let end = n + from.size();
+        out.values[n..end].copy_from_slice(from.as_slice());
+        out.len = end;
         out
     }
 
@@ -319,12 +303,8 @@ impl Wide {
     pub fn cut(self, by: Clock) -> Wide
         ensures { result ≡ wide_of (cut_values (dots_of by) (wide_values self)) }
     {
-        let n = self.size();
         let mut out = Wide::new();
-        let mut i: usize = 0;
-        while i < n {
-            let v = self.values[i];
-            i += 1;
+        for v in self.as_slice() {
             let left = v.cut(by);
             if !left.clock.is_empty() {
                 let k = out.len;
@@ -342,14 +322,8 @@ impl Wide {
     {
         let n = self.size();
         let mut out = Register::new();
-        let mut i: usize = 0;
-        while i < n {
-            let v = self.values[i];
-            i += 1;
-            let k = out.len;
-            out.values[k] = v;
-            out.len = k + 1;
-        }
+        out.values[0..n].copy_from_slice(self.as_slice());
+        out.len = n;
         out
     }
 

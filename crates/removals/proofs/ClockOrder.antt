@@ -3,11 +3,11 @@ use mathlib.Core.Path.{◌≡◌, refl, sym, ap₂, ◌∙◌}
 use mathlib.Core.Bool.{Bool, true, false, ◌||◌}
 use mathlib.Core.Logic.{◌⊎◌, inl, inr}
 use mathlib.Core.List.{List, [], ◌∷◌}
-use Prim.Native.Nat.{ℕ, ◌-◌, ◌<◌}
+use Prim.Native.Nat.{ℕ, ◌+◌, ◌<◌}
 use native.Mathlib.Omega.{arith}
 use borrow.Author.Tests.{lt-ltb, le-ltb, eq-eqb, ne_eqb, ltb-true, ltb-false}
 use lib.Dec.{ltb}
-use lib.ListN.{length, drop, length-drop}
+use lib.ListN.{length}
 use Rattle.listlaws.specs.Order.{Strict}
 use Rattle.listlaws.proofs.Orders.{apart}
 use Rattle.listlaws.proofs.Levels.{Level, Steady}
@@ -42,14 +42,13 @@ module _ (x y : Dot) (l m : List Dot) where
     eq-eqb x.counter y.counter f,
   )
 
--- "a prefix first": of the empty clock and the rest of another, the empty one
-pub before-prefix : (m : List Dot) (i : ℕ) → ltb i (length m) ≡ clock_before [] (drop i m)
+-- "a prefix first": of lists of which one is used up, the rest of the one with fewer dots stands before
+pub before-prefix : (l m : List Dot) (p q : ℕ) → p + length m ≡ q + length l → (length l ≡ 0) ⊎ (length m ≡ 0) → ltb p q ≡ clock_before l m
 unfolding clock_before
-before-prefix m i = go (drop i m) (length-drop i m)
-  where
-    go : (l : List Dot) → length l ≡ length m - i → ltb i (length m) ≡ clock_before [] l
-    go [] e = le-ltb i (length m) (omega arith)
-    go (y ∷ l) e = lt-ltb i (length m) (omega arith)
+before-prefix [] [] p q e h = le-ltb p q (omega arith)
+before-prefix [] (y ∷ m) p q e h = lt-ltb p q (omega arith)
+before-prefix (x ∷ l) [] p q e h = le-ltb p q (omega arith)
+before-prefix (x ∷ l) (y ∷ m) p q e h = absurd (omega arith)
 
 -- by actor, then by counter
 abbrev Below : Dot → Dot → Type 0

@@ -1,10 +1,10 @@
 -- Two lists of waiting removals as one: one removal more, within the limits and over them.
-use mathlib.Core.Path.{◌≡◌, ap, sym, ◌∙◌}
+use mathlib.Core.Path.{◌≡◌, ap, ◌∙◌}
 use mathlib.Core.Bool.{Bool, true, false, not, ◌&&◌, ◌||◌}
 use mathlib.Core.List.{List, [], ◌∷◌, ◌++◌}
 use Prim.Native.Nat.{◌+◌, ◌≤◌}
 use native.Mathlib.Omega.{arith}
-use borrow.Author.Tests.{ltb-false, le-leb}
+use borrow.Author.Tests.{le-leb}
 use lib.Dec.{ltb}
 use lib.ListN.{length}
 use Rattle.listlaws.specs.First.{some}
@@ -13,46 +13,40 @@ use Rattle.listlaws.proofs.Tally.{some-snoc, both-pass, tally-step}
 use Rattle.clock.specs.declared.Clock.{Clock}
 use Rattle.removals.specs.declared.Removal.{Removal}
 use Rattle.removals.specs.declared.JoinedWaiting.{JoinedWaiting}
-use Rattle.removals.specs.declared.UnitedKeys.{UnitedKeys}
+use Rattle.removals.specs.declared.Keys.{Keys}
 use Rattle.removals.specs.declared.Waiting.{Waiting}
-use Rattle.limits.specs.Limits.{waiting_limit, key_limit}
-use Rattle.removals.specs.Model.{keys_as, listed_in, waiting_as}
-use Rattle.removals.specs.Counted.{united_as, overlong, joined_as}
-use Rattle.removals.proofs.KeyLimits.{keys-fit, united-over}
+use Rattle.limits.specs.Limits.{waiting_limit}
+use Rattle.removals.specs.Model.{waiting_as}
+use Rattle.removals.specs.Counted.{overlong, joined_as}
 
-module _ {g : JoinedWaiting} {u : UnitedKeys} (l : List Removal) (r : Removal) (q : g ≡ joined_as l) (p : u ≡ united_as (listed_in r)) where
-  over : u.over ≡ overlong r
-  over = ap (λ k. k.over) p ∙ united-over (listed_in r)
-
-  flags : (b : Bool) → (ltb g.count waiting_limit && not (g.long || u.over)) ≡ b
+module _ {g : JoinedWaiting} {over : Bool} (l : List Removal) (r : Removal) (q : g ≡ joined_as l) (p : over ≡ overlong r) where
+  flags : (b : Bool) → (ltb g.count waiting_limit && not (g.long || over)) ≡ b
       → (ltb (length l) waiting_limit && not (some overlong l || overlong r)) ≡ b
   unfolding joined_as
-  flags b t = rw (q, over) at t
+  flags b t = rw (q, p) at t
 
   counted : (o : Waiting)
-      → ◌≡◌ {A = JoinedWaiting} (record { count = g.count + 1; long = g.long || u.over; waiting = o })
+      → ◌≡◌ {A = JoinedWaiting} (record { count = g.count + 1; long = g.long || over; waiting = o })
       (record { count = length l + 1; long = some overlong l || overlong r; waiting = o })
   unfolding joined_as
-  counted o = rw (q, over)
+  counted o = rw (q, p)
 
-  pub joined-one : {c : Clock} {o : Waiting} → c ≡ r.clock → r.keys ≡ keys_as (listed_in r)
-      → (ltb g.count waiting_limit && not (g.long || u.over)) ≡ true
-      → ((m : List Removal) → g.waiting ≡ waiting_as m → o ≡ waiting_as (m ++ (record { clock = c; keys = u.keys } ∷ [])))
-      → record { count = g.count + 1; long = g.long || u.over; waiting = o } ≡ joined_as (l ++ (r ∷ []))
+  pub joined-one : {c : Clock} {k : Keys} {o : Waiting} → c ≡ r.clock → k ≡ r.keys
+      → (ltb g.count waiting_limit && not (g.long || over)) ≡ true
+      → ((m : List Removal) → g.waiting ≡ waiting_as m → o ≡ waiting_as (m ++ (record { clock = c; keys = k } ∷ [])))
+      → record { count = g.count + 1; long = g.long || over; waiting = o } ≡ joined_as (l ++ (r ∷ []))
   unfolding joined_as
-  joined-one {c} {o} same laid t f =
+  joined-one {c} {k} {o} same keys t f =
       let v = flags true t in
       let b = both-pass {n = length l} {k = waiting_limit} (some overlong l) (overlong r) v in
-      let room : length (listed_in r) ≤ key_limit = ltb-false key_limit (length (listed_in r)) b.2 in
-      let keys : u.keys ≡ r.keys = ap (λ k. k.keys) (p ∙ keys-fit (listed_in r) room) ∙ sym laid in
-      let item : ◌≡◌ {A = Removal} (record { clock = c; keys = u.keys }) r = λ i. record { clock = same i; keys = keys i } in
+      let item : ◌≡◌ {A = Removal} (record { clock = c; keys = k }) r = λ i. record { clock = same i; keys = keys i } in
       let store : g.waiting ≡ waiting_as l = ap (λ k. k.waiting) q ∙ rw (le-leb (length l) waiting_limit (omega (arith, b.0)), b.1) in
       let stored : o ≡ waiting_as (l ++ (r ∷ [])) = f l store ∙ ap (λ x. waiting_as (l ++ (x ∷ []))) item in
       counted o ∙ ap (λ x. record { count = length l + 1; long = some overlong l || overlong r; waiting = x }) stored
       ∙ rw (tally-step waiting_limit overlong l r, some-snoc overlong l r, length-snoc l r, v)
 
-  pub joined-none : {o : Waiting} → (ltb g.count waiting_limit && not (g.long || u.over)) ≡ false → o ≡ waiting_as []
-      → record { count = g.count + 1; long = g.long || u.over; waiting = o } ≡ joined_as (l ++ (r ∷ []))
+  pub joined-none : {o : Waiting} → (ltb g.count waiting_limit && not (g.long || over)) ≡ false → o ≡ waiting_as []
+      → record { count = g.count + 1; long = g.long || over; waiting = o } ≡ joined_as (l ++ (r ∷ []))
   unfolding joined_as
   joined-none {o} t e =
       counted o ∙ ap (λ x. record { count = length l + 1; long = some overlong l || overlong r; waiting = x }) e

@@ -5,12 +5,12 @@ use mathlib.Core.List.Memᴰ
 use mathlib.Core.List.{List, []}
 use Prim.Native.Nat.{ℕ, ◌+◌, ◌≤◌, ◌<◌}
 use native.Mathlib.Omega.{arith}
-use lib.ListN.{length, drop, get_or, take}
+use lib.ListN.{length, drop, get_or}
 use Rattle.listlaws.specs.First.{some}
 use Rattle.listlaws.specs.Fold.{fold}
 use Rattle.listlaws.specs.Order.{◌∈◌}
 use Rattle.listlaws.specs.Sift.{sift}
-use Rattle.listlaws.proofs.Rests.{sift-yes, sift-no}
+use Rattle.listlaws.proofs.SliceRests.{sift-yes, sift-no}
 use Rattle.clock.specs.declared.Dot.{Dot}
 use Rattle.clock.specs.Dots.{is_empty}
 use Rattle.removals.specs.declared.Removal.{Removal}
@@ -54,33 +54,33 @@ stored-in l w i = go (some overlong l) refl
     go true t = absurd (Memᴰ.not-nil (rw (waiting-from [] (ap (λ h. h.waiting) (reset-long l t))) at i))
     go false t = rw (waiting-from l (ap (λ h. h.waiting) (reset-short l t))) at i
 
--- i of the n waiting removals are cut and united
-pub record Resetting (c : List Dot) (xs : List Removal) (n i : ℕ) (h : ResetWaiting) : Type 0 where
+-- i of the waiting removals are cut and united
+pub record Resetting (c : List Dot) (xs : List Removal) (i : ℕ) (h : ResetWaiting) : Type 0 where
   pub state : List Removal
   pub packed : h ≡ reset_as state
-  pub left : fold unite_into [] (sift remains (cut_removal c) (take n xs)) ≡ fold unite_into state (sift remains (cut_removal c) (drop i (take n xs)))
+  pub left : fold unite_into [] (sift remains (cut_removal c) xs) ≡ fold unite_into state (sift remains (cut_removal c) (drop i xs))
   pub few : length state ≤ i
   pub valid : ValidWaiting state
 
-module _ {c : List Dot} {xs : List Removal} {n i : ℕ} {h : ResetWaiting} (u : Resetting c xs n i h) (k : i < length (take n xs)) where
+module _ {c : List Dot} {xs : List Removal} {i : ℕ} {h : ResetWaiting} (u : Resetting c xs i h) (k : i < length xs) where
   -- a removal that is left with a dot
   pub reset-next : {r : Removal} {o : ResetWaiting} → r ≡ cut_removal c (get_or xs i no_removal_read) → remains r ≡ true → ValidRemoval r
-      → is_empty (under_of r) ≡ false → o ≡ reset_as (unite_into u.state r) → Resetting c xs n (i + 1) o
+      → is_empty (under_of r) ≡ false → o ≡ reset_as (unite_into u.state r) → Resetting c xs (i + 1) o
   unfolding fold
   reset-next {r} e t v s q = record {
     state = unite_into u.state r;
     packed = q;
-    left = u.left ∙ ap (fold unite_into u.state) (sift-yes xs n i no_removal_read k remains (cut_removal c) (rw e at t)) ∙ rw e;
+    left = u.left ∙ ap (fold unite_into u.state) (sift-yes xs i no_removal_read k remains (cut_removal c) (rw e at t)) ∙ rw e;
     few = omega (arith, u.few, unite-few u.state r);
     valid = valid-unite-into u.valid v s;
   }
 
   -- one that is not
-  pub reset-skip : {r : Removal} → r ≡ cut_removal c (get_or xs i no_removal_read) → remains r ≡ false → Resetting c xs n (i + 1) h
+  pub reset-skip : {r : Removal} → r ≡ cut_removal c (get_or xs i no_removal_read) → remains r ≡ false → Resetting c xs (i + 1) h
   reset-skip e t = record {
     state = u.state;
     packed = u.packed;
-    left = u.left ∙ ap (fold unite_into u.state) (sift-no xs n i no_removal_read k remains (cut_removal c) (rw e at t));
+    left = u.left ∙ ap (fold unite_into u.state) (sift-no xs i no_removal_read k remains (cut_removal c) (rw e at t));
     few = omega (arith, u.few);
     valid = u.valid;
   }

@@ -1,17 +1,17 @@
 -- What the code holds of sets of keys and of waiting removals that may be over a limit: how many there are, and the list where it fits.
-use Rattle.std.specs.Prelude.{◌≡◌, Bool, true, false, not, ◌&&◌, cond, List, [], ℕ, ◌≤◌, ltb, leb, length}
+use Rattle.std.specs.Prelude.{◌≡◌, Bool, true, false, not, ◌&&◌, cond, Option, Some, None, List, [], ℕ, ◌≤◌, ltb, leb, length}
 use Rattle.listlaws.specs.First.{some}
 use Rattle.listlaws.specs.Limit.{if_within}
 use Rattle.removals.specs.declared.Removal.{Removal}
-use Rattle.removals.specs.declared.UnitedKeys.{UnitedKeys}
+use Rattle.removals.specs.declared.Keys.{Keys}
 use Rattle.removals.specs.declared.JoinedWaiting.{JoinedWaiting}
 use Rattle.removals.specs.declared.ResetWaiting.{ResetWaiting}
 use Rattle.limits.specs.Limits.{waiting_limit, key_limit}
 use Rattle.removals.specs.Model.{keys_as, listed_in, waiting_as}
 
--- a set of keys that may have grown over the limit
-abbrev pub united_as : List ℕ → UnitedKeys
-united_as l = if_within key_limit (λ k. record { over = false; keys = keys_as k }) (record { over = true; keys = keys_as [] }) l
+-- a set of keys, or none where it is over the limit
+abbrev pub united_as : List ℕ → Option Keys
+united_as l = if_within key_limit (λ k. Some (keys_as k)) None l
 
 -- a removal's keys are laid down with zeros behind them
 abbrev pub KeysLaid : Removal → Type 0

@@ -1,5 +1,5 @@
 // Removals, and those that wait, ascending by clock.
-ghost use Rattle.std.specs.Prelude.{◌≡◌, List, [], ◌∷◌, ◌++◌, map, ◌*◌, ◌-◌, ◌≤◌, ◌<◌, ◌+◌, length, drop};
+ghost use Rattle.std.specs.Prelude.{◌≡◌, List, [], ◌∷◌, ◌++◌, ◌*◌, ◌-◌, ◌≤◌, ◌<◌, ◌+◌, length};
 ghost use Rattle.listlaws.specs.Sift.{those};
 ghost use Rattle.listlaws.specs.Order.{◌∈◌};
 ghost use Rattle.clock.specs.Dots.{dots_of};
@@ -10,7 +10,7 @@ ghost use Rattle.removals.specs.Waits.{waits, unite_all, unite_into, cut_removal
 ghost use Rattle.removals.specs.Valid.{ValidWaiting};
 ghost use Rattle.removals.specs.Counted.{united_as, KeysLaid, joined_as, Numbered, reset_as};
 
-use crate::{JoinedWaiting, Keys, Removal, ResetWaiting, UnitedKeys, Waiting, clock_before};
+use crate::{JoinedWaiting, Keys, Removal, ResetWaiting, Waiting, clock_before};
 use clock::{Clock, Order};
 use limits::WAITING;
 
@@ -60,8 +60,14 @@ impl Waiting {
     pub fn size(self) -> usize
         ensures { (result ≡ length (waiting_of self)) × (result ≤ waiting_limit) }
     {
-        let n = self.len;
-        if n < WAITING { n } else { WAITING }
+        self.len.min(WAITING)
+    }
+
+    // The removals in use.
+    pub fn as_slice(&self) -> &[Removal]
+        ensures { result.now ≡ waiting_of self.now }
+    {
+        &self.items[..self.size()]
     }
 
     // One removal more behind the last.
@@ -70,26 +76,27 @@ impl Waiting {
         ensures { (result.len ≡ self.len + 1) × ((l : List Removal) → self ≡ waiting_as l → result ≡ waiting_as (l ++ (r ∷ []))) }
     {
         let mut out = self;
-        let k = out.len;
-        out.items[k] = r;
-        out.len = k + 1;
+        out.store(r);
         out
+    }
+
+    // The same in place.
+    fn store(&mut self, r: Removal)
+        requires { self.now.len < waiting_limit }
+        ensures { (self.new.len ≡ self.old.len + 1) × ((l : List Removal) → self.old ≡ waiting_as l → self.new ≡ waiting_as (l ++ (r ∷ []))) }
+    {
+        self.items[self.len] = r;
+        self.len += 1;
     }
 
     // Those that a map clock does not cover.
     pub fn uncovered(self, seen: Clock) -> Waiting
         ensures { result ≡ waiting_as (those (waits (dots_of seen)) (waiting_of self)) }
     {
-        let n = self.size();
         let mut out = Waiting::new();
-        let mut i: usize = 0;
-        while i < n {
-            let r = self.items[i];
-            i += 1;
+        for r in self.as_slice() {
             if r.waits(seen) {
-                let k = out.len;
-                out.items[k] = r;
-                out.len = k + 1;
+                out.store(*r);
             }
         }
         out
@@ -100,19 +107,20 @@ impl Waiting {
         requires { ((r : Removal) → r ∈ waiting_of self → KeysLaid r) × ((r : Removal) → r ∈ waiting_of other → KeysLaid r) }
         ensures { result ≡ joined_as (unite_all (waiting_of self) (waiting_of other)) }
     {
-        let n = self.size();
-        let m = other.size();
+        let xs = self.as_slice();
+        let ys = other.as_slice();
         let mut out = JoinedWaiting::new();
         let mut i: usize = 0;
         let mut j: usize = 0;
-        while i < n && j < m {
-            let x = self.items[i];
-            let y = other.items[j];
+        // A `while`: each of the two is walked at its own pace.
+        while i < xs.len() && j < ys.len() {
+            let x = &xs[i];
+            let y = &ys[j];
             if clock_before(x.clock, y.clock) {
-                out = out.keep(x);
+                out = out.keep(*x);
                 i += 1;
             } else if clock_before(y.clock, x.clock) {
-                out = out.keep(y);
+                out = out.keep(*y);
                 j += 1;
             } else {
                 out = out.add(x.clock, x.keys.union(y.keys));
@@ -120,7 +128,7 @@ impl Waiting {
                 j += 1;
             }
         }
-        out.trail(self, i).trail(other, j)
+        out.trail(&xs[i..]).trail(&ys[j..])
     }
 
     // What a reset leaves of the waiting removals: cut, and united where clocks are equal then.
@@ -128,16 +136,12 @@ impl Waiting {
         requires { ValidWaiting (waiting_of self) }
         ensures { result ≡ reset_as (reset_waiting (dots_of by) (waiting_of self)) }
     {
-        let n = self.size();
         let none = Waiting::new();
         let mut out = ResetWaiting {
             over: false,
             waiting: none,
         };
-        let mut i: usize = 0;
-        while i < n {
-            let w = self.items[i];
-            i += 1;
+        for w in self.as_slice() {
             let left = w.cut(by);
             if !left.clock.is_empty() {
                 out = out.unite(left);
@@ -160,29 +164,22 @@ impl JoinedWaiting {
     }
 
     // One removal more behind the last, with keys that may be over the limit.
-    fn add(self, clock: Clock, united: UnitedKeys) -> JoinedWaiting
+    fn add(self, clock: Clock, united: Option<Keys>) -> JoinedWaiting
         requires { Numbered self (8 * waiting_limit - 1) }
         ensures { Numbered result (self.count + 1) × ((l : List Removal) (r : Removal) → self ≡ joined_as l → clock ≡ r.clock → KeysLaid r
             → united ≡ united_as (listed_in r) → result ≡ joined_as (l ++ (r ∷ []))) }
     {
-        let long = self.long | united.over;
-        let count = self.count;
-        if (count < WAITING) & !long {
-            let keys = united.keys;
-            let r = Removal { clock, keys };
-            let old = self.waiting;
-            let waiting = old.push(r);
-            return JoinedWaiting {
-                count: count + 1,
-                long,
-                waiting,
-            };
-        }
-        let none = Waiting::new();
+        let long = self.long | united.is_none();
+        let waiting = match united {
+            Some(keys) if (self.count < WAITING) & !long => self
+                .waiting
+                .push(Removal { clock, keys }),
+            _ => Waiting::new(),
+        };
         JoinedWaiting {
-            count: count + 1,
+            count: self.count + 1,
             long,
-            waiting: none,
+            waiting,
         }
     }
 
@@ -191,24 +188,18 @@ impl JoinedWaiting {
         requires { Numbered self (8 * waiting_limit - 1) }
         ensures { Numbered result (self.count + 1) × ((l : List Removal) → self ≡ joined_as l → KeysLaid r → result ≡ joined_as (l ++ (r ∷ []))) }
     {
-        let keys = r.keys;
-        let united = UnitedKeys { over: false, keys };
-        self.add(r.clock, united)
+        self.add(r.clock, Some(r.keys))
     }
 
-    // The removals from place `at` on, behind the last.
-    fn trail(self, from: Waiting, at: usize) -> JoinedWaiting
-        requires { Numbered self (6 * waiting_limit) }
-        ensures { Numbered result (self.count + waiting_limit) × ((l : List Removal) → ((r : Removal) → r ∈ waiting_of from → KeysLaid r)
-            → self ≡ joined_as l → result ≡ joined_as (l ++ map (λ r. r) (drop at (waiting_of from)))) }
+    // More removals behind the last.
+    fn trail(self, rest: &[Removal]) -> JoinedWaiting
+        requires { Numbered self (8 * waiting_limit - length rest.now) × (length rest.now ≤ waiting_limit) }
+        ensures { Numbered result (self.count + length rest.now) × ((l : List Removal) → ((r : Removal) → r ∈ rest.now → KeysLaid r)
+            → self ≡ joined_as l → result ≡ joined_as (l ++ rest.now)) }
     {
-        let n = from.size();
         let mut out = self;
-        let mut i: usize = at;
-        while i < n {
-            let r = from.items[i];
-            i += 1;
-            out = out.keep(r);
+        for r in rest {
+            out = out.keep(*r);
         }
         out
     }

@@ -1,11 +1,11 @@
 // Sets of keys, ascending.
-ghost use Rattle.std.specs.Prelude.{◌≡◌, List, [], ◌∷◌, ◌++◌, map, ℕ, ◌≤◌, ◌<◌, length, drop};
+ghost use Rattle.std.specs.Prelude.{◌≡◌, Some, List, [], ◌∷◌, ◌++◌, ℕ, ◌≤◌, ◌<◌, length};
 ghost use Rattle.limits.specs.Limits.{key_limit};
 ghost use Rattle.removals.specs.Model.{keys_of, keys_as};
 ghost use Rattle.removals.specs.Waits.{listed, union_keys};
 ghost use Rattle.removals.specs.Counted.{united_as};
 
-use crate::{Keys, UnitedKeys};
+use crate::Keys;
 use limits::KEYS;
 
 impl Keys {
@@ -21,8 +21,14 @@ impl Keys {
     pub fn size(self) -> usize
         ensures { (result ≡ length (keys_of self)) × (result ≤ key_limit) }
     {
-        let n = self.len;
-        if n < KEYS { n } else { KEYS }
+        self.len.min(KEYS)
+    }
+
+    // The keys in use.
+    pub fn as_slice(&self) -> &[u32]
+        ensures { result.now ≡ keys_of self.now }
+    {
+        &self.items[..self.size()]
     }
 
     // One key more behind the last.
@@ -40,90 +46,56 @@ impl Keys {
     pub fn contains(self, key: u32) -> bool
         ensures { result ≡ listed (keys_of self) key }
     {
-        let n = self.size();
-        let mut i: usize = 0;
-        while i < n {
-            if self.items[i] == key {
-                return true;
-            }
-            i += 1;
-        }
-        false
+        self.as_slice().contains(&key)
     }
 
-    // Both sets as one.
-    pub fn union(self, other: Keys) -> UnitedKeys
+    // Both sets as one, or `None` where that is over the limit.
+    pub fn union(self, other: Keys) -> Option<Keys>
         ensures { result ≡ united_as (union_keys (keys_of self) (keys_of other)) }
     {
-        let n = self.size();
-        let m = other.size();
-        let mut out = UnitedKeys::new();
+        let xs = self.as_slice();
+        let ys = other.as_slice();
+        let mut out = Keys::new();
         let mut i: usize = 0;
         let mut j: usize = 0;
-        while i < n && j < m {
-            let x = self.items[i];
-            let y = other.items[j];
+        // A `while`: each of the two is walked at its own pace.
+        while i < xs.len() && j < ys.len() {
+            let x = xs[i];
+            let y = ys[j];
             if x < y {
-                out = out.push(x);
+                out = out.grow(x)?;
                 i += 1;
             } else if y < x {
-                out = out.push(y);
+                out = out.grow(y)?;
                 j += 1;
             } else {
-                out = out.push(x);
+                out = out.grow(x)?;
                 i += 1;
                 j += 1;
             }
         }
-        out.trail(self, i).trail(other, j)
-    }
-}
-
-impl UnitedKeys {
-    fn new() -> UnitedKeys
-        ensures { result ≡ united_as [] }
-    {
-        let none = Keys::new();
-        UnitedKeys {
-            over: false,
-            keys: none,
-        }
+        out.trail(&xs[i..])?.trail(&ys[j..])
     }
 
-    // One key more behind the last, or over the limit.
-    fn push(self, key: u32) -> UnitedKeys
-        ensures { (l : List ℕ) → self ≡ united_as l → result ≡ united_as (l ++ (key ∷ [])) }
+    // One key more behind the last, or `None` over the limit.
+    fn grow(self, key: u32) -> Option<Keys>
+        ensures { (l : List ℕ) → Some self ≡ united_as l → result ≡ united_as (l ++ (key ∷ [])) }
     {
-        if self.over {
-            return self;
-        }
-        let keys = self.keys;
-        if keys.len < KEYS {
-            let more = keys.push(key);
-            return UnitedKeys {
-                over: false,
-                keys: more,
-            };
-        }
-        let none = Keys::new();
-        UnitedKeys {
-            over: true,
-            keys: none,
+        if self.len < KEYS {
+            Some(self.push(key))
+        } else {
+            None
         }
     }
 
-    // The keys of `from` from place `at` on, behind the last.
-    fn trail(self, from: Keys, at: usize) -> UnitedKeys
-        ensures { (l : List ℕ) → self ≡ united_as l → result ≡ united_as (l ++ map (λ k. k) (drop at (keys_of from))) }
+    // More keys behind the last, or `None` over the limit.
+    fn trail(self, rest: &[u32]) -> Option<Keys>
+        ensures { (l : List ℕ) → Some self ≡ united_as l → result ≡ united_as (l ++ rest.now) }
     {
-        let n = from.size();
         let mut out = self;
-        let mut i: usize = at;
-        while i < n {
-            let k = from.items[i];
-            i += 1;
-            out = out.push(k);
+        for k in rest {
+            out = out.grow(*k)?;
         }
-        out
+        Some(out)
     }
 }

@@ -17,13 +17,6 @@ pub struct Keys {
     pub len: usize,
 }
 
-// Two sets of keys as one, which may have grown over the limit: then `over` is set, and the set is empty.
-#[derive(Clone, Copy)]
-pub struct UnitedKeys {
-    pub over: bool,
-    pub keys: Keys,
-}
-
 #[derive(Clone, Copy)]
 pub struct Removal {
     pub clock: Clock,
@@ -56,19 +49,15 @@ pub struct ResetWaiting {
 pub fn clock_before(a: Clock, b: Clock) -> bool
     ensures { result ≡ clock_before (dots_of a) (dots_of b) }
 {
-    let n = a.size();
-    let m = b.size();
-    let mut i: usize = 0;
-    while i < n && i < m {
-        let x = a.dots[i];
-        let y = b.dots[i];
+    let xs = a.as_slice();
+    let ys = b.as_slice();
+    for (x, y) in xs.iter().zip(ys) {
         if x.actor != y.actor {
             return x.actor < y.actor;
         }
         if x.counter != y.counter {
             return x.counter < y.counter;
         }
-        i += 1;
     }
-    i < m
+    xs.len() < ys.len()
 }

@@ -1,16 +1,19 @@
 // The calls of castribba.h, by their number in the file, and behind them the plain form of those that change a map.
-use questions::{BUFFER, Question};
+use questions::{BUFFER, Image, Question};
 
 // What `castribba_clock_advance` stores back, by value.
-pub fn advance(asked: Question, lent: &[u8; BUFFER], out: &mut [u8; BUFFER]) -> u64 {
-    let a = advance::advance(questions::lent_clock(lent), asked.actor, asked.value);
+fn advance(asked: &Question, lent: &Image, out: &mut [u8; BUFFER]) -> u64 {
+    let a = advance::advance(
+        questions::lent_clock(&lent.buffer),
+        asked.actor,
+        asked.value,
+    );
     questions::write_lent_clock(out, a.clock);
     a.word
 }
 
-fn ask_within(asked: Question, first: &[u8], second: &[u8], out: &mut [u8]) -> u64 {
-    let call = asked.call;
-    match call {
+fn ask_within(asked: &Question, first: &[u8], second: &[u8], out: &mut [u8]) -> u64 {
+    match asked.call {
         1 => castribba::castribba_apply(first, second, out),
         2 => castribba::castribba_merge(first, second, out),
         3 => castribba::castribba_reset_remove(first, second, out),
@@ -45,47 +48,11 @@ fn ask_within(asked: Question, first: &[u8], second: &[u8], out: &mut [u8]) -> u
     }
 }
 
-// The number of the plain form of a call that has one.
-fn plain_form(call: usize) -> usize {
-    match call {
-        1 => 21,
-        2 => 22,
-        3 => 23,
-        19 => 24,
-        _ => 25,
-    }
-}
-
-// The same question to it.
-pub fn plainly(asked: Question) -> Question {
-    let mut plain = asked;
-    plain.call = plain_form(asked.call);
-    plain
-}
-
 // The call on as much of the three buffers as is its own.
-pub fn ask(
-    asked: Question,
-    first: &[u8],
-    first_len: usize,
-    second: &[u8],
-    second_len: usize,
-    out: &mut [u8],
-) -> u64 {
-    let room = asked.room;
-    if first.len() < first_len {
-        return 0;
+pub fn ask(asked: &Question, first: &Image, second: &Image, out: &mut [u8; BUFFER]) -> u64 {
+    if asked.call == 18 {
+        return advance(asked, first, out);
     }
-    if second.len() < second_len {
-        return 0;
-    }
-    if out.len() < room {
-        return 0;
-    }
-    ask_within(
-        asked,
-        &first[0..first_len],
-        &second[0..second_len],
-        &mut out[0..room],
-    )
+    let room = asked.room.min(BUFFER);
+    ask_within(asked, first.bytes(), second.bytes(), &mut out[..room])
 }

@@ -16,16 +16,13 @@ pub fn clock_of(run: &[u8]) -> Clock
 {
     let n = run.len() / 16;
     let mut clock = Clock::new();
-    let mut i: usize = 0;
-    while i < n {
+    for i in 0..n {
         let r = records::read_record(run, i * 16);
-        i += 1;
-        let d = Dot {
+        let k = clock.len;
+        clock.dots[k] = Dot {
             actor: r.actor,
             counter: r.number,
         };
-        let k = clock.len;
-        clock.dots[k] = d;
         clock.len = k + 1;
     }
     clock
@@ -37,10 +34,9 @@ pub fn copy_run(run: &[u8], out: &mut [u8], at: usize) -> usize
     ensures { Wrote at run.now out.old out.new result }
 {
     let n = run.len();
-    let mut i: usize = 0;
-    while i < n {
+    // A copy of the whole slice would make the archive call memmove.
+    for i in 0..n {
         out[at + i] = run[i];
-        i += 1;
     }
     at + n
 }

@@ -1,13 +1,12 @@
 -- The records that stay, by their marks: they are what the steps leave, counted and looked through place by place.
 use mathlib.Core.Path.{◌≡◌, refl, ap, ap₂, sym, ◌∙◌}
-use mathlib.Core.Bool.{Bool, true, false, cond, ◌&&◌, ◌||◌}
-use mathlib.Core.List.{List, [], ◌∷◌, ◌++◌, map}
-use Prim.Native.Nat.{ℕ, ◌+◌, ◌-◌, ◌*◌, ◌/◌, ◌≤◌, ◌<◌}
+use mathlib.Core.Bool.{Bool, true, false, cond, ◌||◌}
+use mathlib.Core.List.{List, [], ◌∷◌, map}
+use Prim.Native.Nat.{ℕ, ◌-◌, ◌*◌, ◌/◌, ◌≤◌, ◌<◌}
 use native.Mathlib.Omega.{arith}
 use borrow.Author.Tests.{ltb-true, ltb-false, lt-leb, le-leb, ne_eqb}
-use lib.Dec.{eqb, ltb, leb}
-use lib.ListN.{length, take, get_or, length-map}
-use lib.Seq.{take_all}
+use lib.Dec.{eqb, ltb}
+use lib.ListN.{length, get_or, length-map}
 use Rattle.listlaws.specs.Fold.{fold}
 use Rattle.listlaws.specs.Sift.{sift, those}
 use Rattle.listlaws.proofs.Those.{those-all}
@@ -15,7 +14,7 @@ use Rattle.records.specs.declared.Record.{Record}
 use Rattle.records.specs.Records.{record_from}
 use Rattle.scan.proofs.Eachs.{decide}
 use Rattle.salvagerules.specs.Indexes.{with_index}
-use Rattle.salvagerules.specs.Fates.{Fate, staying, stayed}
+use Rattle.salvagerules.specs.Fates.{staying, stayed}
 use Rattle.culling.specs.Marks.{MarkedRecord, marked_of, is_left, is_left_at, left_items}
 use Rattle.culling.proofs.Marked.{no_marked, marked-at}
 use Rattle.mending.specs.Fated.{fate_of}

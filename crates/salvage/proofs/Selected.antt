@@ -1,9 +1,9 @@
 -- The least above the last, again and again, is the list in order.
-use mathlib.Core.Path.{◌≡◌, refl, ap, ap₂, sym, ◌∙◌}
-use mathlib.Core.Bool.{Bool, true, false, cond, ◌&&◌, and-false}
+use mathlib.Core.Path.{◌≡◌, refl, ap, sym, ◌∙◌}
+use mathlib.Core.Bool.{true, ◌&&◌}
 use mathlib.Core.Logic.{◌⊎◌, inl, inr, ⊎_elim}
 use mathlib.Core.List.Memᴰ
-use mathlib.Core.List.{List, [], ◌∷◌, ◌++◌, map}
+use mathlib.Core.List.{List, [], ◌∷◌, ◌++◌}
 use Prim.Native.Nat.{ℕ, zero, suc, ◌+◌, ◌-◌, ◌*◌, ◌≤◌, ◌<◌}
 use native.Mathlib.Omega.{arith}
 use borrow.Author.Tests.{leb-true}
@@ -20,17 +20,17 @@ use Rattle.records.specs.Records.{records_of, bytes_of}
 use Rattle.records.proofs.RoundTrips.{length-bytes}
 use Rattle.salvagerules.specs.Calls.{salvaged_image}
 use Rattle.opimage.specs.OpImage.{no_record}
-use Rattle.scan.proofs.Eachs.{decide, both, both_left, both_right}
+use Rattle.scan.proofs.Eachs.{decide, both_left, both_right}
 use Rattle.scan.proofs.Befores.{before-fields}
 use Rattle.salvagerules.specs.Fates.{staying}
 use Rattle.salvagerules.specs.Steps.{in_order_by, fates_of, salvaged}
 use Rattle.salvagelaws.proofs.Sorts.{order-means, order-holds, order-count}
 use Rattle.salvagelaws.proofs.Stages.{left_by_four, closed, staying-five, salvaged-is}
 use Rattle.salvagelaws.proofs.Fourth.{four-supplied, lower-kind}
-use Rattle.salvagelaws.proofs.Fifth.{records-lead, written, written-ascends}
+use Rattle.salvagelaws.proofs.Fifth.{records-lead, written-ascends}
 use Rattle.salvagelaws.proofs.Limited.{written-good}
-use Rattle.culling.specs.Marks.{MarkedRecord, marked_of}
-use Rattle.mending.specs.Fated.{fate_of, Tells}
+use Rattle.culling.specs.Marks.{marked_of}
+use Rattle.mending.specs.Fated.{Tells}
 use Rattle.salvage.specs.Selecting.{kept_of, top_record, lesser_of, least_above, select_from}
 use Rattle.salvage.proofs.Kept.{kept-staying}
 

@@ -1,17 +1,16 @@
 -- The report, record by record: what is told of the places from one on, and a writer of it.
-use mathlib.Core.Path.{◌≡◌, refl, ap, ap₂, sym, ◌∙◌}
+use mathlib.Core.Path.{◌≡◌, refl, ap, sym, ◌∙◌}
 use mathlib.Core.Bool.{Bool, true, false, cond}
 use mathlib.Core.List.{List, [], ◌∷◌, ◌++◌, map, append-nil, append_assoc}
-use Prim.Native.Nat.{ℕ, zero, suc, ◌+◌, ◌*◌, ◌/◌, ◌%◌, ◌≤◌, ◌<◌}
+use Prim.Native.Nat.{ℕ, suc, ◌+◌, ◌*◌, ◌/◌, ◌%◌, ◌≤◌, ◌<◌}
 use native.Mathlib.Omega.{arith}
 use native.Mathlib.Numerals.{add-one}
 use borrow.Author.Tests.{eq-eqb, ne_eqb}
 use lib.Dec.{eqb, ltb}
-use lib.ListN.{length, take, drop, get_or, length-append, length-map, get_or-map}
+use lib.ListN.{length, drop, get_or, length-append, length-map, get_or-map}
 use lib.Seq.{drop-cons}
 use Rattle.listlaws.proofs.Rests.{drop-end}
-use Rattle.records.specs.Bytes.{num_bytes, placed}
-use Rattle.records.specs.Records.{record_from}
+use Rattle.records.specs.Bytes.{num_bytes}
 use Rattle.records.specs.Writing.{Wrote}
 use Rattle.records.proofs.Placing.{placed-none, placed_on, length-placed}
 use Rattle.scan.proofs.Eachs.{decide}

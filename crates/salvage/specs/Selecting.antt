@@ -1,5 +1,5 @@
 -- How the writers go through the marks: the records that stay, the least one above the last written, and the steps that are told.
-use Rattle.std.specs.Prelude.{Bool, cond, ◌&&◌, List, [], ◌∷◌, map, ℕ, zero, suc, ◌-◌, ltb}
+use Rattle.std.specs.Prelude.{cond, ◌&&◌, List, [], ◌∷◌, map, ℕ, zero, suc, ◌-◌, ltb}
 use Rattle.listlaws.specs.Fold.{fold}
 use Rattle.listlaws.specs.Sift.{those}
 use Rattle.records.specs.declared.Record.{Record}

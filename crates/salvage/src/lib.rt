@@ -42,11 +42,8 @@ fn count_kept(image: &[u8], marks: &[u16]) -> usize
 {
     let n = image.len() / 16;
     let mut count: usize = 0;
-    let mut i: usize = 0;
-    while i < n {
-        let k = i;
-        i += 1;
-        if culling::is_left(CHANGED, marks[k]) {
+    for mark in &marks[..n] {
+        if culling::is_left(CHANGED, *mark) {
             count += 1;
         }
     }
@@ -61,13 +58,9 @@ fn renewed(mark: u16, r: Record) -> Record
     if mark < CHANGED {
         return r;
     }
-    let index = (mark - CHANGED) as u8;
     Record {
-        kind: r.kind,
-        index,
-        actor: r.actor,
-        key: r.key,
-        number: r.number,
+        index: (mark - CHANGED) as u8,
+        ..r
     }
 }
 
@@ -95,16 +88,13 @@ fn next_record(image: &[u8], marks: &[u16], last: Record) -> Record
         key: 0,
         number: 0,
     };
-    let mut i: usize = 0;
-    while i < n {
-        let k = i;
-        i += 1;
-        let mark = marks[k];
+    for i in 0..n {
+        let mark = marks[i];
         if culling::is_left(CHANGED, mark) {
             best = lesser(
                 last,
                 best,
-                renewed(mark, records::read_record(image, k * 16)),
+                renewed(mark, records::read_record(image, i * 16)),
             );
         }
     }
@@ -126,9 +116,7 @@ fn write_kept(image: &[u8], marks: &[u16], n: usize, out: &mut [u8]) -> usize
         number: 0,
     };
     let mut next: usize = 0;
-    let mut i: usize = 0;
-    while i < n {
-        i += 1;
+    for _ in 0..n {
         last = next_record(image, marks, last);
         next = records::write_record(out, next, last);
     }
@@ -160,11 +148,8 @@ fn count_told(image: &[u8], marks: &[u16]) -> usize
 {
     let n = image.len() / 16;
     let mut count: usize = 0;
-    let mut i: usize = 0;
-    while i < n {
-        let k = i;
-        i += 1;
-        if marks[k] != 0 {
+    for mark in &marks[..n] {
+        if *mark != 0 {
             count += 1;
         }
     }
@@ -181,13 +166,10 @@ fn write_report(image: &[u8], marks: &[u16], out: &mut [u8]) -> usize
 {
     let n = image.len() / 16;
     let mut next: usize = 0;
-    let mut i: usize = 0;
-    while i < n {
-        let k = i;
-        i += 1;
-        let mark = marks[k];
+    for i in 0..n {
+        let mark = marks[i];
         if mark != 0 {
-            next = write_told(out, next, k as u32, step_of(mark));
+            next = write_told(out, next, i as u32, step_of(mark));
         }
     }
     next

@@ -6,3 +6,4 @@ pub mod Scanning
 pub mod Rooms
 pub mod Builds
 pub mod Splits
+pub mod Numbers

@@ -1,15 +1,17 @@
 // What the records of an image show one after the other, before any is given a meaning: bad order (1), an excess (2).
 #![tactic(auto)]
 
-ghost use Rattle.std.specs.Prelude.{◌≡◌, List, [], ◌∷◌, ◌++◌, cond, eqb, ℕ};
+ghost use Rattle.std.specs.Prelude.{◌≡◌, List, [], ◌∷◌, ◌++◌, cond, eqb, min, ℕ};
 ghost use Rattle.records.specs.declared.Record.{Record};
 ghost use Rattle.records.specs.Kinds.{waiting_key_kind};
+ghost use Rattle.refusals.specs.Numbers.{number_told};
 ghost use Rattle.scan.specs.Limits.{limit_at, within_limits};
 ghost use Rattle.scan.specs.Stepping.{tally_to, by_key, by_index, limits_judged, counted_on, behind_last, scan_on, under_on};
 ghost use Rattle.scan.specs.Scanned.{Scanned, CountsUnder};
 
 use limits::{DOTS, ENTRIES, KEYS, VALUES, WAITING};
 use records::{Record, WAITING_KEY};
+use refusals::Refusal;
 
 // By kind, from kind 0, which is none: the most distinct things of each level.
 const OUTER: [u8; 13] = [
@@ -71,21 +73,17 @@ fn tally(n: usize, group: bool, same: bool) -> usize
     if n < 256 { n + 1 } else { n }
 }
 
-fn limit(limits: [u8; 13], kind: u8) -> usize
-    ensures { result ≡ limit_at limits kind }
+fn limit(limits: &[u8; 13], kind: u8) -> usize
+    ensures { result ≡ limit_at limits.now kind }
 {
-    if kind < 13 {
-        limits[kind as usize] as usize
-    } else {
-        0
-    }
+    limits.get(kind as usize).map_or(0, |n| *n as usize)
 }
 
 fn within(kind: u8, outer: usize, middle: usize, inner: usize) -> bool
     ensures { result ≡ within_limits kind outer middle inner }
 {
-    (outer <= limit(OUTER, kind))
-        & ((middle <= limit(MIDDLE, kind)) & (inner <= limit(INNER, kind)))
+    (outer <= limit(&OUTER, kind))
+        & ((middle <= limit(&MIDDLE, kind)) & (inner <= limit(&INNER, kind)))
 }
 
 impl Scan {
@@ -113,8 +111,7 @@ impl Scan {
     fn follows(self, low: u8, high: u8, r: Record) -> bool
         ensures { result ≡ behind_last low high self r }
     {
-        let ok = records::record_ok(low, high, r);
-        ok & (!self.any | records::before(self.last, r))
+        records::record_ok(low, high, r) & (!self.any | records::before(self.last, r))
     }
 
     // The counts with a record that is no waiting key.
@@ -125,11 +122,12 @@ impl Scan {
         let kind = self.any & (last.kind == r.kind);
         let key = kind & (last.key == r.key);
         let index = key & (last.index == r.index);
-        let mut next = self;
-        next.outer = tally(self.outer, kind, key);
-        next.middle = tally(self.middle, key, index);
-        next.inner = tally(self.inner, index, false);
-        next
+        Scan {
+            outer: tally(self.outer, kind, key),
+            middle: tally(self.middle, key, index),
+            inner: tally(self.inner, index, false),
+            ..self
+        }
     }
 
     // The counts with a waiting key, whose index has n.
@@ -138,11 +136,12 @@ impl Scan {
     {
         let last = self.last;
         let kind = self.any & (last.kind == r.kind);
-        let mut next = self;
-        next.outer = tally(self.outer, kind, 0 < n);
-        next.middle = n as usize + 1;
-        next.inner = 1;
-        next
+        Scan {
+            outer: tally(self.outer, kind, 0 < n),
+            middle: n as usize + 1,
+            inner: 1,
+            ..self
+        }
     }
 
     // The counts with a record.
@@ -160,14 +159,15 @@ impl Scan {
     fn judged(self, r: Record) -> Scan
         ensures { result ≡ limits_judged self r }
     {
-        let mut next = self;
-        next.any = true;
-        next.last = r;
+        let next = Scan {
+            any: true,
+            last: r,
+            ..self
+        };
         if within(r.kind, self.outer, self.middle, self.inner) {
             return next;
         }
-        next.number = 2;
-        next
+        Scan { number: 2, ..next }
     }
 
     // The scan with a record that follows the last.
@@ -177,10 +177,11 @@ impl Scan {
         if self.number == 0 {
             return self.tallied(r, n).judged(r);
         }
-        let mut next = self;
-        next.any = true;
-        next.last = r;
-        next
+        Scan {
+            any: true,
+            last: r,
+            ..self
+        }
     }
 
     // One record more; where it is a waiting key, n stand under its index so far: they are not side by side, and whoever reads them counts them.
@@ -193,9 +194,7 @@ impl Scan {
         if self.follows(low, high, r) {
             return self.counted(r, n);
         }
-        let mut bad = self;
-        bad.number = 1;
-        bad
+        Scan { number: 1, ..self }
     }
     // The same, said of every list of records that the scan may have taken before.
     pub fn take(self, low: u8, high: u8, r: Record, n: u8) -> Scan
@@ -206,14 +205,24 @@ impl Scan {
     }
 }
 
+// What the number of records one by one stands for.
+pub fn verdict(number: u8) -> Result<(), Refusal>
+    ensures { number_told result ≡ min number 2 }
+{
+    match number {
+        0 => Ok(()),
+        1 => Err(Refusal::Malformed),
+        _ => Err(Refusal::OverLimit),
+    }
+}
+
 // The waiting keys under an index, with a record of a kind.
 pub fn under(n: u8, kind: u8) -> u8
     ensures { result ≡ under_on n kind }
 {
     if kind == WAITING_KEY {
-        if n < 255 {
-            return n + 1;
-        }
+        n.saturating_add(1)
+    } else {
+        n
     }
-    n
 }

@@ -3,7 +3,7 @@ use Rattle.std.specs.Prelude.{◌≡◌, [], ◌<◌}
 use Rattle.clock.specs.Dots.{counter_in}
 use Rattle.entries.specs.declared.Update.{Update}
 use Rattle.map.specs.declared.Map.{Map}
-use Rattle.map.specs.declared.Judged.{Judged}
+use Rattle.map.specs.Judging.{Judged}
 use Rattle.map.specs.Model.{seen_by, waiting_in}
 use Rattle.map.specs.Updating.{update}
 use Rattle.map.specs.Judging.{judged}

@@ -2,11 +2,12 @@
 use mathlib.Core.Path.{◌≡◌, refl, ap, ap₂, sym, ◌∙◌}
 use mathlib.Core.List.Memᴰ
 use mathlib.Core.List.{List, [], ◌∷◌, ◌++◌, map}
-use Prim.Native.Nat.{ℕ, ◌+◌, ◌*◌, ◌-◌, ◌/◌}
+use Prim.Native.Nat.{ℕ, ◌+◌, ◌*◌, ◌-◌, ◌/◌, ◌≤◌, ◌<◌}
 use native.Mathlib.Omega.{arith}
-use lib.ListN.{length, take, drop, length-take, length-drop, length-append}
+use lib.ListN.{length, take, drop, get_or, length-take, length-drop, length-append}
 use Rattle.listlaws.specs.Order.{◌∈◌}
 use Rattle.listlaws.proofs.Pads.{take-pad}
+use Rattle.listlaws.proofs.SliceRests.{drop-step, drop-end}
 use Rattle.clock.specs.Dots.{dots_of}
 use Rattle.clock.proofs.Packs.{dots-of}
 use Rattle.limits.specs.Limits.{value_limit}
@@ -53,6 +54,16 @@ entry-size {s} {t} k h =
     ap₂ ◌+◌ (ap length (sym (dots-of (dots_of (clock_apart k.own)) refl)))
     (total-map source_size value_size (value_from s t) (sources_of k) (λ x i. value-size x (h.each x i))
     ∙ ap (total_of value_size) (sym (take-pad no_value value_limit (map (value_from s t) (sources_of k)))))
+
+-- a loop's turn, and its end
+pub total_on : {A : Type 0} (size : A → ℕ) (xs : List A) (i : ℕ) (d : A) → i < length xs
+    → total_of size (drop i xs) ≡ size (get_or xs i d) + total_of size (drop (i + 1) xs)
+unfolding total_of
+total_on size xs i d h = ap (total_of size) (drop-step xs i d h)
+
+pub total-end : {A : Type 0} (size : A → ℕ) (xs : List A) (i : ℕ) → length xs ≤ i → total_of size (drop i xs) ≡ 0
+unfolding total_of
+total-end size xs i h = ap (total_of size) (drop-end xs i h)
 
 -- one more
 pub total-snoc : {A : Type 0} (size : A → ℕ) (l : List A) (x : A) → total_of size (l ++ (x ∷ [])) ≡ total_of size l + size x

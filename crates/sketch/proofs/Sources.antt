@@ -9,6 +9,7 @@ use lib.ListN.{length, drop, get_or, length-take, length-map}
 use borrow.Author.Tests.{eq-eqb, ne_eqb, eqb-true, eqb-false}
 use Rattle.listlaws.proofs.Orders.{apart}
 use Rattle.listlaws.proofs.Pads.{take-pad}
+use Rattle.listlaws.proofs.SliceRests.{drop-step}
 use Rattle.scan.proofs.Eachs.{decide}
 use Rattle.limits.specs.Limits.{dot_limit, value_limit}
 use Rattle.clock.specs.Dots.{dots_of}
@@ -21,14 +22,13 @@ use Rattle.records.specs.Writing.{Wrote}
 use Rattle.records.proofs.Writing.{Writing, wrote_one}
 use Rattle.clockimage.specs.Image.{dot_record, dot_records, content_of, content_record}
 use Rattle.mapimage.specs.MapImage.{flat_from, value_record, value_records, entry_records}
-use Rattle.mapimage.proofs.Flats.{flat_on, flat-end}
+use Rattle.mapimage.proofs.Flats.{flat-end}
 use Rattle.runs.specs.Run.{run_dots}
 use Rattle.marks.specs.Marks.{picked}
 use Rattle.sketch.specs.declared.Source.{Source}
 use Rattle.sketch.specs.declared.Sketched.{Sketched}
-use Rattle.sketch.specs.declared.Sketch.{Sketch}
 use Rattle.walks.specs.Walk.{between}
-use Rattle.sketch.specs.Drawn.{value_named, image_named, value_from, Placed, sources_of, clock_apart, drawn, items_of, drawn_all, sections_of}
+use Rattle.sketch.specs.Drawn.{value_named, image_named, value_from, Placed, sources_of, clock_apart, drawn, sections_of}
 
 -- what a read past the end of an array would give
 abbrev pub no_source_read : Source
@@ -42,6 +42,12 @@ pub flat_map : {A B C : Type 0} (f : ℕ → B → List C) (g : A → B) (i : �
 unfolding flat_from
 flat_map f g i [] = refl
 flat_map f g i (x ∷ l) = ap (λ y. f i (g x) ++ y) (flat_map f g (i + 1) l)
+
+-- a turn of a loop over xs
+pub flat_next : {A B : Type 0} (f : ℕ → A → List B) (xs : List A) (i : ℕ) (d : A) → i < length xs
+    → flat_from f i (drop i xs) ≡ f i (get_or xs i d) ++ flat_from f (i + 1) (drop (i + 1) xs)
+unfolding flat_from
+flat_next f xs i d h = rw (drop-step xs i d h)
 
 module _ {s : List ℕ} {x : Source} (h : Placed s x) where
   -- its run is short enough
@@ -113,32 +119,28 @@ sections-on kind l a b =
 pub sections-end : (kind : ℕ) (l : List Entry) → kind ≡ 5 → sections_from kind l ≡ []
 sections-end kind l e = rw e
 
--- what is left to write in the section of a kind from a place on, and the sections behind it
-abbrev pub left_from : List ℕ → List ℕ → Sketch → ℕ → ℕ → List Record
-left_from s t sk kind i =
-    flat_from (λ j x. entry_records kind j (drawn s t x)) i (drop i (items_of sk)) ++ sections_from (kind + 1) (drawn_all s t sk)
+-- what is left to write of the entries xs, in the section of a kind from a place on, and the sections behind it
+abbrev pub left_from : List ℕ → List ℕ → ℕ → List Sketched → ℕ → List Record
+left_from s t kind xs i = flat_from (λ j x. entry_records kind j (drawn s t x)) i (drop i xs) ++ sections_from (kind + 1) (map (drawn s t) xs)
 
-module _ (s t : List ℕ) (sk : Sketch) (kind : ℕ) where
-  pub section-start : 2 ≤ kind → kind < 5 → sections_from kind (drawn_all s t sk) ≡ left_from s t sk kind 0
+module _ (s t : List ℕ) (kind : ℕ) (xs : List Sketched) where
+  pub section-start : 2 ≤ kind → kind < 5 → sections_from kind (map (drawn s t) xs) ≡ left_from s t kind xs 0
   section-start a b =
-      sections-on kind (drawn_all s t sk) a b
-      ∙ ap (λ k. k ++ sections_from (kind + 1) (drawn_all s t sk)) (flat_map (entry_records kind) (drawn s t) 0 (items_of sk))
+      sections-on kind (map (drawn s t) xs) a b
+      ∙ ap (λ k. k ++ sections_from (kind + 1) (map (drawn s t) xs)) (flat_map (entry_records kind) (drawn s t) 0 xs)
 
   module _ (i : ℕ) where
-    pub section-on : i < length (items_of sk)
-        → left_from s t sk kind i ≡ entry_records kind i (drawn s t (get_or sk.items i no_sketched_read)) ++ left_from s t sk kind (i + 1)
+    pub section-on : i < length xs
+        → left_from s t kind xs i ≡ entry_records kind i (drawn s t (get_or xs i no_sketched_read)) ++ left_from s t kind xs (i + 1)
     section-on h =
         let f : ℕ → Sketched → List Record = λ j x. entry_records kind j (drawn s t x) in
-        ap (λ k. k ++ sections_from (kind + 1) (drawn_all s t sk)) (flat_on f sk.items sk.sums.count i no_sketched_read h)
-        ∙ append_assoc (f i (get_or sk.items i no_sketched_read)) _ _
+        ap (λ k. k ++ sections_from (kind + 1) (map (drawn s t) xs)) (flat_next f xs i no_sketched_read h)
+        ∙ append_assoc (f i (get_or xs i no_sketched_read)) _ _
 
-    pub section-end : length (items_of sk) ≤ i → left_from s t sk kind i ≡ sections_from (kind + 1) (drawn_all s t sk)
-    section-end h =
-        ap (λ k. k ++ sections_from (kind + 1) (drawn_all s t sk)) (flat-end (λ j x. entry_records kind j (drawn s t x)) (items_of sk) i h)
+    pub section-end : length xs ≤ i → left_from s t kind xs i ≡ sections_from (kind + 1) (map (drawn s t) xs)
+    section-end h = ap (λ k. k ++ sections_from (kind + 1) (map (drawn s t) xs)) (flat-end (λ j x. entry_records kind j (drawn s t x)) xs i h)
 
--- how far the sections are written: up to an entry of a kind
-pub record Sectioned (s t : List ℕ) (sk : Sketch) (kind i at : ℕ) (entry now : List ℕ) (next : ℕ) : Type 0 where
-  pub rest : List Record
-  pub wrote : Writing (sections_of (drawn_all s t sk)) rest at entry now next
-  pub inside : kind < 5 → rest ≡ left_from s t sk kind i
-  pub beyond : 5 ≤ kind → rest ≡ []
+-- the same is left, in other words
+pub left_as : {whole a b : List Record} {at next : ℕ} {entry now : List ℕ} → a ≡ b → Writing whole a at entry now next
+    → Writing whole b at entry now next
+left_as e w = rw (← e) w

@@ -14,12 +14,9 @@ impl Flat {
     {
         let mut counters: [u64; DOTS] = [0; DOTS];
         let mut actors: [u16; DOTS] = [0; DOTS];
-        let mut i: usize = 0;
-        while i < DOTS {
-            let d = c.dots[i];
+        for (i, d) in c.dots.iter().enumerate() {
             counters[i] = d.counter;
             actors[i] = d.actor;
-            i += 1;
         }
         Flat {
             counters,
@@ -36,12 +33,11 @@ impl Flat {
             counter: 0,
         };
         let mut dots: [Dot; DOTS] = [none; DOTS];
-        let mut i: usize = 0;
-        while i < DOTS {
-            let actor = self.actors[i];
-            let counter = self.counters[i];
-            dots[i] = Dot { actor, counter };
-            i += 1;
+        for i in 0..DOTS {
+            dots[i] = Dot {
+                actor: self.actors[i],
+                counter: self.counters[i],
+            };
         }
         Clock {
             dots,
@@ -52,7 +48,6 @@ impl Flat {
     pub fn size(self) -> usize
         ensures { (result ≡ length (dots_of (clock_apart self))) × (result ≤ dot_limit) }
     {
-        let n = self.len;
-        if n < DOTS { n } else { DOTS }
+        self.len.min(DOTS)
     }
 }

@@ -15,26 +15,16 @@ use limits::{DOTS, ENTRIES, VALUES};
 fn run_length(x: Source) -> usize
     ensures { (result ≤ dot_limit) × ((s : List ℕ) → Placed s x → result ≡ x.to - x.from) }
 {
-    if x.to < x.from {
-        return 0;
-    }
-    let n = (x.to - x.from) as usize;
-    if DOTS < n { DOTS } else { n }
+    (x.to.saturating_sub(x.from) as usize).min(DOTS)
 }
 
 // The values of an entry and what is left of their dots.
 fn count_sources(e: Sketched) -> usize
     ensures { (result ≤ value_limit * (1 + dot_limit)) × ((s t : List ℕ) → Ready s t e → result ≡ total_of source_size (sources_of e)) }
 {
-    let n = e.size();
     let mut total: usize = 0;
-    let mut i: usize = 0;
-    while i < n {
-        let x = e.sources[i];
-        i += 1;
-        let marks = x.marks;
-        let many = run_length(x);
-        total += 1 + marks::count_marks(marks, many);
+    for x in e.as_slice() {
+        total += 1 + marks::count_marks(x.marks, run_length(*x));
     }
     total
 }

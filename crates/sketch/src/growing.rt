@@ -58,7 +58,13 @@ impl Sketched {
     pub fn size(self) -> usize
         ensures { (result ≡ length (sources_of self)) × (result ≤ value_limit) }
     {
-        let n = self.len;
-        if n < VALUES { n } else { VALUES }
+        self.len.min(VALUES)
+    }
+
+    // The sources in use.
+    pub fn as_slice(&self) -> &[Source]
+        ensures { result.now ≡ sources_of self.now }
+    {
+        &self.sources[..self.len.min(VALUES)]
     }
 }

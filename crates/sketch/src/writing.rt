@@ -19,9 +19,14 @@ impl Sketch {
     pub fn size(self) -> usize
         ensures { (result ≡ length (items_of self)) × (result ≤ entry_limit) }
     {
-        let sums = self.sums;
-        let n = sums.count;
-        if n < ENTRIES { n } else { ENTRIES }
+        self.sums.count.min(ENTRIES)
+    }
+
+    // The entries in use.
+    pub fn as_slice(&self) -> &[Sketched]
+        ensures { result.now ≡ items_of self.now }
+    {
+        &self.items[..self.sums.count.min(ENTRIES)]
     }
 }
 
@@ -77,14 +82,9 @@ fn write_sources(s: &[u8], t: &[u8], e: Sketched, kind: u8, out: &mut [u8], at: 
     ensures { Wrote at (bytes_of (flat_from (value_records kind e.key) 0 (map (value_from s.now t.now) (sources_of e))))
         out.old out.new result }
 {
-    let n = e.size();
     let mut next = at;
-    let mut i: usize = 0;
-    while i < n {
-        let x = e.sources[i];
-        let index = i as u8;
-        i += 1;
-        next = write_source(s, t, x, kind, e.key, index, out, next);
+    for (i, x) in e.as_slice().iter().enumerate() {
+        next = write_source(s, t, *x, kind, e.key, i as u8, out, next);
     }
     next
 }
@@ -103,25 +103,17 @@ fn write_entry(s: &[u8], t: &[u8], e: Sketched, kind: u8, out: &mut [u8], at: us
     write_sources(s, t, e, kind, out, at)
 }
 
-// The records of a map's clock and of its entries: one section behind the other. One loop, and the clock here, so that the sketch is copied once.
+// The records of a map's clock and of its entries: one section behind the other. The clock is written here, so that the sketch is copied once.
 pub fn write_sketch(s: &[u8], t: &[u8], clock: Clock, sk: Sketch, out: &mut [u8]) -> usize
     requires { AllReady s.now t.now sk
         × (length (dot_records clock_dot_kind 0 0 (dots_of clock) ++ sections_of (drawn_all s.now t.now sk)) * 16 ≤ length out.old) }
     ensures { Wrote 0 (bytes_of (dot_records clock_dot_kind 0 0 (dots_of clock) ++ sections_of (drawn_all s.now t.now sk)))
         out.old out.new result }
 {
-    let n = sk.size();
     let mut next = clockimage::write_dots(out, 0, CLOCK_DOT, 0, 0, clock);
-    let mut kind: u8 = ENTRY_DOT;
-    let mut i: usize = 0;
-    while kind < WAITING_DOT {
-        if i < n {
-            let e = sk.items[i];
-            i += 1;
-            next = write_entry(s, t, e, kind, out, next);
-        } else {
-            i = 0;
-            kind += 1;
+    for kind in ENTRY_DOT..WAITING_DOT {
+        for e in sk.as_slice() {
+            next = write_entry(s, t, *e, kind, out, next);
         }
     }
     next

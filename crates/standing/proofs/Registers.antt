@@ -1,6 +1,6 @@
 -- The values of a register taken one after the other: which stand in a merge, and which remain beside a put.
 use mathlib.Core.Path.{◌≡◌, refl, ap, ap₂, sym, ◌∙◌}
-use mathlib.Core.Bool.{Bool, true, false, not, cond, ◌||◌}
+use mathlib.Core.Bool.{Bool, true, false, not, ◌||◌}
 use mathlib.Core.List.{List, [], ◌∷◌, ◌++◌}
 use Prim.Native.Nat.{ℕ, ◌+◌, ◌≤◌, ◌<◌}
 use native.Mathlib.Numerals.{add-one}
@@ -49,25 +49,24 @@ module _ {ours theirs : List Value} where
     abbrev our_value : Value
     our_value = get_or ours i no_value
 
-    module _ {y : Bool} {c : List Bool} (e : y ≡ outdone false theirs our_value)
-        (f : picked c theirs ≡ cond y (picked b theirs) (those (standing true (our_value ∷ [])) (picked b theirs))) where
-      -- ours yields to one of theirs
-      pub merging-off : y ≡ true → i < value_limit → Merging ours theirs (i + 1) (set a i false) c
-      merging-off t k =
-          let n = ap not (sym e ∙ t) in
-          record {
-            marking = marking-off g.marking (rw (length-replicate value_limit true) k) n;
-            left = f ∙ rw (t, one-fails (standing false theirs) ours i h n) g.left;
-          }
+    -- ours yields to one of theirs
+    pub merging-off : outdone false theirs our_value ≡ true → i < value_limit → Merging ours theirs (i + 1) (set a i false) b
+    merging-off t k =
+        let n = ap not t in
+        record {
+          marking = marking-off g.marking (rw (length-replicate value_limit true) k) n;
+          left = rw (one-fails (standing false theirs) ours i h n) g.left;
+        }
 
-      -- ours stands, and those of theirs that yield to it go
-      pub merging-on : y ≡ false → Merging ours theirs (i + 1) a c
-      merging-on t =
-          let n = ap not (sym e ∙ t) in
-          record {
-            marking = marking-skip g.marking n;
-            left = f ∙ rw (t, one_passes (standing false theirs) ours i h n, g.left) (sym (standing-more true _ our_value theirs));
-          }
+    -- ours stands, and those of theirs that yield to it go
+    pub merging-on : outdone false theirs our_value ≡ false → {c : List Bool}
+        → picked c theirs ≡ those (standing true (our_value ∷ [])) (picked b theirs) → Merging ours theirs (i + 1) a c
+    merging-on t f =
+        let n = ap not t in
+        record {
+          marking = marking-skip g.marking n;
+          left = f ∙ rw (one_passes (standing false theirs) ours i h n, g.left) (sym (standing-more true _ our_value theirs));
+        }
 
   pub merging-end : {i : ℕ} {a b : List Bool} → Merging ours theirs i a b → length ours ≤ i → length ours ≤ value_limit
       → picked a ours ++ picked b theirs ≡ merge_values ours theirs

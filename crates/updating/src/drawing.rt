@@ -189,6 +189,7 @@ fn draw_keys(
         dot: l.fourth,
     };
     let mut done = false;
+    // A `while`: the map's entries and the put are each walked at their own pace.
     while (x.own < third) | !done {
         let c = crate::stepping::next(s, l, x, done, u.key);
         let e = c.entry;

@@ -10,6 +10,7 @@ ghost use Rattle.verdicts.specs.Verdicts.{op_verdict, merge_verdict, ready_verdi
 
 use asking::{CmRDTValidation, CvRDTValidation};
 use readiness::Readiness;
+use refusals::Refusal;
 
 // What `validate_op` says of two images: where one is refused, its number alone.
 #[derive(Clone, Copy)]
@@ -37,7 +38,7 @@ fn order_number(o: CmRDTValidation) -> u8
 {
     match o {
         CmRDTValidation::Fits => 0,
-        CmRDTValidation::Missing(_, _) => 11,
+        CmRDTValidation::Missing(_, _) => Refusal::Gap.number(),
     }
 }
 
@@ -64,7 +65,7 @@ fn spent_number(s: CvRDTValidation) -> u8
 {
     match s {
         CvRDTValidation::Once => 0,
-        CvRDTValidation::Twice(_, _, _) => 12,
+        CvRDTValidation::Twice(_, _, _) => Refusal::DoubleSpent.number(),
     }
 }
 
@@ -109,9 +110,9 @@ fn ready_number(g: Readiness) -> u8
 {
     match g {
         Readiness::Next => 0,
-        Readiness::Foreign => 19,
-        Readiness::Seen => 20,
-        Readiness::Hold(_, _) => 21,
+        Readiness::Foreign => Refusal::Foreign.number(),
+        Readiness::Seen => Refusal::Seen.number(),
+        Readiness::Hold(_, _) => Refusal::Hold.number(),
     }
 }
 
@@ -147,17 +148,18 @@ pub fn op(map: &[u8], op: &[u8]) -> OpVerdict
             order: CmRDTValidation::Fits,
         };
     }
-    let o = opimage::read_op(op);
-    if o.number != 0 {
-        return OpVerdict {
-            number: o.number,
+    match opimage::read_op(op) {
+        Ok(o) => {
+            let order = direct::validating::order_of(map, l, o);
+            OpVerdict {
+                number: order_number(order),
+                order,
+            }
+        }
+        Err(refusal) => OpVerdict {
+            number: refusal.number(),
             order: CmRDTValidation::Fits,
-        };
-    }
-    let order = direct::validating::order_of(map, l, o.op);
-    OpVerdict {
-        number: order_number(order),
-        order,
+        },
     }
 }
 
@@ -171,17 +173,18 @@ pub fn ready(map: &[u8], op: &[u8]) -> ReadyVerdict
             ready: Readiness::Next,
         };
     }
-    let o = opimage::read_op(op);
-    if o.number != 0 {
-        return ReadyVerdict {
-            number: o.number,
+    match opimage::read_op(op) {
+        Ok(o) => {
+            let ready = readiness::ready(l.clock, o);
+            ReadyVerdict {
+                number: ready_number(ready),
+                ready,
+            }
+        }
+        Err(refusal) => ReadyVerdict {
+            number: refusal.number(),
             ready: Readiness::Next,
-        };
-    }
-    let ready = readiness::ready(l.clock, o.op);
-    ReadyVerdict {
-        number: ready_number(ready),
-        ready,
+        },
     }
 }
 

@@ -1,9 +1,10 @@
 // Walks along an image's records, section by section: how far a run of dots goes, the values of a key, the entries, what waits.
 #![tactic(auto)]
 
-ghost use Rattle.std.specs.Prelude.{◌≡◌, [], ℕ, ◌+◌, ◌*◌, ◌≤◌, ◌<◌, length, replicate};
+ghost use Rattle.std.specs.Prelude.{◌≡◌, [], ℕ, Bool, ◌+◌, ◌*◌, ◌≤◌, ◌<◌, length, replicate};
 ghost use Rattle.limits.specs.Limits.{dot_limit, value_limit, entry_limit, waiting_limit};
 ghost use Rattle.clock.specs.Dots.{dots_of};
+ghost use Rattle.records.specs.declared.Record.{Record};
 ghost use Rattle.walks.specs.Walk.{part, field_of, dot_test, own_test, value_test, run_end, values_end, entries_end, Sections, Splits, waits_end};
 ghost use Rattle.walks.specs.Walk.{key_test, keys_good};
 
@@ -23,7 +24,7 @@ pub fn lower(a: usize, b: usize) -> usize
     ensures upper_bound { (result ≤ a) × (result ≤ b) }
     ensures value { result < a → result ≡ b }
 {
-    if a < b { a } else { b }
+    a.min(b)
 }
 
 // Whether a record is a dot's of this kind, index and key.
@@ -47,24 +48,33 @@ pub fn value_test(key: u32, index: u8, r: Record) -> bool
     (r.kind == VALUE) & ((r.index == index) & (r.key == key))
 }
 
+// How many records that pass a test stand from `at` on: at most as many as a clock holds, actors ascend.
+fn passing_end<F: Fn(Record) -> bool>(s: &[u8], at: usize, end: usize, passes: F) -> usize
+    requires callable { F.IsAlwaysCallable passes }
+    requires inside { (at ≤ end) × (end * 16 ≤ length s.now) }
+    ensures bound { (at + result ≤ end) × (result ≤ dot_limit) }
+    ensures value { (test : Record → Bool) → ((r : Record) (b : Bool) → F.post passes r b → b ≡ test r)
+        → result ≡ run_end test 0 dot_limit 0 (part s.now at end) }
+{
+    let top = DOTS.min(end - at);
+    let mut low: u32 = 0;
+    for i in 0..top {
+        let r = records::read_record(s, (at + i) * 16);
+        let good = passes(r) & (low <= r.actor as u32);
+        if !good {
+            return i;
+        }
+        low = r.actor as u32 + 1;
+    }
+    top
+}
+
 // How many dots of one kind, index and key stand from `at` on: at most as many as a clock holds, actors ascend.
 pub fn run_end(s: &[u8], at: usize, end: usize, kind: u8, index: u8, key: u32) -> usize
     requires { (at ≤ end) × (end * 16 ≤ length s.now) }
     ensures { (result ≡ run_end (dot_test kind index key) 0 dot_limit 0 (part s.now at end)) × ((at + result ≤ end) × (result ≤ dot_limit)) }
 {
-    let top = lower(DOTS, end - at);
-    let mut low: u32 = 0;
-    let mut i: usize = 0;
-    while i < top {
-        let r = records::read_record(s, (at + i) * 16);
-        let good = dot_test(kind, index, key, r) & (low <= r.actor as u32);
-        if !good {
-            return i;
-        }
-        low = r.actor as u32 + 1;
-        i += 1;
-    }
-    i
+    passing_end(s, at, end, |r| dot_test(kind, index, key, r))
 }
 
 // The same of an entry's dots, which the map clock covers.
@@ -72,19 +82,7 @@ pub fn own_end(s: &[u8], at: usize, end: usize, key: u32, clock: Clock) -> usize
     requires { (at ≤ end) × (end * 16 ≤ length s.now) }
     ensures { (result ≡ run_end (own_test (dots_of clock) key) 0 dot_limit 0 (part s.now at end)) × (at + result ≤ end) }
 {
-    let top = lower(DOTS, end - at);
-    let mut low: u32 = 0;
-    let mut i: usize = 0;
-    while i < top {
-        let r = records::read_record(s, (at + i) * 16);
-        let good = own_test(clock, key, r) & (low <= r.actor as u32);
-        if !good {
-            return i;
-        }
-        low = r.actor as u32 + 1;
-        i += 1;
-    }
-    i
+    passing_end(s, at, end, |r| own_test(clock, key, r))
 }
 
 // How many values of a key stand from `at` on, and how many dots they have from `dots` on: no more than a register holds, each with a dot.
@@ -93,10 +91,9 @@ pub fn values_end(s: &[u8], at: usize, end: usize, dots: usize, last: usize, key
     ensures { (result ≡ values_end key value_limit 0 0 (part s.now at end) (part s.now dots last))
         × ((at + result.values ≤ end) × (dots + result.dots ≤ last)) }
 {
-    let top = lower(VALUES, end - at);
+    let top = VALUES.min(end - at);
     let mut p: usize = 0;
-    let mut i: usize = 0;
-    while i < top {
+    for i in 0..top {
         let r = records::read_record(s, (at + i) * 16);
         let k = i as u8;
         if !value_test(key, k, r) {
@@ -115,11 +112,10 @@ pub fn values_end(s: &[u8], at: usize, end: usize, dots: usize, last: usize, key
             };
         }
         p += q;
-        i += 1;
     }
     Passed {
         good: true,
-        values: i,
+        values: top,
         dots: p,
     }
 }
@@ -149,6 +145,7 @@ pub fn count_entries(s: &[u8], l: Layout, clock: Clock) -> usize
     let mut dots = fourth;
     let mut low: u64 = 0;
     let mut n: usize = 0;
+    // A `while`: an entry has as many dots, values and values' dots as the records say.
     while (own < third) & (n < ENTRIES) {
         let r = records::read_record(s, own * 16);
         let key = r.key;
@@ -180,6 +177,7 @@ pub fn count_waiting(s: &[u8], l: Layout) -> usize
     let mut at = l.fifth;
     let mut last = Clock::new();
     let mut n: usize = 0;
+    // A `while`: a removal has as many dots as the records say.
     while (at < sixth) & (n < WAITING) {
         let q = run_end(s, at, sixth, WAITING_DOT, n as u8, 0);
         let from = at * 16;
@@ -208,8 +206,7 @@ pub fn keys_good(s: &[u8], at: usize, end: usize, n: usize) -> bool
 {
     let mut counts: [usize; WAITING] = [0; WAITING];
     let mut low: u64 = 0;
-    let mut i = at;
-    while i < end {
+    for i in at..end {
         let r = records::read_record(s, i * 16);
         let k = r.index as usize;
         if !key_test(n, r) {
@@ -222,7 +219,6 @@ pub fn keys_good(s: &[u8], at: usize, end: usize, n: usize) -> bool
         }
         counts[k] = c + 1;
         low = x + 1;
-        i += 1;
     }
     true
 }
@@ -263,6 +259,7 @@ pub fn first_from(s: &[u8], field: u8, bound: u64, from: usize, end: usize) -> u
 {
     let mut low = from;
     let mut high = end;
+    // A `while`: a binary search.
     while low < high {
         let mid = low + (high - low) / 2;
         let r = records::read_record(s, mid * 16);

@@ -1,15 +1,11 @@
 -- `count_values` meets its contract: the loop adds up what each has.
 use mathlib.Core.Path.{◌≡◌}
-use Prim.Native.Nat.{◌+◌, ◌*◌, ◌≤◌, ◌-◌}
+use Prim.Native.Nat.{◌+◌, ◌*◌, ◌≤◌}
 use lib.ListN.{drop}
-use Rattle.register.specs.Values.{values_of}
 use Rattle.answers.specs.Sizes.{value_most, value_size}
 use Rattle.listlaws.specs.Fold.{total_of}
 use Rattle.answers.proofs.count_values.Given as goal
 
-abbrev pub invariant-loop-i : goal.invariant-loop-i
-invariant-loop-i l = (l.i ≤ l.n) × ((l.total ≤ l.i * value_most)
-    × (l.total + total_of value_size (drop l.i (values_of l.register)) ≡ total_of value_size (values_of l.register)))
-
-abbrev pub decreases-loop-i : goal.decreases-loop-i
-decreases-loop-i l = l.n - l.i
+abbrev pub invariant-loop-v : goal.invariant-loop-v
+invariant-loop-v l = (l.total ≤ l.v-index * value_most)
+    × (l.total + total_of value_size (drop l.v-index l.v-items) ≡ total_of value_size l.v-items)

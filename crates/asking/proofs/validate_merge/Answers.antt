@@ -2,29 +2,20 @@
 use mathlib.Core.Path.{sym, ◌∙◌}
 use Rattle.entries.proofs.Packs.{none_read}
 use Rattle.asking.specs.Asking.{validate_merge}
-use Rattle.asking.proofs.Askings.{searching-start, searching-here, searching-on, searching-end}
-use borrow.Author.Rules.{rules}
+use Rattle.asking.proofs.Askings.{searching-here, searching-on, searching-end}
 use native.Mathlib.Omega.{arith}
 use Rattle.asking.proofs.validate_merge.Goals as goal
-
-pub loop-i-init : goal.loop-i-init
-loop-i-init c = (search rules, searching-start)
 
 pub returns-then-twice : goal.returns-then-twice
 unfolding validate_merge
 returns-then-twice c =
-    let t = c.before in
-    let b = t.before in
-    let s = b.before.before.before in
-    searching-here none_read s.loop-i.invariant.1 (omega arith) b.spent_among-s.ensures (sym t.twice.ensures ∙ c.if-twice.true)
+    rw (← c.as_slice-e-items.ensures)
+    (searching-here none_read c.loop-e.invariant c.loop-e-test.true c.spent_among-s.ensures (sym c.twice.ensures ∙ c.if-twice.true))
 
-pub loop-i-preserved : goal.loop-i-preserved
-loop-i-preserved c =
-    let t = c.before in
-    let b = t.before in
-    let s = b.before.before.before in
-    (search rules, searching-on none_read s.loop-i.invariant.1 (omega arith) b.spent_among-s.ensures (sym t.twice.ensures ∙ c.if-twice.false))
+pub loop-e-preserved : goal.loop-e-preserved
+loop-e-preserved c =
+    searching-on none_read c.loop-e.invariant c.loop-e-test.true c.spent_among-s.ensures (sym c.twice.ensures ∙ c.if-twice.false)
 
 pub returns : goal.returns
 unfolding validate_merge
-returns c = searching-end c.loop-i.invariant.1 (omega arith)
+returns c = rw (← c.as_slice-e-items.ensures) (searching-end c.loop-e.invariant (omega arith))

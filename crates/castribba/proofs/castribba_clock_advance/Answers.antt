@@ -1,5 +1,5 @@
 -- `castribba_clock_advance` meets its contract, by that of `advance`: where the dot took no effect, the clock is as it was.
-use mathlib.Core.Path.{ap, sym}
+use mathlib.Core.Path.{ap}
 use Rattle.advance.specs.declared.Advanced.{Advanced}
 use Rattle.advance.proofs.Advances.{as-given}
 use Rattle.castribba.proofs.castribba_clock_advance.Goals as goal

@@ -20,4 +20,4 @@ returns c =
     let y = c.before.before.before.before.before in
     let z = y.before.before.before.before in
     run-elsewhere _ _ _ (rw (copied z.copy_run-n.ensures) at z.run-ran.ensures) y.if-ran-ne0.false
-    c.same_bytes.ensures c.if-same_bytes.false c.word.ensures
+    c.same_bytes.ensures c.if-same_bytes.false c.told.ensures

@@ -1,5 +1,5 @@
 -- `judge` meets its contract: each way out is a law of `Judged`.
-use mathlib.Core.Path.{refl, sym, ◌∙◌}
+use mathlib.Core.Path.{sym, ◌∙◌}
 use native.Mathlib.Omega.{arith}
 use Rattle.drafting.proofs.Results.{map-short}
 use Rattle.catchup.proofs.Judged.{first-refused, second-refused, many-refused, were-run}
@@ -21,7 +21,7 @@ returns-then-count_operations-gt-OPERATIONS c =
     let y = x.before.before.before in
     many-refused _ _ _ _ _ c.refused-then-count_operations-gt-OPERATIONS.ensures.0 c.refused-then-count_operations-gt-OPERATIONS.ensures.1
     (sym y.lay_out-a.ensures.0 ∙ y.if-a-ne0.false)
-    (sym x.lay_out-b.ensures.0 ∙ x.if-b-ne0.false) refl
+    (sym x.lay_out-b.ensures.0 ∙ x.if-b-ne0.false) c.number.ensures
     (omega (arith, c.count_operations.ensures, c.if-count_operations-gt-OPERATIONS.true))
 
 pub arrive-requires : goal.arrive-requires

@@ -11,7 +11,7 @@ returns-then-joined f =
     let h = f.requires.0.0 in
     let k = f.requires.0.1 in
     let j = f.join-joined.ensures ∙ ap₂ (λ x y. fitted (join_dots (dots_of x) (dots_of y))) h.clock k.clock in
-    merged-long h k (over-means _ j f.if-joined.true) f.word.ensures
+    merged-long h k (over-means _ j f.if-joined.true) f.told.ensures
 
 pub join_plan-plan-requires : goal.join_plan-plan-requires
 join_plan-plan-requires f =

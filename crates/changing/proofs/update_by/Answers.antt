@@ -15,7 +15,7 @@ returns-then-d-get f =
     let u = f.args.u in
     let g = f.get.ensures ∙ ap (λ x. counter_in (dots_of x) u.dot.actor) h.clock in
     answered (update-seen _ u (omega (arith, g, f.if-d-get.true)))
-    (rw (judged-within h.lies.within.limits) f.same.ensures)
+    (rw (judged-within h.lies.within.limits, f.told.ensures) f.same.ensures)
 
 pub returns-then-grown : goal.returns-then-grown
 returns-then-grown f =
@@ -24,7 +24,7 @@ returns-then-grown f =
     let u = f.args.u in
     let g = f.get.ensures ∙ ap (λ x. counter_in (dots_of x) u.dot.actor) h.clock in
     let j = f.add-grown.ensures ∙ ap (λ x. fitted (add_dot (dots_of x) u.dot)) h.clock in
-    updated-long h u p.1.0.0 (omega (arith, g, f.if-d-get.false)) (over-means _ j f.if-grown.true) f.word.ensures
+    updated-long h u p.1.0.0 (omega (arith, g, f.if-d-get.false)) (over-means _ j f.if-grown.true) f.told-then-grown.ensures
 
 pub join_plan-plan-requires : goal.join_plan-plan-requires
 join_plan-plan-requires f =

@@ -17,15 +17,12 @@ use Rattle.sketch.specs.Drawn.{Draws}
 use Rattle.cutting.proofs.Valued.{Drawing}
 use Rattle.cutting.proofs.draw_values.Given as goal
 
-abbrev pub invariant-loop-i : goal.invariant-loop-i
-invariant-loop-i live =
-    ((live.i ≤ live.n) × ((live.n ≤ value_limit) × ((live.initial.out.len ≤ value_limit)
-    × ((live.out.len ≤ live.initial.out.len + live.i) × ((length live.stand ≡ 4) × (length live.out.sources ≡ 4))))))
+abbrev pub invariant-loop-k : goal.invariant-loop-k
+invariant-loop-k live =
+    ((live.n ≤ value_limit) × ((live.initial.out.len ≤ value_limit)
+    × ((live.out.len ≤ live.initial.out.len + live.k) × ((length live.stand ≡ 4) × (length live.out.sources ≡ 4)))))
     × ((s t : List ℕ) (own : ℕ) (dots : Span) (end : ℕ) (next : Cursor) (x : Entry) (key : ℕ) (d : List Dot) (l : List Value) → live.v
     ≡ cond live.second t s
     → LiesAt live.v x (record { key = own; dots = dots; values = record { from = live.first; to = end }; starts = live.starts; next = next })
     → end - live.first ≡ live.n
-    → Draws s t key d l live.initial.out → Drawing s t key d l (dots_of live.gone) live.stand (values_in x) live.i live.out)
-
-abbrev pub decreases-loop-i : goal.decreases-loop-i
-decreases-loop-i l = l.n - l.i
+    → Draws s t key d l live.initial.out → Drawing s t key d l (dots_of live.gone) live.stand (values_in x) live.k live.out)

@@ -1,7 +1,6 @@
 -- `count_keys` meets its contract: the least number that is left, again and again.
 use mathlib.Core.Path.{sym, ◌∙◌}
-use mathlib.Core.Bool.{true}
-use Prim.Native.Nat.{◌-◌, ◌^◌}
+use Prim.Native.Nat.{◌^◌}
 use lib.ListN.{length-map}
 use Rattle.mapimage.specs.MapImage.{flat_from, key_numbers, number_record}
 use Rattle.mapimage.specs.Sorted.{in_order}

@@ -1,33 +1,24 @@
--- `count_values` meets its contract: the loop adds up what each has.
-use mathlib.Core.Path.{ap, ◌∙◌}
-use Prim.Native.Nat.{◌+◌, ◌-◌}
-use lib.ListN.{length}
+-- `count_values` meets its contract: what each has is added up.
+use mathlib.Core.Path.{◌≡◌, ap, sym, ◌∙◌}
+use Prim.Native.Nat.{ℕ, ◌+◌}
+use native.Mathlib.Omega.{arith}
+use borrow.Author.Rules.{rules}
+use Rattle.limits.specs.Limits.{dot_limit}
 use Rattle.answers.specs.Sizes.{value_size}
 use Rattle.listlaws.specs.Fold.{total_of}
-use Rattle.memory.specs.Memory.{value_place}
-use Rattle.delivery.proofs.Views.{length-dots, values-left, values-end, value-dots}
-use native.Mathlib.Omega.{arith}
+use Rattle.maprecords.specs.Reading.{numbers_below}
+use Rattle.memory.specs.Memory.{value_place, value_at, values_at, count_at}
+use Rattle.delivery.proofs.Sums.{total-made, value-counted, values-most}
 use Rattle.delivery.proofs.count_values.Goals as goal
 
-pub loop-i-preserved : goal.loop-i-preserved
-unfolding total_of
-loop-i-preserved c =
-    let s = c.before.before in
-    let a = s.args in
-    let w = a.mem.now in
-    let p = value_place a.j s.loop-i.i in
-    let e = ap (total_of value_size) (values-left w a.j s.loop-i.i (omega arith)) in
-    let x = ap length (value-dots w p) ∙ length-dots w (p + 8) in
-    let q = c.count-dots.ensures in
-    (omega arith, (omega arith, omega arith))
-
 pub returns : goal.returns
-unfolding total_of
+unfolding values_at
 returns c =
-    let s = c.before in
-    let a = s.args in
-    let e = ap (total_of value_size) (values-end a.mem.now a.j s.loop-i.i (omega arith)) in
-    (omega arith, omega arith)
-
-pub loop-i-init : goal.loop-i-init
-loop-i-init c = (omega arith, (omega arith, omega arith))
+    let j = c.args.j in
+    let w = c.args.mem.now in
+    let size = λ (i : ℕ). value_size (value_at w (value_place j i)) in
+    let t = c.total.ensures size (λ i r h p. let e : r ≡ 1 + count_at dot_limit (value_place j i + 8) w = search rules in
+    e ∙ sym (value-counted w (value_place j i)))
+    ∙ ap (λ n. total_of size (numbers_below n)) c.count-n.ensures.0
+    ∙ sym (total-made value_size (λ i. value_at w (value_place j i)) _) in
+    (t, omega (arith, values-most w j))

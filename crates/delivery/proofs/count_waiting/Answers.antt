@@ -1,31 +1,27 @@
--- `count_waiting` meets its contract: the loop adds up what each has.
-use mathlib.Core.Path.{ap}
-use Prim.Native.Nat.{◌-◌}
+-- `count_waiting` meets its contract: what each has is added up.
+use mathlib.Core.Path.{◌≡◌, ap, sym, ◌∙◌}
+use Prim.Native.Nat.{ℕ}
 use lib.ListN.{length}
+use native.Mathlib.Omega.{arith}
+use borrow.Author.Rules.{rules}
+use Rattle.limits.specs.Limits.{dot_limit}
 use Rattle.removals.specs.Model.{under_of}
 use Rattle.listlaws.specs.Fold.{total_of}
-use Rattle.memory.specs.Memory.{removal_place}
-use Rattle.delivery.proofs.Views.{length-dots, waiting-left, waiting-end, under-dots}
-use native.Mathlib.Omega.{arith}
+use Rattle.maprecords.specs.Reading.{numbers_below}
+use Rattle.memory.specs.Memory.{removal_place, removal_at, waiting_at, count_at}
+use Rattle.delivery.proofs.Views.{length-dots, under-dots}
+use Rattle.delivery.proofs.Sums.{total-made, total-most}
 use Rattle.delivery.proofs.count_waiting.Goals as goal
 
-pub loop-k-init : goal.loop-k-init
-loop-k-init c = (omega arith, (omega arith, omega arith))
-
-pub loop-k-preserved : goal.loop-k-preserved
-unfolding total_of
-loop-k-preserved c =
-    let s = c.before.before in
-    let w = s.args.mem.now in
-    let e = ap (total_of (λ x. length (under_of x))) (waiting-left w s.loop-k.k (omega arith)) in
-    let d = ap length (under-dots w s.loop-k.k) in
-    let n = length-dots w (removal_place s.loop-k.k) in
-    (omega arith, (omega arith, omega arith))
-
 pub returns : goal.returns
-unfolding total_of
+unfolding waiting_at
 returns c =
-    let s = c.before in
-    let w = s.args.mem.now in
-    let e = ap (total_of (λ x. length (under_of x))) (waiting-end w s.loop-k.k (omega arith)) in
-    (omega arith, omega arith)
+    let w = c.args.mem.now in
+    let size = λ (k : ℕ). length (under_of (removal_at w k)) in
+    let same = λ (k : ℕ). ap length (under-dots w k) ∙ length-dots w (removal_place k) in
+    let t = c.total.ensures size (λ k r h p. let e : r ≡ count_at dot_limit (removal_place k) w = search rules in e ∙ sym (same k)) in
+    let m = total-most size dot_limit c.count-n.result (λ k. omega (arith, same k)) in (
+      t ∙ ap (λ n. total_of size (numbers_below n)) c.count-n.ensures.0
+          ∙ sym (total-made (λ x. length (under_of x)) (removal_at w) _),
+      omega (arith, c.count-n.ensures.1),
+    )

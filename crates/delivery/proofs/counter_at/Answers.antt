@@ -1,7 +1,7 @@
 -- `counter_at` meets its contract: the loop looks for the actor's dot.
 use mathlib.Core.Path.{◌≡◌, refl, ap, sym, ◌∙◌}
 use mathlib.Core.List.{◌∷◌}
-use Prim.Native.Nat.{◌+◌, ◌-◌}
+use Prim.Native.Nat.{◌+◌}
 use lib.ListN.{drop}
 use Rattle.memory.specs.Memory.{dots_at}
 use Rattle.delivery.proofs.Views.{dots-left, dots-end}
@@ -11,30 +11,24 @@ use Rattle.delivery.proofs.counter_at.Goals.{After-dot_at-d}
 use Rattle.delivery.proofs.counter_at.Goals as goal
 
 -- the dot that was read is the next
-next : (c : After-dot_at-d) → let s = c.before.before in
-    let a = s.args in
-    drop s.loop-i.i (dots_at a.mem.now a.at) ≡ c.dot_at-d.result ∷ drop (s.loop-i.i + 1) (dots_at a.mem.now a.at)
+next : (c : After-dot_at-d) → let a = c.args in
+    drop c.loop-i.i (dots_at a.mem.now a.at) ≡ c.dot_at-d.result ∷ drop (c.loop-i.i + 1) (dots_at a.mem.now a.at)
 next c =
-    let s = c.before.before in
-    let a = s.args in
-    dots-left a.mem.now a.at s.loop-i.i (omega arith) ∙ ap (λ d. d ∷ drop (s.loop-i.i + 1) (dots_at a.mem.now a.at))
+    let a = c.args in
+    dots-left a.mem.now a.at c.loop-i.i (omega arith) ∙ ap (λ d. d ∷ drop (c.loop-i.i + 1) (dots_at a.mem.now a.at))
     (sym c.dot_at-d.ensures)
 
 pub returns-then-d-actor : goal.returns-then-d-actor
-returns-then-d-actor c = let s = c.before.before.before.before in sym (s.loop-i.invariant.1 ∙ counter-here _ (next c.before.before) c.if-d-actor.true)
+returns-then-d-actor c = sym (c.loop-i.invariant ∙ counter-here _ (next c.before.before) c.if-d-actor.true)
 
 pub loop-i-preserved : goal.loop-i-preserved
-loop-i-preserved c = let s = c.before.before.before.before in (
-  omega arith,
-  s.loop-i.invariant.1
-      ∙ counter-on _ (next c.before.before) c.if-d-actor.false,
-)
+loop-i-preserved c = c.loop-i.invariant
+    ∙ counter-on _ (next c.before.before) c.if-d-actor.false
 
 pub returns : goal.returns
 returns c =
-    let s = c.before in
-    let a = s.args in
-    sym (s.loop-i.invariant.1 ∙ counter-none _ (dots-end a.mem.now a.at s.loop-i.i (omega arith)))
+    let a = c.args in
+    sym (c.loop-i.invariant ∙ counter-none _ (dots-end a.mem.now a.at c.loop-i.i (omega arith)))
 
 pub loop-i-init : goal.loop-i-init
-loop-i-init c = (omega arith, refl)
+loop-i-init c = refl

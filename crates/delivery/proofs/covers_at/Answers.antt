@@ -1,7 +1,7 @@
 -- `covers_at` meets its contract: the loop looks for a dot beyond the clock.
 use mathlib.Core.Path.{◌≡◌, refl, ap, sym, ◌∙◌}
 use mathlib.Core.List.{◌∷◌}
-use Prim.Native.Nat.{◌+◌, ◌-◌}
+use Prim.Native.Nat.{◌+◌}
 use lib.ListN.{drop}
 use Rattle.memory.specs.Memory.{dots_at}
 use Rattle.delivery.proofs.Views.{dots-left, dots-end}
@@ -11,33 +11,26 @@ use Rattle.delivery.proofs.covers_at.Goals.{After-dot_at-d}
 use Rattle.delivery.proofs.covers_at.Goals as goal
 
 -- the dot that was read is the next
-next : (c : After-dot_at-d) → let s = c.before.before in
-    let a = s.args in
-    drop s.loop-i.i (dots_at a.mem.now a.other) ≡ c.dot_at-d.result ∷ drop (s.loop-i.i + 1) (dots_at a.mem.now a.other)
+next : (c : After-dot_at-d) → let a = c.args in
+    drop c.loop-i.i (dots_at a.mem.now a.other) ≡ c.dot_at-d.result ∷ drop (c.loop-i.i + 1) (dots_at a.mem.now a.other)
 next c =
-    let s = c.before.before in
-    let a = s.args in
-    dots-left a.mem.now a.other s.loop-i.i (omega arith) ∙ ap (λ d. d ∷ drop (s.loop-i.i + 1) (dots_at a.mem.now a.other))
+    let a = c.args in
+    dots-left a.mem.now a.other c.loop-i.i (omega arith) ∙ ap (λ d. d ∷ drop (c.loop-i.i + 1) (dots_at a.mem.now a.other))
     (sym c.dot_at-d.ensures)
 
 pub returns-then-counter_at-d : goal.returns-then-counter_at-d
 returns-then-counter_at-d c =
-    let s = c.before.before.before.before.before in
-    sym (s.loop-i.invariant.1 ∙ covers-fails _ (next c.before.before.before) (omega (arith, c.counter_at.ensures, c.if-counter_at-d.true)))
+    sym (c.loop-i.invariant ∙ covers-fails _ (next c.before.before.before) (omega (arith, c.counter_at.ensures, c.if-counter_at-d.true)))
 
 pub loop-i-preserved : goal.loop-i-preserved
 loop-i-preserved c =
-    let s = c.before.before.before.before.before in (
-      omega arith,
-      s.loop-i.invariant.1 ∙ covers-on _ (next c.before.before.before)
-          (omega (arith, c.counter_at.ensures, c.if-counter_at-d.false)),
-    )
+    c.loop-i.invariant ∙ covers-on _ (next c.before.before.before)
+    (omega (arith, c.counter_at.ensures, c.if-counter_at-d.false))
 
 pub returns : goal.returns
 returns c =
-    let s = c.before in
-    let a = s.args in
-    sym (s.loop-i.invariant.1 ∙ covers-none _ (dots-end a.mem.now a.other s.loop-i.i (omega arith)))
+    let a = c.args in
+    sym (c.loop-i.invariant ∙ covers-none _ (dots-end a.mem.now a.other c.loop-i.i (omega arith)))
 
 pub loop-i-init : goal.loop-i-init
-loop-i-init c = (omega arith, refl)
+loop-i-init c = refl

@@ -1,6 +1,5 @@
 -- `dotted_at` meets its contract: the loop stops at a value with no dot.
 use mathlib.Core.Path.{◌≡◌}
-use Prim.Native.Nat.{◌≤◌, ◌-◌}
 use lib.ListN.{drop}
 use Rattle.scan.specs.Each.{every}
 use Rattle.maprecords.specs.Related.{dotted}
@@ -8,7 +7,4 @@ use Rattle.memory.specs.Memory.{values_at}
 use Rattle.delivery.proofs.dotted_at.Given as goal
 
 abbrev pub invariant-loop-i : goal.invariant-loop-i
-invariant-loop-i l = (l.i ≤ l.n) × (every dotted (values_at l.mem l.j) ≡ every dotted (drop l.i (values_at l.mem l.j)))
-
-abbrev pub decreases-loop-i : goal.decreases-loop-i
-decreases-loop-i l = l.n - l.i
+invariant-loop-i l = every dotted (values_at l.mem l.j) ≡ every dotted (drop l.i (values_at l.mem l.j))

@@ -1,6 +1,5 @@
 -- `entries_whole` meets its contract: the loop stops at an entry that is not whole.
 use mathlib.Core.Path.{◌≡◌}
-use Prim.Native.Nat.{◌≤◌, ◌-◌}
 use lib.ListN.{drop}
 use Rattle.scan.specs.Each.{every}
 use Rattle.maprecords.specs.Related.{entry_whole}
@@ -9,8 +8,5 @@ use Rattle.delivery.proofs.entries_whole.Given as goal
 
 abbrev pub invariant-loop-j : goal.invariant-loop-j
 invariant-loop-j l =
-    (l.j ≤ l.n) × (every (entry_whole (dots_at l.mem clock_place)) (entries_at l.mem)
-    ≡ every (entry_whole (dots_at l.mem clock_place)) (drop l.j (entries_at l.mem)))
-
-abbrev pub decreases-loop-j : goal.decreases-loop-j
-decreases-loop-j l = l.n - l.j
+    every (entry_whole (dots_at l.mem clock_place)) (entries_at l.mem)
+    ≡ every (entry_whole (dots_at l.mem clock_place)) (drop l.j (entries_at l.mem))

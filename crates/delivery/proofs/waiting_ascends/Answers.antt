@@ -14,30 +14,25 @@ use Rattle.delivery.proofs.waiting_ascends.Goals.{After-clock_before}
 use Rattle.delivery.proofs.waiting_ascends.Goals as goal
 
 pub loop-k-init : goal.loop-k-init
-loop-k-init c = (omega arith, refl)
+loop-k-init c = refl
 
 -- two neighbours in the memory
-compared : (c : After-clock_before) → let s = c.before.before.before.before in let w = s.args.mem.now in
-    c.clock_before.result ≡ removal_before (removal_at w (s.loop-k.k - 1)) (removal_at w s.loop-k.k)
+compared : (c : After-clock_before) → let w = c.args.mem.now in
+    c.clock_before.result ≡ removal_before (removal_at w (c.loop-k.k - 1)) (removal_at w c.loop-k.k)
 compared c =
     c.clock_before.ensures ∙ ap₂ (λ (x y : Clock). clock_before (dots_of x) (dots_of y))
     c.clock_at-before.ensures c.clock_at-after.ensures
 
 pub returns-then-not-clock_before : goal.returns-then-not-clock_before
 returns-then-not-clock_before c =
-    let s = c.before.before.before.before.before in
-    ascend-fails s.args.mem.now s.loop-k.k s.loop-k.invariant.0 s.loop-k.invariant.1 (omega arith)
+    ascend-fails c.args.mem.now c.loop-k.k c.loop-k.auto.k c.loop-k.invariant (omega arith)
     (sym (compared c.before) ∙ not-true _ (ap not c.if-not-clock_before.true))
 
 pub loop-k-preserved : goal.loop-k-preserved
 loop-k-preserved c =
-    let s = c.before.before.before.before.before in (
-      omega arith,
-      ascend-on s.args.mem.now s.loop-k.k s.loop-k.invariant.0 s.loop-k.invariant.1 (omega arith)
-          (sym (compared c.before) ∙ not-false _ (ap not c.if-not-clock_before.false)),
-    )
+    ascend-on c.args.mem.now c.loop-k.k c.loop-k.auto.k c.loop-k.invariant (omega arith)
+    (sym (compared c.before) ∙ not-false _ (ap not c.if-not-clock_before.false))
 
 pub returns : goal.returns
 returns c =
-    let s = c.before in
-    ascend-end s.args.mem.now s.loop-k.k s.loop-k.invariant.0 s.loop-k.invariant.1 (omega arith)
+    ascend-end c.args.mem.now c.loop-k.k c.loop-k.auto.k c.loop-k.invariant (omega arith)

@@ -1,5 +1,4 @@
 -- `write_entries` meets its contract: one entry after the other.
-use Prim.Native.Nat.{◌≤◌, ◌-◌}
 use lib.ListN.{drop}
 use Rattle.records.proofs.Writing.{Writing}
 use Rattle.mapimage.specs.MapImage.{flat_from, entry_records}
@@ -8,8 +7,5 @@ use Rattle.delivery.proofs.write_entries.Given as goal
 
 abbrev pub invariant-loop-j : goal.invariant-loop-j
 invariant-loop-j l =
-    (l.j ≤ l.n) × Writing (flat_from (entry_records l.kind) 0 (entries_at l.mem))
+    Writing (flat_from (entry_records l.kind) 0 (entries_at l.mem))
     (flat_from (entry_records l.kind) l.j (drop l.j (entries_at l.mem))) l.at l.initial.out l.out l.next
-
-abbrev pub decreases-loop-j : goal.decreases-loop-j
-decreases-loop-j l = l.n - l.j

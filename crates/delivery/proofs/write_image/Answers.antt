@@ -1,7 +1,7 @@
 -- `write_image` meets its contract: one kind after the other.
 use mathlib.Core.Path.{◌≡◌, refl, ap, ◌∙◌}
 use mathlib.Core.List.{List, [], ◌++◌}
-use Prim.Native.Nat.{ℕ, ◌+◌}
+use Prim.Native.Nat.{ℕ}
 use lib.ListN.{length-map}
 use Rattle.listlaws.proofs.Pads.{take-pad}
 use Rattle.limits.specs.Limits.{dot_limit}

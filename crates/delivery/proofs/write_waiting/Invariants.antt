@@ -1,5 +1,4 @@
 -- `write_waiting` meets its contract: one clock after the other.
-use Prim.Native.Nat.{◌≤◌, ◌-◌}
 use lib.ListN.{drop}
 use Rattle.records.proofs.Writing.{Writing}
 use Rattle.mapimage.specs.MapImage.{flat_from, waiting_dots}
@@ -8,8 +7,5 @@ use Rattle.delivery.proofs.write_waiting.Given as goal
 
 abbrev pub invariant-loop-k : goal.invariant-loop-k
 invariant-loop-k l =
-    (l.k ≤ l.n) × Writing (flat_from waiting_dots 0 (waiting_at l.mem))
+    Writing (flat_from waiting_dots 0 (waiting_at l.mem))
     (flat_from waiting_dots l.k (drop l.k (waiting_at l.mem))) l.at l.initial.out l.out l.next
-
-abbrev pub decreases-loop-k : goal.decreases-loop-k
-decreases-loop-k l = l.n - l.k

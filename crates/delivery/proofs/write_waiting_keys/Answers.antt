@@ -1,6 +1,5 @@
 -- `write_waiting_keys` meets its contract: the least number that is left, again and again.
-use mathlib.Core.Bool.{true}
-use Prim.Native.Nat.{◌-◌, ◌^◌}
+use Prim.Native.Nat.{◌^◌}
 use Rattle.mapimage.proofs.Selecting.{select-start, select-room, select-on, select-end, select_kept}
 use native.Mathlib.Omega.{arith}
 use Rattle.delivery.proofs.write_waiting_keys.Goals as goal

@@ -1,6 +1,5 @@
 -- `starts_of` meets its contract: the run of one value a turn.
 use mathlib.Core.Path.{refl}
-use Prim.Native.Nat.{◌-◌}
 use lib.ListN.{length-set}
 use native.Mathlib.Omega.{arith}
 use borrow.Author.Rules.{rules}
@@ -14,7 +13,7 @@ pub loop-i-preserved : goal.loop-i-preserved
 loop-i-preserved c =
     let f = c.next_from-at.ensures in
     let v = c.loop-i.invariant in (
-      (omega arith, (omega arith, (omega arith, (omega arith, simp length-set (omega arith))))),
+      (omega arith, simp length-set (omega arith)),
       λ key l e p. started-on (v.1 key l e p) (omega arith) (omega arith) (omega arith) _ f.0 f.1.0 f.1.1,
     )
 

@@ -1,10 +1,9 @@
 -- `starts_of` meets its contract: the run of one value a turn.
 use mathlib.Core.Path.{◌≡◌}
 use mathlib.Core.List.{List}
-use Prim.Native.Nat.{ℕ, ◌*◌, ◌≤◌, ◌-◌}
+use Prim.Native.Nat.{ℕ, ◌≤◌}
 use lib.ListN.{length}
 use Rattle.register.specs.declared.Value.{Value}
-use Rattle.limits.specs.Limits.{value_limit}
 use Rattle.walks.specs.Walk.{part}
 use Rattle.layout.proofs.Values.{fours}
 use Rattle.entrywalk.proofs.Starts.{Started}
@@ -12,8 +11,5 @@ use Rattle.entrywalk.proofs.starts_of.Given as goal
 
 abbrev pub invariant-loop-i : goal.invariant-loop-i
 invariant-loop-i v =
-    ((v.i ≤ v.n) × ((v.n ≤ value_limit) × ((v.at ≤ v.end) × ((v.end * 16 ≤ length v.s) × (length v.starts ≡ 5)))))
+    ((v.at ≤ v.end) × (length v.starts ≡ 5))
     × ((key : ℕ) (l : List Value) → v.n ≡ length l → part v.s v.from v.end ≡ fours key 0 l → Started v.s key v.end l v.i v.at v.starts)
-
-abbrev pub decreases-loop-i : goal.decreases-loop-i
-decreases-loop-i l = l.n - l.i

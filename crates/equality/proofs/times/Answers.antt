@@ -1,35 +1,27 @@
--- `times` meets its contract: the loop sifts the values, and only their number is kept.
-use mathlib.Core.Path.{refl, ap, sym, ◌∙◌}
-use Prim.Native.Nat.{◌+◌}
-use Rattle.listlaws.proofs.Pads.{length-snoc}
-use Rattle.listlaws.proofs.Sifting.{sifting-start, sifting-keep, sifting-drop, sifting-end}
-use Rattle.equality.specs.Equality.{times_in}
-use Rattle.register.proofs.Packs.{none_read}
+-- `times` meets its contract, by those of `filter` and `count`.
+use mathlib.Core.Path.{◌≡◌, ap, ◌∙◌}
+use lib.ListN.{length}
+use Rattle.std.proofs.Common.{tests}
+use Rattle.std.proofs.lemmas.Iterator.{YieldsList-from_slice}
+use Rattle.std.proofs.lemmas.Iterator.Consumers.{YieldsList-from_filter, count_from_yields_List}
+use Rattle.listlaws.proofs.Pads.{unmapped, used}
+use Rattle.listlaws.proofs.Sifts.{length-sift}
+use Rattle.limits.specs.Limits.{value_limit}
+use Rattle.register.specs.Values.{values_of}
+use Rattle.equality.specs.Equality.{same_pair, times_in}
+use Rattle.equality.proofs.Library.{those-is}
 use borrow.Author.Rules.{rules}
 use native.Mathlib.Omega.{arith}
 use Rattle.equality.proofs.times.Goals as goal
 
-pub loop-i-init : goal.loop-i-init
-loop-i-init c = (search rules, (omega arith, sifting-start refl))
-
-pub loop-i-preserved-then-same_pair : goal.loop-i-preserved-then-same_pair
-loop-i-preserved-then-same_pair c =
-    let s = c.before.before.before.before in
-    let t = sym c.same_pair.ensures ∙ c.if-same_pair.true in (
-      search rules,
-      (
-        omega arith,
-        sifting-keep none_read s.loop-i.invariant.1.1 (omega arith) refl t
-            (λ l e. ap (λ k. k + 1) e ∙ sym (length-snoc l _)),
-      ),
-    )
-
-pub loop-i-preserved : goal.loop-i-preserved
-loop-i-preserved c =
-    let s = c.before.before.before.before in
-    let t = sym c.same_pair.ensures ∙ c.if-same_pair.false in
-    (search rules, (omega arith, sifting-drop none_read s.loop-i.invariant.1.1 (omega arith) refl t))
-
 pub returns : goal.returns
 unfolding times_in
-returns c = (sifting-end c.loop-i.invariant.1.1 (omega arith), omega (arith, c.loop-i.invariant.1.0, c.size-n.ensures))
+returns c =
+    let r = c.args.register in
+    let test = same_pair c.args.v in
+    let e : c.count.result ≡ times_in (values_of r) c.args.v =
+    count_from_yields_List _ _ c.count.ensures.ran
+    (YieldsList-from_filter _ test (YieldsList-from_slice (values_of r) cc) c.filter.ensures.closure (λ x b q k. search (rules, tests)))
+    ∙ ap length (those-is test (values_of r)) in
+    let h : length r.values ≡ value_limit = search (rules, unmapped) in
+    (e, omega (arith, e, length-sift test (λ w. w) (values_of r), used r.len value_limit r.values h))

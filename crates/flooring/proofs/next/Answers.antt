@@ -11,20 +11,17 @@ returns-then-f-ne0 c = rw (ne_eqb _ 0 c.if-f-ne0.true) refl
 pub returns-then-number-ne0 : goal.returns-then-number-ne0
 unfolding next_of
 returns-then-number-ne0 c =
-    let s = c.before in
-    let n = s.lent_number-number.ensures.0 in
-    rw (c.word.ensures, eq-eqb _ 0 s.if-f-ne0.false, ← n, ne_eqb _ 0 s.if-number-ne0.true) refl
+    let n = c.lent_number-number.ensures.0 in
+    rw (c.word.ensures, eq-eqb _ 0 c.if-f-ne0.false, ← n, ne_eqb _ 0 c.if-number-ne0.true) refl
 
 pub returns-then-f : goal.returns-then-f
 unfolding next_of
 returns-then-f c =
-    let s = c.before.before in
-    let n = s.lent_number-number.ensures.0 in
-    rw (c.lower-low.ensures, eq-eqb _ 0 s.if-f-ne0.false, ← n, eq-eqb _ 0 s.if-number-ne0.false, c.if-f.true) refl
+    let n = c.lent_number-number.ensures.0 in
+    rw (c.lower-clock.ensures, c.if-f-ne0.false, ← n, eq-eqb _ 0 c.if-number-ne0.false, c.if-f.true) refl
 
-pub returns : goal.returns
+pub returns-else-f : goal.returns-else-f
 unfolding next_of
-returns c =
-    let s = c.before.before in
-    let n = s.lent_number-number.ensures.0 in
-    rw (c.lower-first.ensures, eq-eqb _ 0 s.if-f-ne0.false, ← n, eq-eqb _ 0 s.if-number-ne0.false, c.if-f.false) refl
+returns-else-f c =
+    let n = c.lent_number-number.ensures.0 in
+    rw (c.lower-clock-else-f.ensures, c.if-f-ne0.false, ← n, eq-eqb _ 0 c.if-number-ne0.false, c.if-f.false) refl

@@ -14,7 +14,7 @@ use Rattle.keeping.proofs.Walked.{Keeps, Step, walked_start, walked_step, walked
 use Rattle.keeping.proofs.Walked.{keeps-end, deletes-room, deletes-on, deletes-off, deletes-end}
 use borrow.Author.Rules.{rules}
 use native.Mathlib.Omega.{arith}
-use Rattle.keeping.proofs.keeps.Goals.{then-k-gt0, else-k-gt0, After-larger-all, After-meet-r, Joined-k-gt0, Then-k-all, Then-k-gt0}
+use Rattle.keeping.proofs.keeps.Goals.{then-k-gt0, else-k-gt0, After-max-all, After-meet-r, Joined-k-gt0, Then-k-all, Then-k-gt0}
 use Rattle.keeping.proofs.keeps.Goals as goal
 
 -- one of two is left
@@ -54,7 +54,7 @@ met c =
     c.meet-r.ensures
 
 -- one dot more of both
-step : (c : After-larger-all) → let s = c.before.before.before.before.before.before in
+step : (c : After-max-all) → let s = c.before.before.before.before.before.before in
     let a = s.args in
     Step a.x a.y a.mine a.yours s.loop-i.invariant.2.t c.meet-r.result
     c.seek-e.result c.seek-f.result
@@ -76,7 +76,7 @@ room_gone : (c : Then-k-all) → c.loop-i.gone.len < dot_limit
 room_gone c =
     let l = c.before.before in
     let s = l.before.before.before.before.before.before in
-    deletes-room _ _ _ _ (step l) l.kept_counter-k.ensures s.loop-i.invariant.2.deletes l.larger-all.ensures c.if-k-all.true
+    deletes-room _ _ _ _ (step l) l.kept_counter-k.ensures s.loop-i.invariant.2.deletes l.max-all.ensures c.if-k-all.true
     s.requires.1.1
 
 -- what is kept with that dot passed
@@ -105,7 +105,7 @@ loop-i-preserved-then-k-all c =
         t = s.loop-i.invariant.2.t + 1;
         walked = (step l).on;
         keeps = keeping j;
-        deletes = deletes-on _ _ _ _ (step l) l.kept_counter-k.ensures s.loop-i.invariant.2.deletes l.larger-all.ensures c.if-k-all.true
+        deletes = deletes-on _ _ _ _ (step l) l.kept_counter-k.ensures s.loop-i.invariant.2.deletes l.max-all.ensures c.if-k-all.true
             s.requires.1.1;
       },
     )
@@ -122,12 +122,12 @@ loop-i-preserved c =
         t = s.loop-i.invariant.2.t + 1;
         walked = (step l).on;
         keeps = keeping j;
-        deletes = deletes-off _ _ _ _ (step l) l.kept_counter-k.ensures s.loop-i.invariant.2.deletes l.larger-all.ensures c.if-k-all.false;
+        deletes = deletes-off _ _ _ _ (step l) l.kept_counter-k.ensures s.loop-i.invariant.2.deletes l.max-all.ensures c.if-k-all.false;
       },
     )
 
 -- the walk comes nearer to the end
-less : (c : After-larger-all) → let s = c.before.before.before.before.before.before in
+less : (c : After-max-all) → let s = c.before.before.before.before.before.before in
     let n = s.size-n.result in
     let m = s.size-m.result in
     (n - c.meet-r.result.i) + (m - c.meet-r.result.j) < (n - s.loop-i.i) +

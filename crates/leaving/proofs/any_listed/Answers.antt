@@ -1,20 +1,16 @@
--- `any_listed` meets its contract: the loop looks for a mark that is set.
-use mathlib.Core.Bool.{true, false}
-use Prim.Native.Nat.{◌-◌}
-use lib.ListN.{length-take}
-use Rattle.listlaws.proofs.Passing.{passing-start, passing-here, passing-on, passing-end}
-use borrow.Author.Rules.{rules}
-use native.Mathlib.Omega.{arith}
+-- `any_listed` meets its contract: a mark that is set stands among the first n.
+use mathlib.Core.Path.{◌≡◌, refl, ◌∙◌}
+use mathlib.Core.Bool.{Bool, true, false, beq}
+use mathlib.Core.List.{List, [], ◌∷◌}
+use Rattle.std.specs.List.{list_any}
+use Rattle.listlaws.specs.First.{some, first_in}
 use Rattle.leaving.proofs.any_listed.Goals as goal
 
-pub loop-i-init : goal.loop-i-init
-loop-i-init c = (search rules, passing-start)
-
-pub returns-then-under-i : goal.returns-then-under-i
-returns-then-under-i c = passing-here false c.loop-i.invariant.1 (simp length-take (omega arith)) c.if-under-i.true
-
-pub loop-i-preserved : goal.loop-i-preserved
-loop-i-preserved c = (search rules, passing-on false c.loop-i.invariant.1 (simp length-take (omega arith)) c.if-under-i.false)
+one-set : (l : List Bool) → list_any (λ b. beq b true) l ≡ some (λ b. b) l
+unfolding first_in
+one-set [] = refl
+one-set (true ∷ l) = refl
+one-set (false ∷ l) = one-set l
 
 pub returns : goal.returns
-returns c = passing-end c.loop-i.invariant.1 (simp length-take (omega arith))
+returns c = c.contains.ensures.value ∙ one-set _

@@ -21,17 +21,14 @@ use Rattle.leaving.specs.Left.{value_left}
 use Rattle.leaving.proofs.Growing.{Grown}
 use Rattle.leaving.proofs.draw_values.Given as goal
 
-abbrev pub invariant-loop-i : goal.invariant-loop-i
-invariant-loop-i live =
-    ((live.i ≤ live.n) × ((live.n ≤ value_limit) × ((live.n ≡ live.x.values.to - live.x.values.from)
-    × ((live.initial.out.len ≤ value_limit) × ((live.out.len ≤ live.initial.out.len + live.i)
-    × ((length live.stand ≡ value_limit) × (length live.out.sources ≡ 4)))))))
+abbrev pub invariant-loop-k : goal.invariant-loop-k
+invariant-loop-k live =
+    ((live.n ≤ value_limit) × ((live.n ≡ live.x.values.to - live.x.values.from)
+    × ((live.initial.out.len ≤ value_limit) × ((live.out.len ≤ live.initial.out.len + live.k)
+    × ((length live.stand ≡ value_limit) × (length live.out.sources ≡ 4))))))
     × ((a b : List ℕ) (key : ℕ) (d : List Dot) (l : List Value) (e : Entry) (u w : List Removal) → cond live.second b a ≡ live.v
     → Draws a b key d l live.initial.out
     → LiesAt live.v e live.x → Queued live.t live.ds u → Queued live.s live.cs w
     → Marked u e.key live.theirs → Marked w e.key live.ours
     → Grown (Draws a b key d) (l ++ sift alive (value_left w u e.key (dots_of live.gone)) (picked live.stand (values_in e)))
-    (sift alive (value_left w u e.key (dots_of live.gone)) (picked (drop live.i live.stand) (drop live.i (values_in e)))) live.out)
-
-abbrev pub decreases-loop-i : goal.decreases-loop-i
-decreases-loop-i l = l.n - l.i
+    (sift alive (value_left w u e.key (dots_of live.gone)) (picked (drop live.k live.stand) (drop live.k (values_in e)))) live.out)

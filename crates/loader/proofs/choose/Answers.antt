@@ -20,7 +20,7 @@ use Rattle.entrywalk.proofs.Lying.{many-there}
 use Rattle.loader.specs.Choice.{is_below, undropped, smallest, differ, report_on, report_of}
 use mathlib.Core.Bool.{not}
 use Rattle.loader.proofs.choose.Invariants.{left}
-use Rattle.loader.proofs.choose.Goals.{At-loop-i}
+use Rattle.loader.proofs.choose.Goals.{At-loop-i, then-not-is_below, else-not-is_below}
 use Rattle.loader.proofs.choose.Goals as goal
 
 pub starts_of-starts-requires : goal.starts_of-starts-requires
@@ -40,7 +40,7 @@ pub loop-i-init : goal.loop-i-init
 unfolding sift smallest differ first_in
 loop-i-init c =
     let p = c.requires.1 in
-    ((omega arith, (omega arith, omega (arith, p.few, many-there p.key _ p.third))), λ key l h r. refl)
+    ((omega arith, omega (arith, p.few, many-there p.key _ p.third)), λ key l h r. refl)
 
 pub is_below-requires : goal.is_below-requires
 is_below-requires c = let p = c.requires in (omega arith, (p.0, compared (goal.at.is_below-requires c).At-loop-i p.0 p.1))
@@ -64,27 +64,24 @@ module _ (l : List Value) (i : ℕ) (h : i < length l) where
   goes : is_below l (get_or l i no_value) ≡ true → left l (i + 1) ≡ left l i
   goes t = ap (those (λ v. not (is_below l v))) taken ∙ those-no (λ v. not (is_below l v)) (take i l) (get_or l i no_value) (ap not t)
 
-pub loop-i-preserved-then-not-is_below : goal.loop-i-preserved-then-not-is_below
-loop-i-preserved-then-not-is_below c =
-    let s = c.before.before.before.before.before in (
-      (omega arith, (omega (arith, c.with_value-r.ensures.0), omega arith)),
-      λ key l h r.
-          let k : s.loop-i.i < length l = omega (arith, r.count) in
-          c.with_value-r.ensures.1 (left l s.loop-i.i) (get_or l s.loop-i.i no_value) (s.loop-i.invariant.1 key l h r)
-          (c.number_at.ensures key l h k)
-          ∙ ap report_on (sym (stays l s.loop-i.i k (sym (c.is_below.ensures l r)
-          ∙ not-true _ (ap not c.if-not-is_below.true)))),
-    )
-
 pub loop-i-preserved : goal.loop-i-preserved
-loop-i-preserved c =
-    let s = c.before.before.before in (
-      (omega arith, (omega arith, omega arith)),
-      λ key l h r.
-          let k : s.loop-i.i < length l = omega (arith, r.count) in
-          s.loop-i.invariant.1 key l h r ∙ ap report_on
-          (sym (goes l s.loop-i.i k (sym (c.is_below.ensures l r) ∙ not-false _ (ap not c.if-not-is_below.false)))),
-    )
+loop-i-preserved c = elim c.if-not-is_below.branch [
+  | then-not-is_below w ↦ rw w.r-is (
+    (omega (arith, w.with_value-r.ensures.0), c.loop-i.invariant.0.1),
+    λ key l h r.
+        let k : c.loop-i.i < length l = omega (arith, r.count) in
+        w.with_value-r.ensures.1 (left l c.loop-i.i) (get_or l c.loop-i.i no_value) (c.loop-i.invariant.1 key l h r)
+        (w.number_at.ensures key l h k)
+        ∙ ap report_on (sym (stays l c.loop-i.i k (sym (c.is_below.ensures l r) ∙ not-true _ (ap not w.if-not-is_below.true)))),
+  )
+  | else-not-is_below w ↦ rw w.r-is (
+    (omega arith, c.loop-i.invariant.0.1),
+    λ key l h r.
+        let k : c.loop-i.i < length l = omega (arith, r.count) in
+        c.loop-i.invariant.1 key l h r
+        ∙ ap report_on (sym (goes l c.loop-i.i k (sym (c.is_below.ensures l r) ∙ not-false _ (ap not w.if-not-is_below.false)))),
+  )
+]
 
 pub returns : goal.returns
 unfolding report_of undropped

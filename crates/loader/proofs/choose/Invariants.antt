@@ -2,7 +2,7 @@
 use mathlib.Core.Path.{◌≡◌}
 use mathlib.Core.Bool.{not}
 use mathlib.Core.List.{List}
-use Prim.Native.Nat.{ℕ, ◌-◌, ◌≤◌}
+use Prim.Native.Nat.{ℕ, ◌≤◌}
 use lib.ListN.{take}
 use Rattle.listlaws.specs.Sift.{those}
 use Rattle.register.specs.declared.Value.{Value}
@@ -20,9 +20,6 @@ left l i = those (λ v. not (is_below l v)) (take i l)
 
 abbrev pub invariant-loop-i : goal.invariant-loop-i
 invariant-loop-i v =
-    ((v.i ≤ v.n) × ((v.r.count ≤ v.i) × (v.n ≤ value_limit)))
+    ((v.r.count ≤ v.i) × (v.n ≤ value_limit))
     × ((key : ℕ) (l : List Value) → RecordsLie v.map (flat_from (value_records 3 key) 0 l) v.values → RunsOf v.map v.starts v.n l → v.r
     ≡ report_on (left l v.i))
-
-abbrev pub decreases-loop-i : goal.decreases-loop-i
-decreases-loop-i l = l.n - l.i

@@ -3,8 +3,6 @@ use mathlib.Core.Path.{refl}
 use native.Mathlib.Omega.{arith}
 use borrow.Author.Tests.{not-true, not-false}
 use Rattle.loader.proofs.Adding.{first_more, lower-more, upper-more}
-use mathlib.Core.Bool.{not}
-use mathlib.Core.Path.{ap}
 use Rattle.loader.proofs.with_value.Goals as goal
 
 pub returns-then-not-r : goal.returns-then-not-r

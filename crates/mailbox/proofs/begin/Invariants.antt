@@ -1,14 +1,10 @@
 -- `begin` meets its contract.
 use mathlib.Core.Path.{◌≡◌}
-use Prim.Native.Nat.{◌-◌, ◌≤◌}
 use lib.ListN.{length}
 use Rattle.records.specs.Bytes.{placed}
-use Rattle.memory.specs.Memory.{reader_room, length_place, clock_place}
+use Rattle.memory.specs.Memory.{reader_room, length_place}
 use Rattle.mailbox.specs.Machine.{zeros}
 use Rattle.mailbox.proofs.begin.Given as goal
 
 abbrev pub invariant-loop-i : goal.invariant-loop-i
-invariant-loop-i l = (l.i ≤ clock_place) × ((length l.initial.mem ≡ reader_room) × (l.mem ≡ placed length_place (zeros l.i) l.initial.mem))
-
-abbrev pub decreases-loop-i : goal.decreases-loop-i
-decreases-loop-i l = clock_place - l.i
+invariant-loop-i l = (length l.initial.mem ≡ reader_room) × (l.mem ≡ placed length_place (zeros l.i) l.initial.mem)

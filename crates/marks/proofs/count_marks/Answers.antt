@@ -1,32 +1,20 @@
--- `count_marks` meets its contract: the loop sifts the marks, and only their number is kept.
-use mathlib.Core.Path.{refl, ap, sym, ◌∙◌}
-use mathlib.Core.Bool.{false}
-use Prim.Native.Nat.{◌+◌}
-use lib.ListN.{length-take}
-use Rattle.listlaws.proofs.Pads.{length-snoc}
-use Rattle.listlaws.proofs.Sifting.{sifting-start, sifting-keep, sifting-drop, sifting-end}
-use borrow.Author.Rules.{rules}
-use native.Mathlib.Omega.{arith}
+-- `count_marks` meets its contract: what is counted are the marks that are set.
+use Rattle.std.proofs.Common.{rules, ◌≡◌, arith, length, take, Bool, List, [], ◌∷◌, true, false, refl, ap, sym, ◌∙◌, length-take}
+use Rattle.std.specs.List.{filter, count_by}
+use Rattle.std.proofs.lemmas.List.Sums.{length-filter, count_by-le-length}
+use Rattle.listlaws.specs.Sift.{sift, those}
+use Rattle.marks.specs.Marks.{marks_set}
 use Rattle.marks.proofs.count_marks.Goals as goal
 
-pub loop-i-init : goal.loop-i-init
-loop-i-init c = (search rules, (omega arith, sifting-start refl))
-
-pub loop-i-preserved-then-left : goal.loop-i-preserved-then-left
-loop-i-preserved-then-left c =
-    let s = c.before.before in (
-      search rules,
-      (
-        omega arith,
-        sifting-keep false s.loop-i.invariant.1.1 (simp length-take (omega arith)) refl c.if-left.true
-            (λ l e. ap (λ k. k + 1) e ∙ sym (length-snoc l _)),
-      ),
-    )
-
-pub loop-i-preserved : goal.loop-i-preserved
-loop-i-preserved c =
-    let s = c.before.before in
-    (search rules, (omega arith, sifting-drop false s.loop-i.invariant.1.1 (simp length-take (omega arith)) refl c.if-left.false))
+set-marks : (bs : List Bool) → filter (λ b. b) bs ≡ those (λ b. b) bs
+unfolding sift
+set-marks [] = refl
+set-marks (true ∷ bs) = ap (λ l. true ∷ l) (set-marks bs)
+set-marks (false ∷ bs) = set-marks bs
 
 pub returns : goal.returns
-returns c = (sifting-end c.loop-i.invariant.1.1 (simp length-take (omega arith)), omega (arith, c.loop-i.invariant.1.0))
+returns c =
+    let bs = take c.args.n c.args.marks in
+    let e : c.count.result ≡ count_by (λ b. b) bs = search rules in
+    let h : count_by (λ b. b) bs ≡ marks_set bs = sym (length-filter (λ b. b) bs) ∙ ap length (set-marks bs) in
+    (e ∙ h, omega (arith, e, h, count_by-le-length (λ b. b) bs, length-take c.args.n c.args.marks))

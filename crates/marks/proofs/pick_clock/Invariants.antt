@@ -1,6 +1,5 @@
 -- `pick_clock` meets its contract: the loop adds each dot whose mark is set.
 use mathlib.Core.Path.{◌≡◌}
-use Prim.Native.Nat.{◌≤◌, ◌-◌}
 use lib.ListN.{length, drop}
 use Rattle.listlaws.proofs.Growing.{Growing}
 use Rattle.clock.specs.Dots.{clock_of}
@@ -11,8 +10,5 @@ use Rattle.marks.proofs.pick_clock.Given as goal
 
 abbrev pub invariant-loop-i : goal.invariant-loop-i
 invariant-loop-i l =
-    (l.i ≤ l.n) × (length l.marks ≡ dot_limit) × Growing clock_of (picked l.marks (run_dots l.run))
+    (length l.marks ≡ dot_limit) × Growing clock_of (picked l.marks (run_dots l.run))
     (picked (drop l.i l.marks) (drop l.i (run_dots l.run))) l.clock
-
-abbrev pub decreases-loop-i : goal.decreases-loop-i
-decreases-loop-i l = l.n - l.i

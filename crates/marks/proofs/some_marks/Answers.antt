@@ -1,19 +1,15 @@
--- `some_marks` meets its contract: the loop looks for a mark that is set.
-use mathlib.Core.Bool.{false}
-use lib.ListN.{length-take}
-use Rattle.listlaws.proofs.Passing.{passing-start, passing-here, passing-on, passing-end}
-use borrow.Author.Rules.{rules}
-use native.Mathlib.Omega.{arith}
+-- `some_marks` meets its contract: one of them is set.
+use Rattle.std.proofs.Common.{◌≡◌, take, Bool, List, [], ◌∷◌, true, false, refl, ◌∙◌}
+use mathlib.Core.Bool.{beq}
+use Rattle.std.specs.List.{list_any}
+use Rattle.listlaws.specs.First.{some, first_in}
 use Rattle.marks.proofs.some_marks.Goals as goal
 
-pub loop-i-init : goal.loop-i-init
-loop-i-init c = (search rules, passing-start)
-
-pub returns-then-marks-i : goal.returns-then-marks-i
-returns-then-marks-i c = passing-here false c.loop-i.invariant.1 (simp length-take (omega arith)) c.if-marks-i.true
-
-pub loop-i-preserved : goal.loop-i-preserved
-loop-i-preserved c = (search rules, passing-on false c.loop-i.invariant.1 (simp length-take (omega arith)) c.if-marks-i.false)
+some-any : (bs : List Bool) → list_any (λ b. beq b true) bs ≡ some (λ b. b) bs
+unfolding first_in
+some-any [] = refl
+some-any (true ∷ bs) = refl
+some-any (false ∷ bs) = some-any bs
 
 pub returns : goal.returns
-returns c = passing-end c.loop-i.invariant.1 (simp length-take (omega arith))
+returns c = c.contains.ensures.value ∙ some-any (take c.args.n c.args.marks)

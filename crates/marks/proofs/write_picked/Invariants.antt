@@ -1,6 +1,5 @@
 -- `write_picked` meets its contract: a record for each dot whose mark is set, one behind the other.
 use mathlib.Core.Path.{◌≡◌}
-use Prim.Native.Nat.{◌≤◌, ◌-◌}
 use lib.ListN.{length, drop}
 use Rattle.limits.specs.Limits.{dot_limit}
 use Rattle.records.proofs.Writing.{Writing}
@@ -11,9 +10,6 @@ use Rattle.marks.proofs.write_picked.Given as goal
 
 abbrev pub invariant-loop-i : goal.invariant-loop-i
 invariant-loop-i l =
-    (l.i ≤ l.n) × (length l.marks ≡ dot_limit)
+    (length l.marks ≡ dot_limit)
     × Writing (dot_records l.kind l.index l.key (picked l.marks (run_dots l.run)))
     (dot_records l.kind l.index l.key (picked (drop l.i l.marks) (drop l.i (run_dots l.run)))) l.at l.initial.out l.out l.next
-
-abbrev pub decreases-loop-i : goal.decreases-loop-i
-decreases-loop-i l = l.n - l.i

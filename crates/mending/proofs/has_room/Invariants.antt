@@ -1,5 +1,5 @@
 -- `has_room` meets its contract: the loop looks for the key, and counts those of its united clock.
-use Prim.Native.Nat.{◌≤◌, ◌-◌}
+use Prim.Native.Nat.{◌≤◌}
 use lib.ListN.{take}
 use Rattle.culling.specs.Marks.{marked_of, left_items}
 use Rattle.mending.specs.Tables.{fourth_of}
@@ -7,8 +7,5 @@ use Rattle.mending.proofs.Rooming.{Rooming}
 use Rattle.mending.proofs.has_room.Given as goal
 
 abbrev pub invariant-loop-i : goal.invariant-loop-i
-invariant-loop-i l = (l.i ≤ l.n) × (l.count ≤ l.i)
+invariant-loop-i l = (l.count ≤ l.i)
     × Rooming (fourth_of l.marks l.image) l.r (left_items 0 (take l.i (marked_of l.marks l.image))) l.count
-
-abbrev pub decreases-loop-i : goal.decreases-loop-i
-decreases-loop-i l = l.n - l.i

@@ -1,7 +1,7 @@
 -- `lead_of` meets its contract: the loop looks for the first lead below with the same clock.
 use mathlib.Core.Path.{◌≡◌}
 use mathlib.Core.Bool.{◌&&◌, false}
-use Prim.Native.Nat.{ℕ, ◌≤◌, ◌<◌, ◌-◌}
+use Prim.Native.Nat.{ℕ, ◌<◌}
 use lib.Dec.{eqb}
 use lib.ListN.{get_or}
 use Rattle.salvagerules.specs.Indexes.{waiting_clock, same_dots}
@@ -9,8 +9,5 @@ use Rattle.mending.specs.Tables.{fourth_of}
 use Rattle.mending.proofs.lead_of.Given as goal
 
 abbrev pub invariant-loop-i : goal.invariant-loop-i
-invariant-loop-i l = (l.i ≤ l.index) × (l.index < 256) × ((j : ℕ) → j < l.i → (eqb (get_or l.leads j 0) j
+invariant-loop-i l = (l.index < 256) × ((j : ℕ) → j < l.i → (eqb (get_or l.leads j 0) j
     && same_dots (waiting_clock (fourth_of l.marks l.image) j) (waiting_clock (fourth_of l.marks l.image) l.index)) ≡ false)
-
-abbrev pub decreases-loop-i : goal.decreases-loop-i
-decreases-loop-i l = l.index - l.i

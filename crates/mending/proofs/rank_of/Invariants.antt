@@ -1,7 +1,7 @@
 -- `rank_of` meets its contract: the loop counts the leading indexes whose clock stands before.
 use mathlib.Core.Path.{◌≡◌}
 use mathlib.Core.Bool.{◌&&◌}
-use Prim.Native.Nat.{◌≤◌, ◌-◌}
+use Prim.Native.Nat.{◌≤◌}
 use lib.Dec.{eqb}
 use lib.ListN.{length, get_or}
 use Rattle.listlaws.specs.Sift.{those}
@@ -12,10 +12,7 @@ use Rattle.mending.specs.Tables.{fourth_of}
 use Rattle.mending.proofs.rank_of.Given as goal
 
 abbrev pub invariant-loop-i : goal.invariant-loop-i
-invariant-loop-i l = (l.i ≤ 256) × (l.count ≤ l.i) × (l.count ≡ length (those
+invariant-loop-i l = (l.count ≤ l.i) × (l.count ≡ length (those
     (λ j. eqb (get_or l.leads j 0) j && clock_before (waiting_clock (fourth_of l.marks l.image) j)
     (waiting_clock (fourth_of l.marks l.image) l.index))
     (numbers_below l.i)))
-
-abbrev pub decreases-loop-i : goal.decreases-loop-i
-decreases-loop-i l = 256 - l.i

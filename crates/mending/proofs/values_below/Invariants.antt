@@ -1,7 +1,7 @@
 -- `values_below` meets its contract: the loop counts the values.
 use mathlib.Core.Path.{◌≡◌}
 use mathlib.Core.Bool.{◌&&◌}
-use Prim.Native.Nat.{◌≤◌, ◌-◌}
+use Prim.Native.Nat.{◌≤◌}
 use lib.Dec.{ltb}
 use lib.ListN.{length, take}
 use Rattle.listlaws.specs.Sift.{those}
@@ -10,8 +10,5 @@ use Rattle.culling.specs.Marks.{marked_of, left_items}
 use Rattle.mending.proofs.values_below.Given as goal
 
 abbrev pub invariant-loop-i : goal.invariant-loop-i
-invariant-loop-i l = (l.i ≤ l.n) × (l.count ≤ l.i) × (l.count ≡ length (those (λ s. under_key 3 l.key s && ltb s.index l.index)
+invariant-loop-i l = (l.count ≤ l.i) × (l.count ≡ length (those (λ s. under_key 3 l.key s && ltb s.index l.index)
     (left_items 5 (take l.i (marked_of l.marks l.image)))))
-
-abbrev pub decreases-loop-i : goal.decreases-loop-i
-decreases-loop-i l = l.n - l.i

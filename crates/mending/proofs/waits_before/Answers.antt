@@ -1,9 +1,8 @@
 -- `waits_before` meets its contract: the loop passes equal dots.
-use mathlib.Core.Logic.{⊎_elim}
-use Prim.Native.Nat.{◌<◌, ◌-◌, ◌/◌}
+use Prim.Native.Nat.{◌<◌, ◌/◌}
 use native.Mathlib.Omega.{arith}
 use lib.ListN.{length}
-use borrow.Author.Tests.{ltb-true, ltb-false, lt-ltb}
+use borrow.Author.Tests.{ltb-true, lt-ltb}
 use Rattle.mending.proofs.Dots.{compare-start, compare-actor, compare-counter, compare-on, compare-first, compare-second}
 use Rattle.mending.proofs.waits_before.Goals.{then-loop-i-test+else-j-n, else-loop-i-test}
 use Rattle.mending.proofs.waits_before.Goals as goal

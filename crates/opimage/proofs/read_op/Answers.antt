@@ -8,31 +8,24 @@ use Rattle.opimage.proofs.read_op.Goals as goal
 
 pub returns-then-len-gt-OP_LONGEST : goal.returns-then-len-gt-OP_LONGEST
 unfolding read_op
-returns-then-len-gt-OP_LONGEST c = rw (lt-ltb _ _ c.if-len-gt-OP_LONGEST.true) c.refused.ensures
+returns-then-len-gt-OP_LONGEST c = rw (lt-ltb _ _ c.if-len-gt-OP_LONGEST.true) refl
 
 pub returns-then-len-ne0 : goal.returns-then-len-ne0
 unfolding read_op
-returns-then-len-ne0 c = rw (le-ltb _ _ c.if-len-gt-OP_LONGEST.false, ne_eqb _ _ c.if-len-ne0.true) c.refused-then-len-ne0.ensures
+returns-then-len-ne0 c = rw (le-ltb _ _ c.if-len-gt-OP_LONGEST.false, ne_eqb _ _ c.if-len-ne0.true) refl
 
 pub loop-i-init : goal.loop-i-init
-loop-i-init c = (refl, (omega arith, feed-start _ c.new-reader.ensures))
+loop-i-init c = feed-start _ c.new-reader.ensures
 
 pub take-reader-requires : goal.take-reader-requires
-take-reader-requires c = let f = c.loop-i.invariant.1.1 in (f.done, f.fed)
+take-reader-requires c = (c.loop-i.invariant.done, c.loop-i.invariant.fed)
 
 pub loop-i-preserved : goal.loop-i-preserved
-loop-i-preserved c = (
-  refl,
-  (
-    omega arith,
-    feed-on _ c.loop-i.invariant.1.1 (omega arith)
-        (λ l f. rw (← c.read_record-r.ensures) (c.take-reader.ensures l f)),
-  ),
-)
+loop-i-preserved c =
+    feed-on _ c.loop-i.invariant c.loop-i-test.true (λ l f. rw (← c.read_record-r.ensures) (c.take-reader.ensures l f))
 
 pub returns : goal.returns
 unfolding read_op
 returns c =
-    let at-if2 = c.before.before.before.before in
-    let f = feed-end _ c.loop-i.invariant.1.1 (omega arith) in
-    rw (le-ltb _ _ at-if2.if-len-gt-OP_LONGEST.false, eq-eqb _ _ at-if2.if-len-ne0.false, ← f.2) (c.verdict.ensures f.0 f.1)
+    let f = feed-end _ c.loop-i.invariant (omega arith) in
+    rw (le-ltb _ _ c.if-len-gt-OP_LONGEST.false, eq-eqb _ _ c.if-len-ne0.false, ← f.2) (c.verdict.ensures f.0 f.1)

@@ -5,7 +5,6 @@ use mathlib.Core.List.{List}
 use Prim.Native.Nat.{◌+◌, ◌≤◌, ◌<◌, ◌-◌}
 use borrow.Author.Tests.{ltb-true}
 use lib.ListN.{length-set}
-use Rattle.listlaws.proofs.Pads.{unmapped}
 use Rattle.listlaws.proofs.Weaving.{both-past}
 use Rattle.clock.specs.Dots.{dots_of}
 use Rattle.removals.specs.declared.Removal.{Removal}
@@ -22,7 +21,7 @@ use Rattle.planned.proofs.join_plan.Goals.{After-next_turn-r, After-passed-j}
 use Rattle.planned.proofs.join_plan.Goals as goal
 
 pub loop-i-init : goal.loop-i-init
-loop-i-init c = ((search rules, search rules, search rules, search rules, search rules, search (rules, unmapped)), λ w v q p a b. join-start)
+loop-i-init c = ((search rules, search rules, search rules, search rules, search rules, search rules), λ w v q p a b. join-start)
 
 pub next_turn-r-requires : goal.next_turn-r-requires
 next_turn-r-requires c =

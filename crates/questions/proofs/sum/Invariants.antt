@@ -1,9 +1,6 @@
--- `sum` stays within the file, and its two halves below 65521.
-use Rattle.std.proofs.Common.{◌≡◌, ◌-◌, ◌≤◌, length}
+-- `sum` stays within a word: its two halves are below 65521.
+use Rattle.std.proofs.Common.{◌<◌}
 use Rattle.questions.proofs.sum.Given as goal
 
-abbrev pub invariant-loop-i : goal.invariant-loop-i
-invariant-loop-i l = (l.i-end ≡ length l.file) × (l.i ≤ l.i-end)
-
-abbrev pub decreases-loop-i : goal.decreases-loop-i
-decreases-loop-i l = l.i-end - l.i
+abbrev pub invariant-loop-b : goal.invariant-loop-b
+invariant-loop-b l = (l.low < 65521) × (l.high < 65521)

@@ -1,48 +1,46 @@
 -- `cut_listed_marks` meets its contract: a removal a turn.
 use mathlib.Core.Path.{refl, sym, ◌∙◌}
-use Prim.Native.Nat.{◌-◌}
+use Prim.Native.Nat.{◌<◌}
+use lib.ListN.{length}
 use native.Mathlib.Omega.{arith}
-use Rattle.listlaws.proofs.Folding.{folding-start}
+use Rattle.listlaws.proofs.SliceFolding.{folding-start}
+use Rattle.queued.proofs.Taking.{lying-dots, lying-lawful}
 use Rattle.queued.proofs.Cutting.{marks-on, marks-not, marks-end}
-use borrow.Author.Rules.{rules}
+use Rattle.queued.proofs.cut_listed_marks.Goals.{then-under-k, else-under-k}
 use Rattle.queued.proofs.cut_listed_marks.Goals as goal
 
-pub loop-i-init : goal.loop-i-init
-loop-i-init c = (search rules, λ w key h m. folding-start refl)
+pub loop-k-init : goal.loop-k-init
+loop-k-init c = λ w key h m. folding-start refl
 
-pub cut_marks_at-left-requires : goal.cut_marks_at-left-requires
-cut_marks_at-left-requires c =
-    let t = c.before.before in
-    let p = t.requires in
+pub run_at-requires : goal.run_at-requires
+run_at-requires c =
+    let p = c.requires in
     let k = p.0.1.count in
     let f = p.0.1.few in
-    ((p.0.0, p.0.1, omega arith), p.1)
+    (p.0.0, p.0.1, omega arith)
 
-pub loop-i-preserved-then-under-k : goal.loop-i-preserved-then-under-k
-loop-i-preserved-then-under-k c =
-    let t = c.before.before.before in (
-      omega arith,
-      λ w key h m.
-          let k = h.count in
-          let l = h.few in
-          marks-on w key (t.loop-i.invariant.1 w key h m) (omega arith) (sym (m.each _ (omega arith)) ∙ c.if-under-k.true)
-          (c.cut_marks_at-left.ensures w h (omega arith)),
-    )
+pub cut_marks_by-left-requires : goal.cut_marks_by-left-requires
+cut_marks_by-left-requires c =
+    let p = c.requires in
+    let k = p.0.1.count in
+    let f = p.0.1.few in
+    (p.1.0, (p.1.1, rw c.run_at.ensures (lying-lawful (p.0.1.each c.loop-k.k (omega arith)))))
 
-pub loop-i-preserved : goal.loop-i-preserved
-loop-i-preserved c =
-    let t = c.before.before in (
-      omega arith,
-      λ w key h m.
-          let k = h.count in
-          let l = h.few in
-          marks-not w key (t.loop-i.invariant.1 w key h m) (omega arith) (sym (m.each _ (omega arith)) ∙ c.if-under-k.false),
-    )
+pub loop-k-preserved : goal.loop-k-preserved
+loop-k-preserved c = λ w key h m.
+    let n = h.count in
+    let l = h.few in
+    let i : c.loop-k.k < length w = omega arith in
+    let g = c.loop-k.invariant w key h m in
+    let u = sym (m.each c.loop-k.k (omega arith)) in
+    elim c.if-under-k.branch [
+      | then-under-k z ↦
+          rw z.out-is (marks-on w key g i (u ∙ z.if-under-k.true) (rw (z.run_at.ensures, lying-dots (h.each _ i)) at z.cut_marks_by-left.ensures))
+      | else-under-k z ↦ rw z.out-is (marks-not w key g i (u ∙ z.if-under-k.false))
+    ]
 
 pub returns : goal.returns
-returns c =
-    let t = c.before in
-    λ w key h m.
+returns c = λ w key h m.
     let k = h.count in
     let l = h.few in
-    marks-end w key (t.loop-i.invariant.1 w key h m) (omega (arith, t.places-n.ensures.1 (omega arith)))
+    marks-end w key (c.loop-k.invariant w key h m) (omega arith)

@@ -1,6 +1,6 @@
 -- `queue_of` meets its contract: the run of a removal's dots a turn.
 use mathlib.Core.Path.{◌≡◌}
-use Prim.Native.Nat.{◌*◌, ◌+◌, ◌≤◌, ◌-◌}
+use Prim.Native.Nat.{◌*◌, ◌+◌, ◌≤◌}
 use lib.ListN.{length}
 use Rattle.limits.specs.Limits.{waiting_limit}
 use Rattle.map.specs.Model.{waiting_in}
@@ -10,8 +10,5 @@ use Rattle.queued.proofs.queue_of.Given as goal
 
 abbrev pub invariant-loop-i : goal.invariant-loop-i
 invariant-loop-i l =
-    ((l.at ≤ l.end) × ((l.end * 16 ≤ length l.s) × ((l.i ≤ l.n) × ((l.n ≤ waiting_limit) × (length l.starts ≡ waiting_limit + 1)))))
+    ((l.at ≤ l.end) × ((l.end * 16 ≤ length l.s) × ((l.n ≤ waiting_limit) × (length l.starts ≡ waiting_limit + 1))))
     × Taking l.s l.end (waiting_in (read_map l.s).map) l.at l.i l.starts
-
-abbrev pub decreases-loop-i : goal.decreases-loop-i
-decreases-loop-i l = l.n - l.i

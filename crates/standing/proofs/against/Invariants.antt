@@ -1,7 +1,6 @@
 -- `against` meets its contract: the loop compares the run with one value after the other.
 use mathlib.Core.Path.{◌≡◌}
 use mathlib.Core.List.{List}
-use Prim.Native.Nat.{◌≤◌, ◌-◌}
 use lib.ListN.{length}
 use Rattle.clock.specs.Dots.{dots_of}
 use Rattle.register.specs.declared.Value.{Value}
@@ -13,9 +12,6 @@ use Rattle.standing.proofs.against.Given as goal
 
 abbrev pub invariant-loop-j : goal.invariant-loop-j
 invariant-loop-j live =
-    (live.j ≤ live.n) × (length live.initial.left ≡ value_limit) ×
+    (length live.initial.left ≡ value_limit) ×
     ((v : Value) (l : List Value) → run_dots live.run ≡ dots_of v.clock → RunsOf live.s live.starts live.n l
     → Passed v l live.initial.left live.j live.left)
-
-abbrev pub decreases-loop-j : goal.decreases-loop-j
-decreases-loop-j l = l.n - l.j

@@ -1,7 +1,6 @@
 -- `put_stands` meets its contract: the loop compares one value after the other with the put.
 use mathlib.Core.Path.{◌≡◌}
 use mathlib.Core.List.{List}
-use Prim.Native.Nat.{◌≤◌, ◌-◌}
 use Rattle.clock.specs.Dots.{dots_of}
 use Rattle.register.specs.declared.Value.{Value}
 use Rattle.runs.specs.Run.{run_dots}
@@ -11,8 +10,5 @@ use Rattle.standing.proofs.put_stands.Given as goal
 
 abbrev pub invariant-loop-i : goal.invariant-loop-i
 invariant-loop-i live =
-    (live.i ≤ live.n) × ((l : List Value) (v : Value) → RunsOf live.s live.starts live.n l → run_dots live.put ≡ dots_of v.clock
+    ((l : List Value) (v : Value) → RunsOf live.s live.starts live.n l → run_dots live.put ≡ dots_of v.clock
     → Putting l v live.i live.remain live.yields)
-
-abbrev pub decreases-loop-i : goal.decreases-loop-i
-decreases-loop-i l = l.n - l.i

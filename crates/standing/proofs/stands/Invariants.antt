@@ -1,6 +1,5 @@
 -- `stands` meets its contract: the loop takes our values one after the other.
 use mathlib.Core.List.{List}
-use Prim.Native.Nat.{◌≤◌, ◌-◌}
 use Rattle.register.specs.declared.Value.{Value}
 use Rattle.comparing.specs.Registers.{RunsOf}
 use Rattle.standing.proofs.Registers.{Merging}
@@ -8,7 +7,4 @@ use Rattle.standing.proofs.stands.Given as goal
 
 abbrev pub invariant-loop-i : goal.invariant-loop-i
 invariant-loop-i v =
-    (v.i ≤ v.n) × ((l k : List Value) → RunsOf v.s v.xs v.n l → RunsOf v.t v.ys v.m k → Merging l k v.i v.ours v.theirs)
-
-abbrev pub decreases-loop-i : goal.decreases-loop-i
-decreases-loop-i l = l.n - l.i
+    ((l k : List Value) → RunsOf v.s v.xs v.n l → RunsOf v.t v.ys v.m k → Merging l k v.i v.ours v.theirs)

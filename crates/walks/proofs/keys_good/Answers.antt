@@ -42,7 +42,7 @@ bounds-counts-k-in-loop-i c = let k = key-index c.args.n
 
 pub loop-i-preserved : goal.loop-i-preserved
 loop-i-preserved c = (
-  (omega arith, (omega arith, simp length-set (omega arith))),
+  simp length-set (omega arith),
   keys_on _ _ _ _ c.loop-i.invariant.1 _ _
       c.read_record-r.ensures c.key_test.ensures (omega arith)
       (not-false _ (ap not c.if-not-key_test.false)) (not-false _ (ap not c.if-not-low-x.false)),

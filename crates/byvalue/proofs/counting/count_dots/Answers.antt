@@ -1,29 +1,31 @@
 -- `count_dots` meets its contract: the loop adds up what each has.
-use Prim.Native.Nat.{◌-◌}
-use lib.ListN.{length}
-use Rattle.entries.specs.Model.{dots_in, entries_of}
+use mathlib.Core.Path.{◌≡◌, ap}
+use Prim.Native.Nat.{◌≤◌}
+use lib.ListN.{length, length-take}
+use Rattle.listlaws.specs.Fold.{total_of}
+use Rattle.listlaws.proofs.SliceRests.{drop-step, drop-end}
 use Rattle.entries.proofs.Packs.{none_read}
-use Rattle.answers.proofs.Totals.{total-on, total-end}
-use borrow.Author.Rules.{rules}
+use Rattle.promises.specs.Deleted.{dots_among}
 use native.Mathlib.Omega.{arith}
+use borrow.Author.Rules.{rules}
+use Rattle.listlaws.proofs.Pads.{unmapped}
 use Rattle.byvalue.proofs.counting.count_dots.Goals as goal
 
-pub size-n-requires : goal.size-n-requires
-size-n-requires c = search rules
+pub loop-e-init : goal.loop-e-init
+loop-e-init c = (omega arith, omega arith)
 
-pub loop-i-init : goal.loop-i-init
-loop-i-init c = (omega arith, (omega arith, omega arith))
-
-pub loop-i-preserved : goal.loop-i-preserved
-loop-i-preserved c =
-    let s = c.before.before.before.before in
-    let a = s.args in
-    let e = total-on (λ e. length (dots_in e)) a.entries.items a.entries.len s.loop-i.i none_read (omega arith) in
-    (omega arith, (omega arith, omega arith))
+pub loop-e-preserved : goal.loop-e-preserved
+unfolding total_of
+loop-e-preserved c =
+    let e = ap dots_among (drop-step _ c.loop-e.e-index none_read c.loop-e-test.true) in
+    (omega arith, omega arith)
 
 pub returns : goal.returns
+unfolding total_of
 returns c =
-    let s = c.before in
-    let a = s.args in
-    let e = total-end (λ e. length (dots_in e)) (entries_of a.entries) s.loop-i.i (omega arith) in
-    (omega arith, omega arith)
+    let l = c.as_slice-e-items.result.now in
+    let good = c.well_formed in
+    let room : length c.args.entries.items ≡ 32 = search (rules, unmapped, good) in
+    let e = ap dots_among (drop-end l c.loop-e.e-index (omega arith)) in
+    let few : length l ≤ 32 = omega (arith, ap length c.as_slice-e-items.ensures, length-take c.args.entries.len c.args.entries.items) in
+    rw (← c.as_slice-e-items.ensures) (omega arith, omega arith)

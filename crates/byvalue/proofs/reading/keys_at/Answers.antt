@@ -1,7 +1,6 @@
 -- `keys_at` meets its contract: one key after the other.
 use mathlib.Core.Path.{ap, sym, ◌∙◌}
 use mathlib.Core.List.{map}
-use Prim.Native.Nat.{◌-◌}
 use Rattle.removals.specs.declared.Keys.{Keys}
 use Rattle.removals.specs.Model.{keys_as}
 use Rattle.records.specs.Bytes.{num_at}
@@ -13,24 +12,21 @@ use native.Mathlib.Omega.{arith}
 use Rattle.byvalue.proofs.reading.keys_at.Goals as goal
 
 pub loop-i-init : goal.loop-i-init
-loop-i-init c = (omega arith, c.new-keys.ensures ∙ ap keys_as (sym (made_none _)))
+loop-i-init c = c.new-keys.ensures ∙ ap keys_as (sym (made_none _))
 
 pub push-keys-requires : goal.push-keys-requires
 push-keys-requires c =
-    let s = c.before.before.before in
-    let a = s.args in
-    let long = length-of (λ j. num_at 2 (key_place a.k j) a.mem.now) s.loop-i.i in
-    omega (arith, ap (λ (x : Keys). x.len) s.loop-i.invariant.1, s.count-n.ensures)
+    let a = c.args in
+    let long = length-of (λ j. num_at 2 (key_place a.k j) a.mem.now) c.loop-i.i in
+    omega (arith, ap (λ (x : Keys). x.len) c.loop-i.invariant, c.count-n.ensures)
 
 pub loop-i-preserved : goal.loop-i-preserved
 loop-i-preserved c =
-    let s = c.before.before.before.before in
-    (omega arith, made-next _ keys_as s.loop-i.i c.read32-key.ensures (c.push-keys.ensures _ s.loop-i.invariant.1))
+    made-next _ keys_as c.loop-i.i c.read32-key.ensures (c.push-keys.ensures _ c.loop-i.invariant)
 
 pub returns : goal.returns
 unfolding listed_at
 returns c =
-    let s = c.before in
-    let a = s.args in
-    let e = s.count-n.ensures in
-    s.loop-i.invariant.1 ∙ ap (λ m. keys_as (map (λ j. num_at 2 (key_place a.k j) a.mem.now) (numbers_below m))) (omega arith)
+    let a = c.args in
+    let e = c.count-n.ensures in
+    c.loop-i.invariant ∙ ap (λ m. keys_as (map (λ j. num_at 2 (key_place a.k j) a.mem.now) (numbers_below m))) (omega arith)

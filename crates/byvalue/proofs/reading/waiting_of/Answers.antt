@@ -1,7 +1,7 @@
 -- `waiting_of` meets its contract: one removal after the other, in place.
 use mathlib.Core.Path.{◌≡◌, ap, sym, ◌∙◌}
 use mathlib.Core.List.{map}
-use Prim.Native.Nat.{◌<◌, ◌-◌}
+use Prim.Native.Nat.{◌<◌}
 use lib.ListN.{length}
 use Rattle.limits.specs.Limits.{waiting_limit}
 use Rattle.removals.specs.Model.{waiting_as}
@@ -16,30 +16,27 @@ use Rattle.byvalue.proofs.reading.waiting_of.Goals.{After-removal_at-r}
 use Rattle.byvalue.proofs.reading.waiting_of.Goals as goal
 
 pub loop-k-init : goal.loop-k-init
-loop-k-init c = (omega arith, c.new-waiting.ensures ∙ ap waiting_as (sym (made_none _)))
+loop-k-init c = c.new-waiting.ensures ∙ ap waiting_as (sym (made_none _))
 
 -- there is room for the removal
-few : (c : After-removal_at-r) → let s = c.before.before in length (map (removal_at s.args.mem.now)
-    (numbers_below s.loop-k.k)) < waiting_limit
+few : (c : After-removal_at-r) → length (map (removal_at c.args.mem.now)
+    (numbers_below c.loop-k.k)) < waiting_limit
 few c =
-    let s = c.before.before in
-    omega (arith, length-of (removal_at s.args.mem.now) s.loop-k.k, s.count-n.ensures)
+    omega (arith, length-of (removal_at c.args.mem.now) c.loop-k.k, c.count-n.ensures)
 
-room : (c : After-removal_at-r) → let s = c.before.before in (s.loop-k.waiting.len < waiting_limit)
-    × (length s.loop-k.waiting.items ≡ waiting_limit)
-room c = removal-room _ c.loop-k.invariant.1 (few c)
+room : (c : After-removal_at-r) → (c.loop-k.waiting.len < waiting_limit)
+    × (length c.loop-k.waiting.items ≡ waiting_limit)
+room c = removal-room _ c.loop-k.invariant (few c)
 
 pub loop-k-preserved : goal.loop-k-preserved
 loop-k-preserved c =
-    let s = c.before.before in
-    (omega arith, made-next _ waiting_as s.loop-k.k c.removal_at-r.ensures (removal-pushed _ _ s.loop-k.invariant.1 (few c)))
+    made-next _ waiting_as c.loop-k.k c.removal_at-r.ensures (removal-pushed _ _ c.loop-k.invariant (few c))
 
 pub returns : goal.returns
 unfolding waiting_at
 returns c =
-    let s = c.before in
-    let e = s.count-n.ensures in
-    s.loop-k.invariant.1 ∙ ap (λ m. waiting_as (map (removal_at s.args.mem.now) (numbers_below m))) (omega arith)
+    let e = c.count-n.ensures in
+    c.loop-k.invariant ∙ ap (λ m. waiting_as (map (removal_at c.args.mem.now) (numbers_below m))) (omega arith)
 
 pub offset_bounds-waiting-m : goal.offset_bounds-waiting-m
 offset_bounds-waiting-m c = omega (arith, room c)

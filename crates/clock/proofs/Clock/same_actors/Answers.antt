@@ -1,64 +1,45 @@
 -- `Clock::same_actors` meets its contract: at each place both have the same actor, behind the last one.
-use mathlib.Core.Path.{refl, sym, ◌∙◌}
-use Prim.Native.Nat.{◌<◌}
+use mathlib.Core.Path.{◌≡◌, refl, ap, ap₂, sym, ◌∙◌}
+use mathlib.Core.Bool.{not}
+use mathlib.Core.Logic.{⊎_elim}
 use lib.ListN.{length}
-use Rattle.listlaws.proofs.Alike.{alike-stops, alike-goes, alike_end, alike-apart}
-use Rattle.clock.specs.Dots.{no_dot, dots_of}
+use Rattle.listlaws.specs.Rise.{alike}
+use Rattle.listlaws.proofs.SliceAlike.{alike_end, alike-apart}
+use Rattle.listlaws.proofs.SliceRising.{stops, goes}
 use Rattle.clock.specs.Walking.{same_actors}
 use native.Mathlib.Omega.{arith}
-use mathlib.Core.Bool.{not}
-use mathlib.Core.Path.{ap}
-use Rattle.clock.proofs.Clock.same_actors.Goals.{In-loop-i}
 use Rattle.clock.proofs.Clock.same_actors.Goals as goal
 
-pub returns-then-n-size : goal.returns-then-n-size
+pub returns-then-xs-ys : goal.returns-then-xs-ys
 unfolding same_actors
-returns-then-n-size c =
-    let a = c.args in
-    alike-apart (λ d. d.actor) 0 (dots_of a.self) (dots_of a.other) (λ e. c.if-n-size.true
-    (omega (arith, c.size.ensures, c.size-n.ensures)))
+returns-then-xs-ys c = rw (← c.as_slice-xs.ensures, ← c.as_slice-ys.ensures)
+    (alike-apart (λ d. d.actor) 0 _ _ c.if-xs-ys.true)
 
-pub loop-i-init : goal.loop-i-init
-loop-i-init c = (omega arith, refl)
-
--- the place is in use on both sides
-level : (c : In-loop-i) → let s = c.before in
-    (s.loop-i.i < length (dots_of s.args.self))
-    × (s.loop-i.i < length (dots_of s.args.other))
-level c =
-    let s = c.before in (
-      omega (arith, s.size-n.ensures),
-      omega (
-        arith,
-        s.size.ensures,
-        s.if-n-size.false,
-        s.size-n.ensures,
-      ),
-    )
+pub loop-x-init : goal.loop-x-init
+loop-x-init c =
+    let z = c.zip-x-items.ensures in
+    rw (c.into_iter-x-iterator.ensures.into_iter_gives, z.first, z.second.0, c.iter.ensures.rest, ← c.as_slice-xs.ensures, ← c.as_slice-ys.ensures)
+    (c.if-xs-ys.false, refl)
 
 pub returns-then-not-low-actor : goal.returns-then-not-low-actor
-unfolding same_actors
+unfolding same_actors alike
 returns-then-not-low-actor c =
-    let t = c.before.before.before.before.before.before in
-    let s = t.before in
-    let a = s.args in
-    alike-stops (λ d. d.actor) a.self.dots a.self.len a.other.dots a.other.len s.loop-i.i s.loop-i.low no_dot (level t).0 (level t).1
-    s.loop-i.invariant.1 (ap not c.if-not-low-actor.true)
+    let s = c.in-Some.ensures.steps in
+    stops _ _ (c.loop-x.invariant.1 ∙ ap₂ (alike (λ d. d.actor) c.loop-x.low) s.0 s.1) (ap not c.if-not-low-actor.true)
 
-pub loop-i-preserved : goal.loop-i-preserved
-loop-i-preserved c =
-    let t = c.before.before.before.before.before.before in
-    let s = t.before in
-    let a = s.args in (
-      omega arith,
-      alike-goes (λ d. d.actor) a.self.dots a.self.len a.other.dots a.other.len s.loop-i.i s.loop-i.low no_dot (level t).0
-          (level t).1 s.loop-i.invariant.1 (ap not c.if-not-low-actor.false),
+pub loop-x-preserved : goal.loop-x-preserved
+unfolding alike
+loop-x-preserved c =
+    let s = c.in-Some.ensures.steps in (
+      omega (arith, c.loop-x.invariant.0, ap length s.0, ap length s.1),
+      goes _ _ (c.loop-x.invariant.1 ∙ ap₂ (alike (λ d. d.actor) c.loop-x.low) s.0 s.1) (ap not c.if-not-low-actor.false),
     )
 
 pub returns : goal.returns
 unfolding same_actors
 returns c =
-    let s = c.before in
-    let a = s.args in
-    sym (s.loop-i.invariant.1 ∙ alike_end (λ d. d.actor) (dots_of a.self) (dots_of a.other) s.loop-i.i s.loop-i.low
-    (omega (arith, s.size-n.ensures)) (omega (arith, s.size.ensures, s.if-n-size.false)))
+    let g = c.loop-x.invariant in
+    let a = c.loop-x.x-iterator.a.rest.now in
+    let b = c.loop-x.x-iterator.b.rest.now in
+    let h : length a ≡ 0 = ⊎_elim (λ x. x.1.0) (λ x. omega (arith, g.0, x.1.0)) c.in-None.ensures.steps in
+    sym (g.1 ∙ alike_end (λ d. d.actor) a b 0 c.loop-x.low (omega arith) (omega (arith, g.0)))

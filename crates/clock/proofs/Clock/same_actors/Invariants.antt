@@ -2,8 +2,8 @@
 use mathlib.Core.Path.{◌≡◌}
 use mathlib.Core.Bool.{Bool}
 use mathlib.Core.List.{List}
-use Prim.Native.Nat.{ℕ, ◌≤◌, ◌-◌}
-use lib.ListN.{drop}
+use Prim.Native.Nat.{ℕ}
+use lib.ListN.{length}
 use Rattle.listlaws.specs.Rise.{alike}
 use Rattle.clock.specs.declared.Dot.{Dot}
 use Rattle.clock.specs.Dots.{dots_of}
@@ -12,8 +12,8 @@ use Rattle.clock.proofs.Clock.same_actors.Given as goal
 abbrev pub from : ℕ → List Dot → List Dot → Bool
 from low a b = alike (λ d. d.actor) low a b
 
-abbrev pub invariant-loop-i : goal.invariant-loop-i
-invariant-loop-i l = (l.i ≤ l.n) × (from 0 (dots_of l.self) (dots_of l.other) ≡ from l.low (drop l.i (dots_of l.self)) (drop l.i (dots_of l.other)))
-
-abbrev pub decreases-loop-i : goal.decreases-loop-i
-decreases-loop-i l = l.n - l.i
+abbrev pub invariant-loop-x : goal.invariant-loop-x
+invariant-loop-x l =
+    let xs = l.x-iterator.a.rest.now in
+    let ys = l.x-iterator.b.rest.now in
+    (length xs ≡ length ys) × (from 0 (dots_of l.fn.self) (dots_of l.fn.other) ≡ from l.low xs ys)

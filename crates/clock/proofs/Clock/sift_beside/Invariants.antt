@@ -1,16 +1,17 @@
 -- `Clock::sift_beside` meets its contract: the loop sifts the clock's dots, and walks the other clock beside them.
 use mathlib.Core.List.{[]}
 use Prim.Native.Nat.{◌≤◌, ◌-◌, ◌+◌}
-use Rattle.listlaws.proofs.Sifting.{Sifting}
-use Rattle.clock.specs.Dots.{dots_of, clock_of}
+use lib.ListN.{length}
+use Rattle.listlaws.proofs.SliceSifting.{Sifting}
+use Rattle.clock.specs.Dots.{clock_of}
 use Rattle.clock.specs.Walking.{kept}
-use Rattle.clock.proofs.Walks.{Walk}
+use Rattle.clock.proofs.SliceWalks.{Walk}
 use Rattle.clock.proofs.Clock.sift_beside.Given as goal
 
 abbrev pub invariant-loop-i : goal.invariant-loop-i
 invariant-loop-i l =
-    (l.i ≤ l.n) × (l.j ≤ l.m) × Sifting clock_of (kept l.same (dots_of l.by)) (λ d. d) [] l.self.dots l.self.len l.i l.out
-    × Walk l.by.dots l.by.len l.j l.self.dots l.self.len l.i
+    (l.i ≤ length l.xs) × (l.j ≤ length l.ys)
+    × Sifting clock_of (kept l.same l.ys) (λ d. d) [] l.xs l.i l.out × Walk l.ys l.j l.xs l.i
 
 abbrev pub decreases-loop-i : goal.decreases-loop-i
-decreases-loop-i l = (l.n - l.i) + (l.m - l.j)
+decreases-loop-i l = (length l.xs - l.i) + (length l.ys - l.j)

@@ -1,49 +1,46 @@
 -- `Clock::sift_by_look` meets its contract: the loop sifts the clock's dots.
-use mathlib.Core.Path.{refl, ap, sym, ◌∙◌}
-use Prim.Native.Nat.{◌<◌}
-use Rattle.listlaws.proofs.Sifting.{sifting-start, sifting-keep, sifting-drop, sifting-room, sifting-end}
+use mathlib.Core.Path.{◌≡◌, refl, ap, sym, ◌∙◌}
+use Rattle.listlaws.proofs.SliceSifting.{sifting-start, sifting-keep, sifting-drop, sifting-room, sifting-end}
 use Rattle.listlaws.proofs.Sifts.{length-sift}
 use Rattle.clock.specs.Dots.{no_dot, dots_of}
-use Rattle.limits.specs.Limits.{dot_limit}
 use Rattle.clock.specs.Walking.{kept}
-use Rattle.clock.proofs.Packs.{pushed}
+use lib.ListN.{length}
 use borrow.Author.Rules.{rules}
+use Rattle.listlaws.proofs.Pads.{unmapped, used}
+use Rattle.limits.specs.Limits.{dot_limit}
 use native.Mathlib.Omega.{arith}
-use Rattle.clock.proofs.Clock.sift_by_look.Goals.{Then-stays}
+use Rattle.clock.proofs.Clock.sift_by_look.Goals.{then-stays, else-stays}
 use Rattle.clock.proofs.Clock.sift_by_look.Goals as goal
 
-pub loop-i-init : goal.loop-i-init
-loop-i-init c = (search rules, sifting-start c.new-out.ensures)
+pub loop-d-init : goal.loop-d-init
+loop-d-init c = sifting-start c.new-out.ensures
 
 -- there is room for one more
-room : (c : Then-stays) → c.loop-i.out.len < dot_limit
-room c =
-    let s = c.before.before.before.before.before in
+pub store-requires : goal.store-requires
+store-requires c =
+    let a = c.args in
     let t = rw c.get-seen.ensures at (sym c.stays.ensures ∙ c.if-stays.true) in
-    let r = sifting-room no_dot s.loop-i.invariant.1 (omega arith) refl t in
-    let a = s.args in
-    omega (arith, ap (λ k. k.len) r.1, r.2, length-sift (kept a.same (dots_of a.by)) (λ d. d) (dots_of a.self))
+    let w : length a.self.dots ≡ dot_limit = search (rules, unmapped) in
+    let r = sifting-room no_dot c.loop-d.invariant c.loop-d-test.true refl t in
+    omega (
+      arith,
+      ap (λ k. k.len) r.1,
+      r.2,
+      length-sift (kept a.same (dots_of a.by)) (λ d. d) c.as_slice-d-items.result.now,
+      ap length c.as_slice-d-items.ensures,
+      used a.self.len dot_limit a.self.dots w,
+    )
 
-pub loop-i-preserved-then-stays : goal.loop-i-preserved-then-stays
-loop-i-preserved-then-stays c =
-    let s = c.loop-i.invariant.1 in
-    let t = rw c.get-seen.ensures at (sym c.stays.ensures ∙ c.if-stays.true) in
-    (search rules, sifting-keep no_dot s (omega arith) refl t (λ l e. pushed l _ e (omega (arith, ap (λ k. k.len) e, room c))))
-
-pub loop-i-preserved : goal.loop-i-preserved
-loop-i-preserved c =
-    let s = c.loop-i.invariant.1 in
-    let t = rw c.get-seen.ensures at (sym c.stays.ensures ∙ c.if-stays.false) in
-    (search rules, sifting-drop no_dot s (omega arith) refl t)
+pub loop-d-preserved : goal.loop-d-preserved
+loop-d-preserved c =
+    elim c.if-stays.branch [
+      | then-stays w ↦
+          let t = rw c.get-seen.ensures at (sym c.stays.ensures ∙ w.if-stays.true) in
+          sifting-keep no_dot c.loop-d.invariant c.loop-d-test.true refl t (rw w.out-is w.store.ensures)
+      | else-stays w ↦
+          let t = rw c.get-seen.ensures at (sym c.stays.ensures ∙ w.if-stays.false) in
+          rw w.out-is (sifting-drop no_dot c.loop-d.invariant c.loop-d-test.true refl t)
+    ]
 
 pub returns : goal.returns
-returns c = sifting-end c.loop-i.invariant.1 (omega arith)
-
-pub offset_bounds-out-k : goal.offset_bounds-out-k
-offset_bounds-out-k c = omega (arith, room c)
-
-pub bounds-out-k : goal.bounds-out-k
-bounds-out-k c = omega (arith, room c)
-
-pub overflow_add-out : goal.overflow_add-out
-overflow_add-out c = omega (arith, room c)
+returns c = rw (← c.as_slice-d-items.ensures) (sifting-end c.loop-d.invariant (omega arith))

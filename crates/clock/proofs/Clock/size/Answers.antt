@@ -7,8 +7,5 @@ use native.Mathlib.Omega.{arith}
 use Rattle.limits.specs.Limits.{dot_limit}
 use Rattle.clock.proofs.Clock.size.Goals as goal
 
-pub returns-then-n-lt-DOTS : goal.returns-then-n-lt-DOTS
-returns-then-n-lt-DOTS c = let h : length c.args.self.dots ≡ dot_limit = search (rules, unmapped) in simp length-take (omega arith)
-
-pub returns-else-n-lt-DOTS : goal.returns-else-n-lt-DOTS
-returns-else-n-lt-DOTS c = let h : length c.args.self.dots ≡ dot_limit = search (rules, unmapped) in simp length-take (omega arith)
+pub returns : goal.returns
+returns c = let h : length c.args.self.dots ≡ dot_limit = search (rules, unmapped) in simp length-take (omega (arith, c.min.ensures))

@@ -1,14 +1,13 @@
--- `ClockReader::verdict` meets its contract.
-use mathlib.Core.Path.{sym, ◌∙◌}
-use borrow.Author.Tests.{eq-eqb, ne_eqb}
+-- `ClockReader::verdict` meets its contract: a refusal of the scan is handed on.
+use mathlib.Core.Path.{refl, ◌∙◌, ap}
+use borrow.Author.Tests.{ne_eqb}
+use Rattle.refusals.specs.Numbers.{number_for}
+use Rattle.refusals.proofs.Handed.{handed, number-some}
+use Rattle.scan.proofs.Numbers.{scan-min}
+use Rattle.clockimage.specs.ClockImage.{clock_reading}
 use Rattle.clockimage.proofs.ClockReader.verdict.Goals as goal
 
-pub returns-then-scan-eq0 : goal.returns-then-scan-eq0
-returns-then-scan-eq0 c l s =
-    let z = c.if-scan-eq0.true in
-    rw (eq-eqb _ _ (sym s.scanned.number ∙ z), s.clock z)
-
-pub returns : goal.returns
-returns c l s =
-    let n = c.if-scan-eq0.false in
-    rw (← s.scanned.number, ne_eqb _ _ n) c.refused.ensures
+pub returns-in_err-verdict : goal.returns-in_err-verdict
+returns-in_err-verdict c l s =
+    let n = (rw s.scanned.number at c.in_err-verdict.ensures) ∙ scan-min 1 1 l in
+    ap clock_reading (handed c.from_residual.result _ c.from_residual.ensures.1) ∙ rw (← n, ne_eqb _ _ (number-some c.in_err-verdict.field-0.0)) refl

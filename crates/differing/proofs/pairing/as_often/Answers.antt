@@ -1,25 +1,22 @@
 -- `as_often` meets its contract: the loop looks for a value that stands in one entry more often.
 use mathlib.Core.Path.{◌≡◌, ap, sym, ◌∙◌}
-use mathlib.Core.Bool.{true, false, not}
-use mathlib.Core.List.{List}
-use Prim.Native.Nat.{ℕ, ◌<◌, ◌-◌}
+use mathlib.Core.Bool.{not}
+use Prim.Native.Nat.{◌<◌}
 use native.Mathlib.Omega.{arith}
-use lib.ListN.{length, take}
-use lib.Seq.{take-length}
+use lib.ListN.{length}
 use borrow.Author.Tests.{eq-eqb, ne_eqb}
-use Rattle.listlaws.proofs.Passing.{passing-start, passing-here, passing-on, passing-end}
-use Rattle.register.specs.declared.Value.{Value}
+use Rattle.listlaws.proofs.SlicePassing.{passing-start, passing-here, passing-on, passing-end}
 use Rattle.register.specs.Values.{no_value}
 use Rattle.entries.specs.Model.{values_in}
 use Rattle.equality.specs.Equality.{as_often}
 use Rattle.entrywalk.proofs.Lying.{many-values}
 use Rattle.differing.proofs.pairing.as_often.Goals as goal
 
-pub overflow_sub-n : goal.overflow_sub-n
-overflow_sub-n c = omega (arith, c.requires.0.1.values.order)
+pub overflow_sub-i-end : goal.overflow_sub-i-end
+overflow_sub-i-end c = omega (arith, c.requires.0.1.values.order)
 
 pub loop-i-init : goal.loop-i-init
-loop-i-init c = (omega arith, λ e f h k. passing-start)
+loop-i-init c = λ e f h k. passing-start
 
 pub times-here-requires : goal.times-here-requires
 times-here-requires c =
@@ -31,32 +28,20 @@ times-there-requires c =
     let p = c.requires in
     ((p.0.0, p.0.1, omega (arith, many-values p.0.1)), p.1)
 
--- a place of the entry's values
-inside : (l : List Value) (i : ℕ) → i < length l → i < length (take (length l) l)
-inside l i h = rw (take-length l) h
-
 pub returns-then-here-there : goal.returns-then-here-there
 unfolding as_often
 returns-then-here-there c = λ e f h k.
-    let t = c.before.before in
-    let s = t.before.before in
-    let n : s.loop-i.i < length (values_in e) = omega (arith, many-values h) in
-    let differ : (t.times-here.result ≡ c.times-there.result → ⊥) = c.if-here-there.true in
-    rw (take-length (values_in e)) at (passing-here no_value (s.loop-i.invariant.1 e f h k) (inside (values_in e) s.loop-i.i n)
-    (ap not (ne_eqb _ _ (λ q. differ (t.times-here.ensures e e h n h ∙ q ∙ sym (c.times-there.ensures e f h n k))))))
+    let n : c.loop-i.i < length (values_in e) = omega (arith, many-values h) in
+    let differ : (c.times-here.result ≡ c.times-there.result → ⊥) = c.if-here-there.true in
+    passing-here no_value (c.loop-i.invariant e f h k) n
+    (ap not (ne_eqb _ _ (λ q. differ (c.times-here.ensures e e h n h ∙ q ∙ sym (c.times-there.ensures e f h n k)))))
 
 pub loop-i-preserved : goal.loop-i-preserved
-loop-i-preserved c =
-    let t = c.before.before in
-    let s = t.before.before in (
-      omega arith,
-      λ e f h k.
-          let n : s.loop-i.i < length (values_in e) = omega (arith, many-values h) in
-          passing-on no_value (s.loop-i.invariant.1 e f h k) (inside (values_in e) s.loop-i.i n)
-          (ap not (eq-eqb _ _ (sym (t.times-here.ensures e e h n h) ∙ c.if-here-there.false ∙ c.times-there.ensures e f h n k))),
-    )
+loop-i-preserved c = λ e f h k.
+    let n : c.loop-i.i < length (values_in e) = omega (arith, many-values h) in
+    passing-on no_value (c.loop-i.invariant e f h k) n
+    (ap not (eq-eqb _ _ (sym (c.times-here.ensures e e h n h) ∙ c.if-here-there.false ∙ c.times-there.ensures e f h n k)))
 
 pub returns : goal.returns
 unfolding as_often
-returns c = λ e f h k.
-    rw (take-length (values_in e)) at (passing-end (c.loop-i.invariant.1 e f h k) (rw (take-length (values_in e)) (omega (arith, many-values h))))
+returns c = λ e f h k. passing-end (c.loop-i.invariant e f h k) (omega (arith, many-values h))

@@ -1,9 +1,7 @@
 -- `as_often` meets its contract: the loop looks for a value that stands in one entry more often.
 use mathlib.Core.Bool.{true, false, not}
-use Prim.Native.Nat.{◌≤◌, ◌-◌}
 use lib.Dec.{eqb}
-use lib.ListN.{length}
-use Rattle.listlaws.proofs.Passing.{Passing}
+use Rattle.listlaws.proofs.SlicePassing.{Passing}
 use Rattle.entries.specs.declared.Entry.{Entry}
 use Rattle.entries.specs.Model.{values_in}
 use Rattle.equality.specs.Equality.{times_in}
@@ -11,8 +9,5 @@ use Rattle.entrywalk.specs.Walking.{LiesAt}
 use Rattle.differing.proofs.pairing.as_often.Given as goal
 
 abbrev pub invariant-loop-i : goal.invariant-loop-i
-invariant-loop-i l = (l.i ≤ l.n) × ((e f : Entry) → LiesAt l.s e l.x → LiesAt l.t f l.y
-    → Passing (λ v. not (eqb (times_in (values_in e) v) (times_in (values_in f) v))) (λ v. false) true (values_in e) (length (values_in e)) l.i)
-
-abbrev pub decreases-loop-i : goal.decreases-loop-i
-decreases-loop-i l = l.n - l.i
+invariant-loop-i l = (e f : Entry) → LiesAt l.s e l.x → LiesAt l.t f l.y
+    → Passing (λ v. not (eqb (times_in (values_in e) v) (times_in (values_in f) v))) (λ v. false) true (values_in e) l.i

@@ -1,8 +1,8 @@
 -- `times` meets its contract: the loop sifts the other entry's values, and only their number is kept.
 use mathlib.Core.List.{[]}
-use Prim.Native.Nat.{◌≤◌, ◌<◌, ◌-◌}
+use Prim.Native.Nat.{◌≤◌, ◌<◌}
 use lib.ListN.{length, get_or}
-use Rattle.listlaws.proofs.Sifting.{Sifting}
+use Rattle.listlaws.proofs.SliceSifting.{Sifting}
 use Rattle.register.specs.Values.{no_value}
 use Rattle.entries.specs.declared.Entry.{Entry}
 use Rattle.entries.specs.Model.{values_in}
@@ -10,9 +10,6 @@ use Rattle.equality.specs.Equality.{same_pair}
 use Rattle.entrywalk.specs.Walking.{LiesAt}
 use Rattle.differing.proofs.pairing.times.Given as goal
 
-abbrev pub invariant-loop-j : goal.invariant-loop-j
-invariant-loop-j l = (l.j ≤ l.m) × ((l.count ≤ l.j) × ((e f : Entry) → LiesAt l.s e l.x → l.i < length (values_in e) → LiesAt l.t f l.y
-    → Sifting length (same_pair (get_or (values_in e) l.i no_value)) (λ w. w) [] (values_in f) (length (values_in f)) l.j l.count))
-
-abbrev pub decreases-loop-j : goal.decreases-loop-j
-decreases-loop-j l = l.m - l.j
+abbrev pub invariant-loop-k : goal.invariant-loop-k
+invariant-loop-k l = (l.count ≤ l.k) × ((e f : Entry) → LiesAt l.s e l.x → l.i < length (values_in e) → LiesAt l.t f l.y
+    → Sifting length (same_pair (get_or (values_in e) l.i no_value)) (λ w. w) [] (values_in f) l.k l.count)

@@ -1,42 +1,16 @@
--- `spent_between` meets its contract: the walk looks for an entry of ours that shares a dot.
-use mathlib.Core.Path.{sym, ◌∙◌}
-use Prim.Native.Nat.{◌-◌}
-use native.Mathlib.Omega.{arith}
-use Rattle.clock.proofs.Packs.{dots-of}
-use Rattle.asking.specs.Asking.{validate_merge}
-use Rattle.direct.proofs.Seeking.{seek-start, seek-here, seek-on, seek-end}
+-- `spent_between` meets its contract: what is asked of each entry of ours is which of theirs shares a dot with it.
+use Rattle.std.proofs.Common.{rules, of_calls, ◌≡◌, ◌∙◌}
+use Rattle.clock.specs.Dots.{dots_of}
+use Rattle.entries.specs.Model.{dots_in}
+use Rattle.map.specs.Model.{entries_in}
+use Rattle.asking.specs.Asking.{spent_by, spent_under, first_spent, validate_merge}
+use Rattle.maprecords.specs.Related.{read_map}
 use Rattle.direct.proofs.validating.spent_between.Goals as goal
-
-pub loop-at-init : goal.loop-at-init
-loop-at-init c = seek-start c.requires.0
-
-pub stop_at-ours-requires : goal.stop_at-ours-requires
-stop_at-ours-requires c = let g = c.loop-at.invariant in (omega arith, (g.rest, g.owned))
-
-pub spent_among-found-requires : goal.spent_among-found-requires
-spent_among-found-requires c = c.requires.1
-
-pub returns-then-twice : goal.returns-then-twice
-unfolding validate_merge
-returns-then-twice c =
-    let g = c.loop-at.invariant in
-    let s = c.stop_at-ours.ensures in
-    let q = s g.rest g.owned in
-    seek-here g s _ (c.spent_among-found.ensures ∙ rw (q.key, dots-of _ q.clock)) (sym c.twice.ensures ∙ c.if-twice.true)
-
-pub loop-at-smaller : goal.loop-at-smaller
-loop-at-smaller c =
-    let g = c.loop-at.invariant in
-    let q = c.stop_at-ours.ensures g.rest g.owned in
-    omega (arith, q.onward, q.rest.order)
-
-pub loop-at-preserved : goal.loop-at-preserved
-loop-at-preserved c =
-    let g = c.loop-at.invariant in
-    let s = c.stop_at-ours.ensures in
-    let q = s g.rest g.owned in
-    seek-on g s _ (c.spent_among-found.ensures ∙ rw (q.key, dots-of _ q.clock)) (sym c.twice.ensures ∙ c.if-twice.false)
 
 pub returns : goal.returns
 unfolding validate_merge
-returns c = seek-end c.loop-at.invariant (omega arith)
+returns c =
+    let theirs = entries_in (read_map c.args.other.now).map in
+    c.first_twice.ensures (λ e. first_spent (spent_by e) theirs) (λ e x p k d h.
+    let u : p ≡ first_spent (λ f. spent_under x.key (dots_of x.clock) f.key (dots_in f)) theirs = search (rules, of_calls) in
+    u ∙ rw (k, d))

@@ -17,7 +17,10 @@ use Rattle.entries.specs.declared.Entry.{Entry}
 use Rattle.limits.specs.Limits.{entry_limit}
 use Rattle.entries.specs.Model.{entries_of, LaidDown}
 use Rattle.removals.specs.Model.{waiting_of}
-use Rattle.entries.specs.Steps.{survivor_of}
+use Rattle.entries.specs.declared.WideEntry.{WideEntry}
+use Rattle.entries.specs.Steps.{wide_entry, survivor_of}
+use Rattle.std.specs.Prelude.{Some, None}
+use Rattle.std.proofs.lemmas.Option.{none-some, same_Some}
 use Rattle.entries.specs.Entries.{stays, alone, together, merge_entries}
 use Rattle.entries.proofs.Runs.{run-laid}
 use Rattle.entries.proofs.Packs.{none_read}
@@ -80,12 +83,6 @@ overflow_add-j c =
     let s = k.before.before.before.before.before.before in
     omega (arith, (step k).few, s.loop-i.invariant.1, s.size-m.ensures)
 
-pub overflow_add-out : goal.overflow_add-out
-overflow_add-out c =
-    let k = c.before.before.before.before.before.before.before.before.before.before.before.before in
-    let s = k.before.before.before.before.before.before in
-    omega (arith, s.loop-i.invariant.0, s.loop-i.invariant.1, s.loop-i.invariant.2, s.size-n.ensures, s.size-m.ensures)
-
 -- less is left of both
 less : (c : After-merge_step-step) → let s = c.before.before.before.before.before.before in
     (s.size-n.result - (s.loop-i.i + c.merge_step-step.result.ours)) + (s.size-m.result - (s.loop-i.j + c.merge_step-step.result.theirs)) <
@@ -95,74 +92,68 @@ less c =
     omega (arith, (step c).ours, (step c).theirs, (step c).some, s.size-n.ensures, s.size-m.ensures)
 
 pub loop-i-smaller-then-not-is_empty : goal.loop-i-smaller-then-not-is_empty
-loop-i-smaller-then-not-is_empty c = less c.before.before.before.before.before.before.before.before.before.before.before.before.before.before
+loop-i-smaller-then-not-is_empty c = less c.before.before.before.before.before.before.before.before.before.before.before.before
 
 pub loop-i-smaller-else-not-is_empty : goal.loop-i-smaller-else-not-is_empty
-loop-i-smaller-else-not-is_empty c = less c.before.before.before.before.before.before.before.before.before.before
+loop-i-smaller-else-not-is_empty c = less c.before.before.before.before.before.before.before.before
 
 pub loop-i-smaller : goal.loop-i-smaller
-loop-i-smaller c = less c.before.before.before.before
+loop-i-smaller c = less c.before.before.before
 
 -- the entry that is left of the step
-here : (c : After-merge_step-step) → c.merge_step-step.result.survivor.stays ≡ true
-    → (e : Entry) × ((step c).entries ≡ e ∷ []) × LaidDown e
-here c t = ⊎_elim (λ n. apart (sym t ∙ ap (λ l. l.stays) ((step c).left ∙ ap survivor_of n))) (λ f. f) (step c).one
+here : (c : After-merge_step-step) (h : WideEntry) → c.merge_step-step.result.survivor ≡ Some h
+    → (e : Entry) × ((step c).entries ≡ e ∷ []) × LaidDown e × (h ≡ wide_entry e)
+here c h t = ⊎_elim
+    (λ n. absurd (none-some h (sym (sym t ∙ (step c).left ∙ ap survivor_of n))))
+    (λ f. (f.0, f.1, f.2, same_Some h (wide_entry f.0) (sym t ∙ (step c).left ∙ ap survivor_of f.1)))
+    (step c).one
 
-gone : (c : After-merge_step-step) → c.merge_step-step.result.survivor.stays ≡ false → (step c).entries ≡ []
-gone c t = ⊎_elim (λ n. n) (λ f. apart (sym (ap (λ l. l.stays) ((step c).left ∙ ap survivor_of f.1)) ∙ t)) (step c).one
+gone : (c : After-merge_step-step) → c.merge_step-step.result.survivor ≡ None → (step c).entries ≡ []
+gone c t = ⊎_elim (λ n. n) (λ f. absurd (none-some (wide_entry f.0) (sym (sym (ap survivor_of f.1) ∙ sym (step c).left ∙ t)))) (step c).one
 
 pub loop-i-preserved-then-not-is_empty : goal.loop-i-preserved-then-not-is_empty
 loop-i-preserved-then-not-is_empty c =
-    let w = c.before.before.before in
-    let i = w.before in
-    let r = i.before.before in
-    let b = r.before.before in
-    let k = b.before.before.before.before in
-    let s = k.before.before.before.before.before.before in
-    let a = s.args in
-    let g = step k.before.before in
-    let h = here k.before.before b.if-left.true in
+    let k = c.before.before.before.before.before.before.before.before.before.before.before.before in
+    let a = c.args in
+    let g = step k in
+    let h = here k c.in-Some.left c.in-Some.is in
     let f : Entry → Entry = left (waiting_of a.ours) (waiting_of a.theirs) in
-    let q = r.run-h.ensures _ (r.run.ensures h.0 (ap (λ l. l.entry) (g.left ∙ ap survivor_of h.1))) in
-    let u : stays (f h.0) ≡ true = rw (ap (λ o. o.clock) q) at (ap not (sym i.is_empty.ensures) ∙ (ap not i.if-not-is_empty.true)) in (
-      omega (arith, g.ours, s.size-n.ensures),
-      omega (arith, g.theirs, s.size-m.ensures),
-      omega (arith, g.some, s.loop-i.invariant.2),
-      go-keep s.loop-i.invariant.3 (ap (finished (waiting_of a.ours) (waiting_of a.theirs)) g.rest ∙ one_left f _ h.0 h.1
+    let q = c.run-h.ensures _ (c.run.ensures h.0 h.3) in
+    let u : stays (f h.0) ≡ true = rw (ap (λ o. o.clock) q) at (ap not (sym c.is_empty.ensures ∙ c.if-not-is_empty.true)) in (
+      omega (arith, g.ours, c.size-n.ensures),
+      omega (arith, g.theirs, c.size-m.ensures),
+      omega (arith, g.some, c.loop-i.invariant.2),
+      go-keep c.loop-i.invariant.3 (ap (finished (waiting_of a.ours) (waiting_of a.theirs)) g.rest ∙ one_left f _ h.0 h.1
           ∙ one-stays f h.0 _ u)
-          (λ l p. finish-one l (f h.0) p q (run-laid (waiting_of a.ours) (run-laid (waiting_of a.theirs) h.2)) w.lay-laid.ensures
+          (λ l p. finish-one l (f h.0) p q (run-laid (waiting_of a.ours) (run-laid (waiting_of a.theirs) h.2)) c.lay-laid.ensures
           c.slot-k.ensures.1),
     )
 
 pub loop-i-preserved-else-not-is_empty : goal.loop-i-preserved-else-not-is_empty
 loop-i-preserved-else-not-is_empty c =
-    let r = c.before.before in
-    let b = r.before.before in
-    let k = b.before.before.before.before in
-    let s = k.before.before.before.before.before.before in
-    let a = s.args in
-    let g = step k.before.before in
-    let h = here k.before.before b.if-left.true in
+    let k = c.before.before.before.before.before.before.before.before in
+    let a = c.args in
+    let g = step k in
+    let h = here k c.in-Some.left c.in-Some.is in
     let f : Entry → Entry = left (waiting_of a.ours) (waiting_of a.theirs) in
-    let q = r.run-h.ensures _ (r.run.ensures h.0 (ap (λ l. l.entry) (g.left ∙ ap survivor_of h.1))) in
-    let u : stays (f h.0) ≡ false = rw (ap (λ o. o.clock) q) at (ap not (sym c.is_empty.ensures) ∙ (ap not c.if-not-is_empty.false)) in (
-      omega (arith, g.ours, s.size-n.ensures),
-      omega (arith, g.theirs, s.size-m.ensures),
-      omega (arith, g.some, s.loop-i.invariant.2),
-      go-skip s.loop-i.invariant.3 (ap (finished (waiting_of a.ours) (waiting_of a.theirs)) g.rest ∙ one_left f _ h.0 h.1
+    let q = c.run-h.ensures _ (c.run.ensures h.0 h.3) in
+    let u : stays (f h.0) ≡ false = rw (ap (λ o. o.clock) q) at (ap not (sym c.is_empty.ensures ∙ c.if-not-is_empty.false)) in (
+      omega (arith, g.ours, c.size-n.ensures),
+      omega (arith, g.theirs, c.size-m.ensures),
+      omega (arith, g.some, c.loop-i.invariant.2),
+      go-skip c.loop-i.invariant.3 (ap (finished (waiting_of a.ours) (waiting_of a.theirs)) g.rest ∙ one_left f _ h.0 h.1
           ∙ one-goes f h.0 _ u),
     )
 
 pub loop-i-preserved : goal.loop-i-preserved
 loop-i-preserved c =
-    let k = c.before.before.before.before in
-    let s = k.before.before.before.before.before.before in
-    let a = s.args in
+    let k = c.before.before.before in
+    let a = c.args in
     let g = step k in (
-      omega (arith, g.ours, s.size-n.ensures),
-      omega (arith, g.theirs, s.size-m.ensures),
-      omega (arith, g.some, s.loop-i.invariant.2),
-      go-skip s.loop-i.invariant.3 (ap (finished (waiting_of a.ours) (waiting_of a.theirs)) g.rest ∙ none_left _ _ (gone k c.if-left.false)),
+      omega (arith, g.ours, c.size-n.ensures),
+      omega (arith, g.theirs, c.size-m.ensures),
+      omega (arith, g.some, c.loop-i.invariant.2),
+      go-skip c.loop-i.invariant.3 (ap (finished (waiting_of a.ours) (waiting_of a.theirs)) g.rest ∙ none_left _ _ (gone k c.in_default.is)),
     )
 
 -- both are used up

@@ -1,6 +1,6 @@
 -- `Entry::alone` meets its contract.
+use Rattle.std.specs.Prelude.{Some}
 use mathlib.Core.Path.{ap, sym, ◌∙◌}
-use mathlib.Core.Bool.{true}
 use Rattle.clock.proofs.Packs.{dots-of, cut_left}
 use Rattle.register.proofs.Packs.{wide-values}
 use Rattle.entries.specs.Entries.{cut_alone, alone}
@@ -9,8 +9,7 @@ use Rattle.entries.proofs.Entry.alone.Goals as goal
 
 pub returns-then-covers : goal.returns-then-covers
 unfolding alone
-returns-then-covers c =
-    c.none.ensures ∙ rw (sym c.covers.ensures ∙ c.if-covers.true)
+returns-then-covers c = rw (sym c.covers.ensures ∙ c.if-covers.true)
 
 pub returns : goal.returns
 unfolding alone cut_alone
@@ -22,4 +21,4 @@ returns c =
     let left = cut_left _ _ k.cut.ensures in
     rw (sym i.covers.ensures ∙ i.if-covers.false)
     (rw (left, c.cut-wide.ensures, wide-values _ w.wide.ensures, dots-of _ (cut_left _ _ d.cut-2.ensures), dots-of _ left)
-    (ap (λ h. record { stays = true; entry = h }) (sym (wide-as _ _ _))))
+    (ap Some (sym (wide-as _ _ _))))

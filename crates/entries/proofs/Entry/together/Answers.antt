@@ -1,6 +1,6 @@
 -- `Entry::together` meets its contract: both joins fit.
+use Rattle.std.specs.Prelude.{Some}
 use mathlib.Core.Path.{◌≡◌, ap, sym, ◌∙◌}
-use mathlib.Core.Bool.{true}
 use Rattle.clock.specs.Dots.{dots_of, clock_of, fitted, is_empty}
 use Rattle.clock.proofs.Packs.{fits, dots-of, cut_left}
 use Rattle.register.proofs.Packs.{wide-values}
@@ -33,8 +33,7 @@ kept c = ap (λ r. r.clock) (joined c ∙ fits _ c.requires.0)
 pub returns-then-is_empty : goal.returns-then-is_empty
 unfolding together
 returns-then-is_empty c =
-    let e = c.before.before in
-    c.none.ensures ∙ rw (ap is_empty (sym (dots-of _ (kept e.before.before))) ∙ sym e.is_empty.ensures ∙ c.if-is_empty.true)
+    rw (ap is_empty (sym (dots-of _ (kept c.before.before.before))) ∙ sym c.is_empty.ensures ∙ c.if-is_empty.true)
 
 pub returns : goal.returns
 unfolding together merge_both
@@ -49,4 +48,4 @@ returns c =
     let all = ap (λ r. r.clock) (j.join-all.ensures ∙ fits _ a.requires.1) in
     rw (ap is_empty (sym (dots-of _ k)) ∙ sym i.is_empty.ensures ∙ i.if-is_empty.false)
     (rw (k, c.cut-wide.ensures, wide-values _ m.merge.ensures, dots-of _ (cut_left _ _ d.cut-3.ensures), dots-of _ all, dots-of _ k)
-    (ap (λ h. record { stays = true; entry = h }) (sym (wide-as _ _ _))))
+    (ap Some (sym (wide-as _ _ _))))

@@ -1,7 +1,7 @@
 -- `WideEntry::run` meets its contract: one removal after the other, each on the clock and on the values.
 use mathlib.Core.Path.{◌≡◌, refl, ap, sym, ◌∙◌}
 use mathlib.Core.Bool.{true, false}
-use Rattle.listlaws.proofs.Folding.{folding-start, folding-on, folding-end}
+use Rattle.listlaws.proofs.SliceFolding.{folding-on, folding-end}
 use Rattle.clock.specs.declared.Clock.{Clock}
 use Rattle.clock.specs.Dots.{dots_of, clock_of, cut_dots}
 use Rattle.clock.proofs.Packs.{cut_left}
@@ -19,9 +19,9 @@ use Rattle.removals.specs.Waits.{listed}
 use Rattle.entries.specs.Entries.{cut_entry, remove_from}
 use Rattle.removals.proofs.Packs.{no_removal_read}
 use Rattle.entries.proofs.Packs.{wide-as}
-use borrow.Author.Rules.{rules}
 use native.Mathlib.Omega.{arith}
 use Rattle.entries.proofs.WideEntry.run.Invariants.{made}
+use Rattle.entries.proofs.WideEntry.run.Goals.{then-contains, else-contains}
 use Rattle.entries.proofs.WideEntry.run.Goals as goal
 
 -- a removal that lists the key cuts both parts; any other leaves them
@@ -35,25 +35,18 @@ module _ {h : WideEntry} (w : Removal) (e : Entry) (q : h ≡ wide_entry e) wher
   unfolding remove_from
   keep-made t = q ∙ rw (rw (ap (λ k. k.key) q) at t)
 
-pub loop-i-init : goal.loop-i-init
-loop-i-init c = (search rules, λ e q. folding-start q)
-
-pub loop-i-preserved-then-contains : goal.loop-i-preserved-then-contains
-loop-i-preserved-then-contains c =
-    let k = c.before.before.before.before in
-    let s = k.before.before.before in
-    let t = sym k.contains.ensures ∙ c.if-contains.true in (
-      search rules,
-      λ e q. folding-on no_removal_read (s.loop-i.invariant.1 e q) (omega arith)
-          (λ x p. cut-made _ x p t (cut_left _ _ c.cut.ensures) c.cut-wide.ensures),
-    )
-
-pub loop-i-preserved : goal.loop-i-preserved
-loop-i-preserved c =
-    let k = c.before in
-    let s = k.before.before.before in
-    let t = sym k.contains.ensures ∙ c.if-contains.false in
-    (search rules, λ e q. folding-on no_removal_read (s.loop-i.invariant.1 e q) (omega arith) (λ x p. keep-made _ x p t))
+pub loop-w-preserved : goal.loop-w-preserved
+loop-w-preserved c = λ e q.
+    elim c.if-contains.branch [
+      | then-contains w ↦
+          rw (w.clock-is, w.wide-is)
+          (folding-on no_removal_read (c.loop-w.invariant e q) c.loop-w-test.true
+          (λ x p. cut-made _ x p (sym c.contains.ensures ∙ w.if-contains.true) (cut_left _ _ w.cut.ensures) w.cut-wide.ensures))
+      | else-contains w ↦
+          rw (w.clock-is, w.wide-is)
+          (folding-on no_removal_read (c.loop-w.invariant e q) c.loop-w-test.true
+          (λ x p. keep-made _ x p (sym c.contains.ensures ∙ w.if-contains.false)))
+    ]
 
 pub returns : goal.returns
-returns c = λ e q. folding-end (c.loop-i.invariant.1 e q) (omega arith)
+returns c = λ e q. rw (← c.as_slice-w-items.ensures) (folding-end (c.loop-w.invariant e q) (omega arith))

@@ -1,7 +1,7 @@
 -- `WideEntry::run` meets its contract: one removal after the other, each on the clock and on the values.
 use mathlib.Core.Path.{◌≡◌}
-use Prim.Native.Nat.{ℕ, ◌≤◌, ◌-◌}
-use Rattle.listlaws.proofs.Folding.{Folding}
+use Prim.Native.Nat.{ℕ}
+use Rattle.listlaws.proofs.SliceFolding.{Folding}
 use Rattle.clock.specs.declared.Clock.{Clock}
 use Rattle.register.specs.declared.Wide.{Wide}
 use Rattle.entries.specs.declared.Entry.{Entry}
@@ -14,11 +14,8 @@ use Rattle.entries.proofs.WideEntry.run.Given as goal
 abbrev pub made : ℕ → Clock → Wide → WideEntry
 made k c w = record { key = k; clock = c; wide = w }
 
-abbrev pub invariant-loop-i : goal.invariant-loop-i
-invariant-loop-i l =
-    (l.i ≤ l.n) × ((e : Entry) → made l.key l.initial.clock l.initial.wide ≡ wide_entry e
-    → Folding wide_entry (λ x w. remove_from w x) e l.waiting.items l.waiting.len l.i
-    (made l.key l.clock l.wide))
-
-abbrev pub decreases-loop-i : goal.decreases-loop-i
-decreases-loop-i l = l.n - l.i
+abbrev pub invariant-loop-w : goal.invariant-loop-w
+invariant-loop-w l =
+    (e : Entry) → made l.key l.initial.clock l.initial.wide ≡ wide_entry e
+    → Folding wide_entry (λ x w. remove_from w x) e l.w-items l.w-index
+    (made l.key l.clock l.wide)

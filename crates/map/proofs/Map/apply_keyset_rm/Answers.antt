@@ -21,13 +21,12 @@ use Rattle.map.proofs.Map.apply_keyset_rm.Goals as goal
 pub returns-then-not-waits : goal.returns-then-not-waits
 unfolding held_after
 returns-then-not-waits c =
-    let w = c.before.before.before in
+    let w = c.before.before in
     let z = w.before.before.before in
     let m = z.args.self in
     let t = sym w.waits.ensures ∙ not-true _ (ap not c.if-not-waits.true) in
     let f = fits-means m z.requires.0.limits in
-    c.accepted.ensures
-    ∙ (λ k. record {
+    (λ k. record {
       number = 0;
       map = record {
         clock = (z.requires.0.valid.laid k).clock;
@@ -61,26 +60,25 @@ held c =
 
 pub returns-then-g-gt-WAITING : goal.returns-then-g-gt-WAITING
 returns-then-g-gt-WAITING c =
-    let j = c.before.before.before in
+    let j = c.before.before in
     let z = j.before.before.before.before.before.before.before in
-    c.refused.ensures ∙ sym (remove-outcome z.requires.0 z.requires.1 _ refl true _
+    sym (remove-outcome z.requires.0 z.requires.1 _ refl true _
     (lt-ltb _ _ (rw (joined-count _ (held j)) at c.if-g-gt-WAITING.true)) refl)
 
 pub returns-then-g : goal.returns-then-g
 returns-then-g c =
-    let j = c.before.before.before.before in
+    let j = c.before.before.before in
     let z = j.before.before.before.before.before.before.before in
-    c.refused-then-g.ensures ∙ sym (remove-outcome z.requires.0 z.requires.1 _ refl false true
+    sym (remove-outcome z.requires.0 z.requires.1 _ refl false true
     (le-ltb _ _ (rw (joined-count _ (held j)) at c.if-g-gt-WAITING.false)) (sym (joined-long _ (held j)) ∙ c.if-g.true))
 
 pub returns : goal.returns
 returns c =
-    let j = c.before.before.before.before.before in
+    let j = c.before.before.before.before in
     let z = j.before.before.before.before.before.before.before in
     let few = rw (joined-count _ (held j)) at c.if-g-gt-WAITING.false in
     let short = sym (joined-long _ (held j)) ∙ c.if-g.false in
-    c.accepted-2.ensures
-    ∙ (λ k. record {
+    (λ k. record {
       number = 0;
       map = record {
         clock = (z.requires.0.valid.laid k).clock;

@@ -42,10 +42,10 @@ new c = rw c.get.ensures at c.if-d-get.false
 
 pub returns-then-grown : goal.returns-then-grown
 returns-then-grown c =
-    let a = c.before.before in
+    let a = c.before in
     let n = a.before in
     let z = n.before.before.before.before in
-    c.refused.ensures ∙ sym (update-outcome z.requires.0 z.requires.1 (new n.before) true _ _
+    sym (update-outcome z.requires.0 z.requires.1 (new n.before) true _ _
     (lt-ltb _ _ (over-means _ a.add-grown.ensures c.if-grown.true)) refl refl)
 
 pub side-all-requires : goal.side-all-requires
@@ -104,25 +104,25 @@ room c = let i = c.before.before.before.before.before.before.before in within-me
 
 pub returns-then-all-gt-ENTRIES : goal.returns-then-all-gt-ENTRIES
 returns-then-all-gt-ENTRIES c =
-    let s = c.before.before.before in
+    let s = c.before.before in
     let n = s.before.before.before.before.before.before.before.before.before in
     let z = n.before.before.before.before in
-    c.refused-then-all-gt-ENTRIES.ensures ∙ sym (update-outcome z.requires.0 z.requires.1
+    sym (update-outcome z.requires.0 z.requires.1
     (new n.before.before.before.before.before.before.before) false true _ (le-ltb _ _ (room s))
     (lt-ltb _ _ (rw (all s).count at c.if-all-gt-ENTRIES.true)) refl)
 
 pub returns-then-all : goal.returns-then-all
 returns-then-all c =
-    let s = c.before.before.before.before in
+    let s = c.before.before.before in
     let n = s.before.before.before.before.before.before.before.before.before in
     let z = n.before.before.before.before in
-    c.refused-then-all.ensures ∙ sym (update-outcome z.requires.0 z.requires.1
+    sym (update-outcome z.requires.0 z.requires.1
     (new n.before.before.before.before.before.before.before) false false true (le-ltb _ _ (room s))
     (le-ltb _ _ (rw (all s).count at c.if-all-gt-ENTRIES.false)) (sym (all s).wide ∙ c.if-all.true))
 
 pub returns : goal.returns
 returns c =
-    let o = c.before.before in
+    let o = c.before in
     let k = o.before.before in
     let s = k.before.before.before in
     let i = s.before.before.before.before.before.before.before in
@@ -132,7 +132,6 @@ returns c =
     let thin = sym (all s.before).wide ∙ k.if-all.false in
     let clock = within-clock _ i.add-grown.ensures i.if-grown.false in
     let left = o.uncovered-left.ensures ∙ ap (λ d. waiting_as (those (waits d) (waiting_in z.args.self))) (dots-of _ clock) in
-    c.accepted.ensures
-    ∙ (λ x. record { number = 0; map = record { clock = clock x; entries = finish-open (all s.before) few thin x; waiting = left x } })
+    (λ x. record { number = 0; map = record { clock = clock x; entries = finish-open (all s.before) few thin x; waiting = left x } })
     ∙ sym (update-outcome z.requires.0 z.requires.1 (new n.before.before.before.before.before.before.before.before) false false false
     (le-ltb _ _ (room s.before)) (le-ltb _ _ few) thin)

@@ -27,9 +27,9 @@ use Rattle.map.proofs.Map.merge.Goals as goal
 
 pub returns-then-joined : goal.returns-then-joined
 returns-then-joined c =
-    let j = c.before.before in
+    let j = c.before in
     let z = j.before.before.before in
-    c.refused.ensures ∙ sym (merge-outcome z.requires.0 z.requires.1 true _ _ _ _
+    sym (merge-outcome z.requires.0 z.requires.1 true _ _ _ _
     (lt-ltb _ _ (over-means _ j.join-joined.ensures c.if-joined.true)) refl refl refl refl)
 
 -- the joined clock is within the limit
@@ -50,18 +50,18 @@ merge-both-requires c =
 
 pub returns-then-both-gt-ENTRIES : goal.returns-then-both-gt-ENTRIES
 returns-then-both-gt-ENTRIES c =
-    let e = c.before.before.before in
+    let e = c.before.before in
     let i = e.before.before.before.before in
     let z = i.before.before.before.before in
-    c.refused-then-both-gt-ENTRIES.ensures ∙ sym (merge-outcome z.requires.0 z.requires.1 false true _ _ _ (le-ltb _ _ (room i.before.before))
+    sym (merge-outcome z.requires.0 z.requires.1 false true _ _ _ (le-ltb _ _ (room i.before.before))
     (lt-ltb _ _ (rw e.merge-both.ensures.count at c.if-both-gt-ENTRIES.true)) refl refl refl)
 
 pub returns-then-both : goal.returns-then-both
 returns-then-both c =
-    let e = c.before.before.before.before in
+    let e = c.before.before.before in
     let i = e.before.before.before.before in
     let z = i.before.before.before.before in
-    c.refused-then-both.ensures ∙ sym (merge-outcome z.requires.0 z.requires.1 false false true _ _ (le-ltb _ _ (room i.before.before))
+    sym (merge-outcome z.requires.0 z.requires.1 false false true _ _ (le-ltb _ _ (room i.before.before))
     (le-ltb _ _ (rw e.merge-both.ensures.count at c.if-both-gt-ENTRIES.false))
     (sym e.merge-both.ensures.wide ∙ c.if-both.true) refl refl)
 
@@ -95,31 +95,29 @@ held c =
 
 pub returns-then-united-gt-WAITING : goal.returns-then-united-gt-WAITING
 returns-then-united-gt-WAITING c =
-    let j = c.before.before.before in
+    let j = c.before.before in
     let k = j.before.before.before in
     let e = k.before.before.before in
     let i = e.before.before.before.before in
     let z = i.before.before.before.before in
-    c.refused-then-united-gt-WAITING.ensures
-    ∙ sym (merge-outcome z.requires.0 z.requires.1 false false false true _ (le-ltb _ _ (room i.before.before))
+    sym (merge-outcome z.requires.0 z.requires.1 false false false true _ (le-ltb _ _ (room i.before.before))
     (le-ltb _ _ (rw e.merge-both.ensures.count at k.if-both-gt-ENTRIES.false)) (sym e.merge-both.ensures.wide ∙ k.if-both.false)
     (lt-ltb _ _ (rw (joined-count _ (held j)) at c.if-united-gt-WAITING.true)) refl)
 
 pub returns-then-united : goal.returns-then-united
 returns-then-united c =
-    let j = c.before.before.before.before in
+    let j = c.before.before.before in
     let k = j.before.before.before in
     let e = k.before.before.before in
     let i = e.before.before.before.before in
     let z = i.before.before.before.before in
-    c.refused-then-united.ensures
-    ∙ sym (merge-outcome z.requires.0 z.requires.1 false false false false true (le-ltb _ _ (room i.before.before))
+    sym (merge-outcome z.requires.0 z.requires.1 false false false false true (le-ltb _ _ (room i.before.before))
     (le-ltb _ _ (rw e.merge-both.ensures.count at k.if-both-gt-ENTRIES.false)) (sym e.merge-both.ensures.wide ∙ k.if-both.false)
     (le-ltb _ _ (rw (joined-count _ (held j)) at c.if-united-gt-WAITING.false)) (sym (joined-long _ (held j)) ∙ c.if-united.true))
 
 pub returns : goal.returns
 returns c =
-    let l = c.before.before.before in
+    let l = c.before.before in
     let j = l.before.before.before in
     let k = j.before.before.before in
     let e = k.before.before.before in
@@ -132,7 +130,6 @@ returns c =
     let time = within-clock _ i.join-joined.ensures i.if-joined.false in
     let done = finish-open e.merge-both.ensures few thin in
     let wait = joined-open _ (held j) less short in
-    c.accepted.ensures
-    ∙ (λ x. record { number = 0; map = record { clock = time x; entries = done x; waiting = wait x } })
+    (λ x. record { number = 0; map = record { clock = time x; entries = done x; waiting = wait x } })
     ∙ sym (merge-outcome z.requires.0 z.requires.1 false false false false false (le-ltb _ _ (room i.before.before))
     (le-ltb _ _ few) thin (le-ltb _ _ less) short)

@@ -20,17 +20,17 @@ reset-left-requires c = c.requires.valid.waiting
 
 pub returns-then-left : goal.returns-then-left
 returns-then-left c =
-    let l = c.before.before in
+    let l = c.before in
     let z = l.before.before.before.before in
     let m = z.args.self in
     let w = reset_waiting (dots_of z.args.by) (waiting_in m) in
     let few : length w ≤ waiting_limit = omega (arith, reset-few (dots_of z.args.by) (waiting_in m), (fits-means m z.requires.limits).number) in
-    c.refused.ensures ∙ sym (reset-outcome z.requires (dots_of z.args.by) few true
+    sym (reset-outcome z.requires (dots_of z.args.by) few true
     (sym (ap (λ h. h.over) l.reset-left.ensures ∙ reset-over w) ∙ c.if-left.true))
 
 pub returns : goal.returns
 returns c =
-    let i = c.before.before in
+    let i = c.before in
     let l = i.before in
     let z = l.before.before.before.before in
     let m = z.args.self in
@@ -38,8 +38,7 @@ returns c =
     let few : length w ≤ waiting_limit = omega (arith, reset-few (dots_of z.args.by) (waiting_in m), (fits-means m z.requires.limits).number) in
     let short = sym (ap (λ h. h.over) l.reset-left.ensures ∙ reset-over w) ∙ i.if-left.false in
     let left = ap (λ h. h.waiting) (l.reset-left.ensures ∙ reset-short w short) in
-    c.accepted.ensures
-    ∙ (λ k. record {
+    (λ k. record {
       number = 0;
       map = record {
         clock = cut_left _ _ l.cut.ensures k;

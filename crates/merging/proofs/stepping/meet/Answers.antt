@@ -14,10 +14,10 @@ compare_runs-o-requires c =
     let p = c.requires.0 in
     ((own-says p.2).lawful, (own-says p.3).lawful)
 
-pub returns-then-is_equal : goal.returns-then-is_equal
-returns-then-is_equal c = λ x y h k.
+pub returns-in-Equal : goal.returns-in-Equal
+returns-in-Equal c = λ x y h k.
     let a = c.args in
-    let o = sym c.compare_runs-o.ensures ∙ c.is_equal.ensures c.if-is_equal.true in
+    let o = sym c.compare_runs-o.ensures ∙ c.in-Equal.is in
     let same : dots_in x ≡ dots_in y = sym (own-says h).dots ∙ order-equal (own-says h).lawful (own-says k).lawful o ∙ (own-says k).dots in
     let m = dots_of a.mine in
     let n = dots_of a.yours in (

@@ -1,11 +1,10 @@
 -- `left_before` meets its contract: the loop passes equal dots of what is left.
 use mathlib.Core.Path.{◌≡◌, ap₂, sym, ◌∙◌}
-use mathlib.Core.Bool.{true, false}
-use mathlib.Core.Logic.{⊎_elim, inl, inr}
+use mathlib.Core.Logic.{inl, inr}
 use mathlib.Core.List.{◌∷◌}
-use Prim.Native.Nat.{◌+◌, ◌/◌, ◌<◌, ◌-◌}
+use Prim.Native.Nat.{◌+◌, ◌/◌, ◌<◌}
 use lib.ListN.{length}
-use borrow.Author.Tests.{ltb-true, ltb-false}
+use borrow.Author.Tests.{ltb-true}
 use Rattle.removals.specs.Waits.{clock_before}
 use Rattle.removals.proofs.ClockOrder.{before-actor, before-counter, before-rest}
 use Rattle.runs.specs.Run.{run_dots}

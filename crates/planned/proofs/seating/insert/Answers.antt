@@ -1,6 +1,5 @@
 -- `insert` meets its contract: one a turn moves up.
 use mathlib.Core.Path.{◌≡◌}
-use Prim.Native.Nat.{◌-◌}
 use lib.ListN.{length}
 use lib.Seq.{get_or-set_same}
 use Rattle.limits.specs.Limits.{waiting_limit}
@@ -15,7 +14,7 @@ pub bounds-out-k : goal.bounds-out-k
 bounds-out-k c = search (rules, unmapped)
 
 pub loop-i-init : goal.loop-i-init
-loop-i-init c = ((search rules, search rules), moved-start _ _ _ (search (rules, unmapped)) (omega arith))
+loop-i-init c = (search rules, moved-start _ _ _ (search (rules, unmapped)) (omega arith))
 
 pub bounds-all-i : goal.bounds-all-i
 bounds-all-i c = search (rules, unmapped)
@@ -24,16 +23,14 @@ pub bounds-out-i : goal.bounds-out-i
 bounds-out-i c = let m = c.loop-i.invariant.1.long in omega (arith, m)
 
 pub loop-i-preserved : goal.loop-i-preserved
-loop-i-preserved c = let g = c.loop-i.invariant in ((omega arith, omega arith), moved_on g.1 g.0.0 (omega arith))
+loop-i-preserved c = let g = c.loop-i.invariant in (omega arith, moved_on g.1 g.0 (omega arith))
 
 pub returns : goal.returns
 returns c =
-    let t = c.before in
-    let p = t.requires in
-    let k = c.loop-i-test.false in
-    let n : length t.args.all.items ≡ waiting_limit = search (rules, unmapped) in (
+    let a = c.args in
+    let n : length a.all.items ≡ waiting_limit = search (rules, unmapped) in (
       search rules,
       λ s l d h x. let e = h.count in
           moved-end h x (omega arith) (omega arith) e (omega arith)
-          (get_or-set_same t.args.all.items t.args.k t.args.x no_held (omega arith)) t.loop-i.invariant.1,
+          (get_or-set_same a.all.items a.k a.x no_held (omega arith)) c.loop-i.invariant.1,
     )

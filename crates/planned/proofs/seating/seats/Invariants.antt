@@ -1,7 +1,6 @@
 -- `seats` meets its contract: a removal's place a turn.
 use mathlib.Core.Path.{◌≡◌}
 use mathlib.Core.List.{List, map}
-use Prim.Native.Nat.{◌≤◌, ◌-◌}
 use lib.ListN.{length}
 use Rattle.clock.specs.declared.Dot.{Dot}
 use Rattle.clock.specs.Dots.{dots_of}
@@ -14,10 +13,7 @@ use Rattle.planned.specs.Left.{Lined}
 use Rattle.planned.proofs.Seats.{Seated}
 use Rattle.planned.proofs.seating.seats.Given as goal
 
-abbrev pub invariant-loop-i : goal.invariant-loop-i
-invariant-loop-i v =
-    ((v.i ≤ v.n) × (length v.out ≡ waiting_limit)) × ((w : List Removal) (l : List (List Dot)) → Queued v.s v.q w → Lined v.s v.all l
-    → Seated l (map under_of (map (cut_removal (dots_of v.by)) w)) v.i v.out)
-
-abbrev pub decreases-loop-i : goal.decreases-loop-i
-decreases-loop-i l = l.n - l.i
+abbrev pub invariant-loop-k : goal.invariant-loop-k
+invariant-loop-k v =
+    (length v.out ≡ waiting_limit) × ((w : List Removal) (l : List (List Dot)) → Queued v.s v.q w → Lined v.s v.all l
+    → Seated l (map under_of (map (cut_removal (dots_of v.by)) w)) v.k v.out)

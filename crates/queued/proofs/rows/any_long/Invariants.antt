@@ -1,7 +1,7 @@
 -- `any_long` meets its contract: a removal a turn.
 use mathlib.Core.Path.{◌≡◌}
 use mathlib.Core.List.{List}
-use Prim.Native.Nat.{ℕ, ◌≤◌, ◌<◌, ◌-◌}
+use Prim.Native.Nat.{ℕ, ◌<◌}
 use lib.ListN.{length, drop, get_or}
 use Rattle.listlaws.specs.First.{some}
 use Rattle.removals.specs.declared.Removal.{Removal}
@@ -10,10 +10,6 @@ use Rattle.removals.specs.Counted.{overlong}
 use Rattle.queued.specs.Rowed.{keys_at}
 use Rattle.queued.proofs.rows.any_long.Given as goal
 
-abbrev pub invariant-loop-i : goal.invariant-loop-i
-invariant-loop-i l = ((l.i ≤ waiting_limit) × (length l.counts ≡ waiting_limit))
-    × ((result : List Removal) → ((p : ℕ) → p < waiting_limit → get_or l.counts p 0 ≡ length (keys_at result p))
-    → some overlong result ≡ some overlong (drop l.i result))
-
-abbrev pub decreases-loop-i : goal.decreases-loop-i
-decreases-loop-i l = waiting_limit - l.i
+abbrev pub invariant-loop-c : goal.invariant-loop-c
+invariant-loop-c l = (result : List Removal) → ((p : ℕ) → p < waiting_limit → get_or l.c-items p 0 ≡ length (keys_at result p))
+    → some overlong result ≡ some overlong (drop l.c-index result)

@@ -1,13 +1,9 @@
 -- `carry` meets its contract: a mark a turn.
 use mathlib.Core.Path.{◌≡◌}
-use Prim.Native.Nat.{◌≤◌, ◌-◌}
 use lib.ListN.{length}
 use Rattle.limits.specs.Limits.{waiting_limit}
 use Rattle.queued.proofs.Rowing.{Carrying}
 use Rattle.queued.proofs.rows.carry.Given as goal
 
-abbrev pub invariant-loop-i : goal.invariant-loop-i
-invariant-loop-i l = ((l.i ≤ waiting_limit) × (length l.out ≡ waiting_limit)) × Carrying l.initial.out l.marks l.table l.i l.out
-
-abbrev pub decreases-loop-i : goal.decreases-loop-i
-decreases-loop-i l = waiting_limit - l.i
+abbrev pub invariant-loop-k : goal.invariant-loop-k
+invariant-loop-k l = (length l.out ≡ waiting_limit) × Carrying l.initial.out l.marks l.table l.k l.out

@@ -1,5 +1,5 @@
 -- `count_keys` meets its contract: a key a turn.
-use Prim.Native.Nat.{ℕ, ◌-◌}
+use Prim.Native.Nat.{ℕ}
 use lib.ListN.{get_or-replicate}
 use native.Mathlib.Omega.{arith}
 use Rattle.limits.specs.Limits.{waiting_limit}

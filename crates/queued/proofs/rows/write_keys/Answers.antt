@@ -1,5 +1,4 @@
 -- `write_keys` meets its contract: a key a turn.
-use Prim.Native.Nat.{◌-◌}
 use native.Mathlib.Omega.{arith}
 use Rattle.queued.proofs.Rowing.{keys-start, keys_kept, keys-room, keys_on, keys-end}
 use Rattle.queued.proofs.rows.write_keys.Goals as goal

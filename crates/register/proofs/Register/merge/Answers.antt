@@ -13,17 +13,16 @@ use Rattle.register.proofs.Register.merge.Goals as goal
 
 pub trail-requires : goal.trail-requires
 trail-requires c =
-    let o = c.before.before in
-    let a = o.args in
+    let a = c.args in
     let h : length a.self.values ≡ value_limit = search (rules, unmapped) in
     let k : length a.other.values ≡ value_limit = search (rules, unmapped) in
     omega (
       arith,
       ap (λ w. w.len) c.wide.ensures,
-      ap length (values-of _ o.standing-ours.ensures),
+      ap length (values-of _ c.standing-ours.ensures),
       ap length (values-of _ c.standing-theirs.ensures),
       length-sift (standing false (values_of a.other)) (λ v. v) (values_of a.self),
-      length-sift (standing true (values_of o.standing-ours.result)) (λ v. v) (values_of a.other),
+      length-sift (standing true (values_of c.standing-ours.result)) (λ v. v) (values_of a.other),
       used a.self.len value_limit a.self.values h,
       used a.other.len value_limit a.other.values k,
     )
@@ -31,7 +30,4 @@ trail-requires c =
 pub returns : goal.returns
 unfolding merge_values ours_left
 returns c =
-    let w = c.before in
-    let t = w.before in
-    let o = t.before in
-    c.trail.ensures _ w.wide.ensures ∙ rw (values-of _ t.standing-theirs.ensures, values-of _ o.standing-ours.ensures)
+    c.trail.ensures _ c.wide.ensures ∙ rw (values-of _ c.standing-theirs.ensures, values-of _ c.standing-ours.ensures)

@@ -2,49 +2,44 @@
 use mathlib.Core.Path.{refl, ap, sym, ◌∙◌}
 use mathlib.Core.Bool.{not}
 use Prim.Native.Nat.{◌<◌}
-use Rattle.listlaws.proofs.Sifts.{length-sift}
-use Rattle.listlaws.proofs.Sifting.{sifting-start, sifting-keep, sifting-drop, sifting-room, sifting-end}
-use Rattle.register.specs.Values.{values_of, standing}
+use Rattle.listlaws.proofs.Pads.{unmapped}
+use Rattle.listlaws.proofs.SliceSifting.{sifting-start, sifting-keep, sifting-drop, sifting-end}
 use Rattle.limits.specs.Limits.{value_limit}
-use Rattle.register.proofs.Packs.{none_read, pushed}
+use Rattle.register.proofs.Packs.{none_read, in_room, pushed}
 use borrow.Author.Rules.{rules}
 use native.Mathlib.Omega.{arith}
-use mathlib.Core.Bool.{not}
-use Rattle.register.proofs.Register.standing.Goals.{Then-not-outdoes}
+use Rattle.register.proofs.Register.standing.Goals.{In-loop-v, then-not-outdoes, else-not-outdoes}
 use Rattle.register.proofs.Register.standing.Goals as goal
 
-pub loop-i-init : goal.loop-i-init
-loop-i-init c = (search rules, sifting-start c.new-out.ensures)
-
 -- there is room for one more
-room : (c : Then-not-outdoes) → c.loop-i.out.len < value_limit
-room c =
-    let s = c.before.before.before.before in
-    let t = ap not (sym c.outdoes.ensures) ∙ (ap not c.if-not-outdoes.true) in
-    let r = sifting-room none_read s.loop-i.invariant.1 (omega arith) refl t in
-    let a = s.args in
-    omega (arith, ap (λ k. k.len) r.1, r.2, length-sift (standing a.equal_too (values_of a.over)) (λ v. v) (values_of a.self))
+room : (c : In-loop-v) → c.loop-v.out.len < value_limit
+room c = in_room c.args.self.len c.args.self.values c.loop-v.invariant.0 c.loop-v-test.true c.as_slice-v-items.ensures (search (rules, unmapped))
 
-pub loop-i-preserved-then-not-outdoes : goal.loop-i-preserved-then-not-outdoes
-loop-i-preserved-then-not-outdoes c =
-    let s = c.before.before.before.before in
-    let t = ap not (sym c.outdoes.ensures) ∙ (ap not c.if-not-outdoes.true) in
-    (search rules, sifting-keep none_read s.loop-i.invariant.1 (omega arith) refl t (λ l e. pushed l _ e (omega (arith, ap (λ k. k.len) e, room c))))
+pub loop-v-init : goal.loop-v-init
+loop-v-init c = (omega (arith, ap (λ r. r.len) c.new-out.ensures), sifting-start c.new-out.ensures)
 
-pub loop-i-preserved : goal.loop-i-preserved
-loop-i-preserved c =
-    let s = c.before.before.before.before in
-    let t = ap not (sym c.outdoes.ensures) ∙ (ap not c.if-not-outdoes.false) in
-    (search rules, sifting-drop none_read s.loop-i.invariant.1 (omega arith) refl t)
+pub loop-v-preserved : goal.loop-v-preserved
+loop-v-preserved c =
+    elim c.if-not-outdoes.branch [
+      | then-not-outdoes w ↦ rw w.out-is (
+        omega (arith, c.loop-v.invariant.0),
+        sifting-keep none_read c.loop-v.invariant.1 c.loop-v-test.true refl (ap not (sym c.outdoes.ensures ∙ w.if-not-outdoes.true))
+            (λ l e. pushed l _ e (omega (arith, ap (λ k. k.len) e, room c.before.before.before))),
+      )
+      | else-not-outdoes w ↦ rw w.out-is (
+        omega (arith, c.loop-v.invariant.0),
+        sifting-drop none_read c.loop-v.invariant.1 c.loop-v-test.true refl (ap not (sym c.outdoes.ensures ∙ w.if-not-outdoes.false)),
+      )
+    ]
 
 pub returns : goal.returns
-returns c = sifting-end c.loop-i.invariant.1 (omega arith)
+returns c = rw (← c.as_slice-v-items.ensures) (sifting-end c.loop-v.invariant.1 (omega arith))
 
 pub offset_bounds-out-k : goal.offset_bounds-out-k
-offset_bounds-out-k c = omega (arith, room c)
+offset_bounds-out-k c = omega (arith, room c.before.before.before.before)
 
 pub bounds-out-k : goal.bounds-out-k
-bounds-out-k c = omega (arith, room c)
+bounds-out-k c = room c.before.before.before.before
 
 pub overflow_add-out : goal.overflow_add-out
-overflow_add-out c = omega (arith, room c)
+overflow_add-out c = omega (arith, room c.before.before.before.before)

@@ -2,54 +2,48 @@
 use mathlib.Core.Path.{ap, sym, ◌∙◌}
 use mathlib.Core.Bool.{not}
 use Prim.Native.Nat.{◌<◌}
-use Rattle.listlaws.proofs.Sifting.{sifting-start, sifting-keep, sifting-drop, sifting-room, sifting-end}
-use Rattle.clock.specs.Dots.{dots_of}
-use Rattle.register.specs.InHand.{wide_values, wide_room}
+use Rattle.listlaws.proofs.Pads.{unmapped}
+use Rattle.listlaws.proofs.SliceSifting.{sifting-start, sifting-keep, sifting-drop, sifting-end}
+use Rattle.register.specs.InHand.{wide_room}
 use Rattle.register.specs.Values.{cut_values}
-use Rattle.register.proofs.Packs.{none_read, cut-length, wide-pushed}
+use Rattle.register.proofs.Packs.{none_read, in_room, wide-pushed}
 use borrow.Author.Rules.{rules}
 use native.Mathlib.Omega.{arith}
-use mathlib.Core.Bool.{not}
-use Rattle.register.proofs.Wide.cut.Goals.{Then-not-is_empty}
+use Rattle.register.proofs.Wide.cut.Goals.{In-loop-v, then-not-is_empty, else-not-is_empty}
 use Rattle.register.proofs.Wide.cut.Goals as goal
 
-pub loop-i-init : goal.loop-i-init
-loop-i-init c = (search rules, sifting-start c.new-out.ensures)
-
 -- there is room for one more
-room : (c : Then-not-is_empty) → c.loop-i.out.len < wide_room
-unfolding cut_values
-room c =
-    let s = c.before.before.before.before.before in
-    let t = ap not (sym c.is_empty.ensures) ∙ (ap not c.if-not-is_empty.true) in
-    let r = sifting-room none_read s.loop-i.invariant.1 (omega arith) c.cut-left.ensures t in
-    let a = s.args in
-    omega (arith, ap (λ k. k.len) r.1, r.2, cut-length (dots_of a.by) (wide_values a.self))
+room : (c : In-loop-v) → c.loop-v.out.len < wide_room
+room c = in_room c.args.self.len c.args.self.values c.loop-v.invariant.0 c.loop-v-test.true c.as_slice-v-items.ensures (search (rules, unmapped))
 
-pub loop-i-preserved-then-not-is_empty : goal.loop-i-preserved-then-not-is_empty
-loop-i-preserved-then-not-is_empty c =
-    let s = c.before.before.before.before.before in
-    let t = ap not (sym c.is_empty.ensures) ∙ (ap not c.if-not-is_empty.true) in (
-      search rules,
-      sifting-keep none_read s.loop-i.invariant.1 (omega arith) c.cut-left.ensures t
-          (λ l e. wide-pushed l _ e (omega (arith, ap (λ k. k.len) e, room c))),
-    )
+pub loop-v-init : goal.loop-v-init
+loop-v-init c = (omega (arith, ap (λ r. r.len) c.new-out.ensures), sifting-start c.new-out.ensures)
 
-pub loop-i-preserved : goal.loop-i-preserved
-loop-i-preserved c =
-    let s = c.before.before.before.before.before in
-    let t = ap not (sym c.is_empty.ensures) ∙ (ap not c.if-not-is_empty.false) in
-    (search rules, sifting-drop none_read s.loop-i.invariant.1 (omega arith) c.cut-left.ensures t)
+pub loop-v-preserved : goal.loop-v-preserved
+loop-v-preserved c =
+    elim c.if-not-is_empty.branch [
+      | then-not-is_empty w ↦ rw w.out-is (
+        omega (arith, c.loop-v.invariant.0),
+        sifting-keep none_read c.loop-v.invariant.1 c.loop-v-test.true c.cut-left.ensures
+            (ap not (sym c.is_empty.ensures ∙ w.if-not-is_empty.true))
+            (λ l e. wide-pushed l _ e (omega (arith, ap (λ k. k.len) e, room c.before.before.before.before.before))),
+      )
+      | else-not-is_empty w ↦ rw w.out-is (
+        omega (arith, c.loop-v.invariant.0),
+        sifting-drop none_read c.loop-v.invariant.1 c.loop-v-test.true c.cut-left.ensures
+            (ap not (sym c.is_empty.ensures ∙ w.if-not-is_empty.false)),
+      )
+    ]
 
 pub returns : goal.returns
 unfolding cut_values
-returns c = sifting-end c.loop-i.invariant.1 (omega arith)
+returns c = rw (← c.as_slice-v-items.ensures) (sifting-end c.loop-v.invariant.1 (omega arith))
 
 pub offset_bounds-out-k : goal.offset_bounds-out-k
-offset_bounds-out-k c = omega (arith, room c)
+offset_bounds-out-k c = omega (arith, room c.before.before.before.before.before)
 
 pub bounds-out-k : goal.bounds-out-k
-bounds-out-k c = omega (arith, room c)
+bounds-out-k c = room c.before.before.before.before.before
 
 pub overflow_add-out : goal.overflow_add-out
-overflow_add-out c = omega (arith, room c)
+overflow_add-out c = omega (arith, room c.before.before.before.before.before)

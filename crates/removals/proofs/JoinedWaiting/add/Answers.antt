@@ -1,28 +1,39 @@
 -- `JoinedWaiting::add` meets its contract: the removal is stored where all fit.
-use mathlib.Core.Path.{ap}
-use Rattle.listlaws.proofs.Tally.{both-pass}
+use mathlib.Core.Path.{◌≡◌, refl, ap, sym, ◌∙◌}
+use mathlib.Core.Bool.{Bool, true, false, not, ◌&&◌, ◌||◌}
+use lib.Dec.{ltb}
+use Rattle.std.specs.Option.{is_some}
 use Rattle.limits.specs.Limits.{waiting_limit}
+use Rattle.removals.proofs.KeyLimits.{some-keys, none-told}
 use Rattle.removals.proofs.Joining.{joined-one, joined-none}
 use native.Mathlib.Omega.{arith}
+use Rattle.removals.proofs.JoinedWaiting.add.Goals.{in-Some, in_default, in_default-via-in-Some+else-self-long, in_default-via-in_default}
 use Rattle.removals.proofs.JoinedWaiting.add.Goals as goal
 
-pub push-waiting-requires : goal.push-waiting-requires
-push-waiting-requires c =
-    let i = c.before.before in
-    let z = i.before.before.before in
-    let p = both-pass {n = z.args.self.count} {k = waiting_limit} z.args.self.long z.args.united.over i.if-count-long.true in
-    omega (arith, p.0, z.requires)
-
-pub returns-then-count-long : goal.returns-then-count-long
-returns-then-count-long c =
-    let i = c.before.before.before in
-    let z = i.before.before.before in (
-      omega (arith, c.push-waiting.ensures.0, z.requires),
-      λ l r q same laid p. joined-one l r q p same laid i.if-count-long.true c.push-waiting.ensures.1,
-    )
+-- nothing is stored where there are no keys
+no-keys : (a b c : Bool) → not c ≡ false → (a && not (b || c)) ≡ false
+no-keys true true c e = refl
+no-keys true false c e = e
+no-keys false b c e = refl
 
 pub returns : goal.returns
 returns c =
-    let i = c.before in
-    let z = i.before.before.before in
-    (omega (arith, ap (λ k. k.len) c.new-none.ensures, z.requires), λ l r q same laid p. joined-none l r q p i.if-count-long.false c.new-none.ensures)
+    let z = c.args in
+    elim c.match-united.branch [
+      | in-Some w ↦ (
+        omega (arith, w.push-waiting.ensures.0, ap (λ k. k.len) w.waiting-is, c.requires),
+        λ l r q same laid p.
+            rw w.waiting-is (joined-one l r q (none-told _ p c.is_none.ensures) same (some-keys _ (sym w.in-Some.is ∙ p) ∙ sym laid)
+            w.if-self-long.true w.push-waiting.ensures.1),
+      )
+      | in_default w ↦ (
+        omega (arith, ap (λ k. k.len) w.new-waiting.ensures, ap (λ k. k.len) w.waiting-is, c.requires),
+        λ l r q same laid p.
+            let full : (ltb z.self.count waiting_limit && not (z.self.long || c.is_none.result)) ≡ false =
+            elim w.in_default.branch [
+              | in_default-via-in-Some+else-self-long x ↦ x.if-self-long.false
+              | in_default-via-in_default x ↦ no-keys _ z.self.long _ (sym c.is_none.ensures ∙ ap is_some x.in_default.is)
+            ] in
+            rw w.waiting-is (joined-none l r q (none-told _ p c.is_none.ensures) full w.new-waiting.ensures),
+      )
+    ]

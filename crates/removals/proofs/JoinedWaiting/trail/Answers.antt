@@ -1,29 +1,23 @@
 -- `JoinedWaiting::trail` meets its contract: the loop adds the rest, one removal after the other.
-use mathlib.Core.Path.{refl}
-use Prim.Native.Nat.{◌<◌}
-use lib.ListN.{length}
-use Rattle.listlaws.proofs.Rests.{in_list}
-use Rattle.listlaws.proofs.Trailing.{trailing-start, trailing-add, trailing-end}
-use Rattle.removals.specs.Model.{waiting_of}
+use mathlib.Core.Path.{ap, sym}
+use mathlib.Core.List.{◌++◌, map-id}
+use Rattle.listlaws.proofs.SliceRests.{in_list}
+use Rattle.listlaws.proofs.SliceTrailing.{trailing-start, trailing-add, trailing-end}
 use Rattle.removals.proofs.Packs.{no_removal_read}
-use borrow.Author.Rules.{rules}
 use native.Mathlib.Omega.{arith}
 use Rattle.removals.proofs.JoinedWaiting.trail.Goals as goal
 
-pub loop-i-init : goal.loop-i-init
-loop-i-init c = (search rules, search rules, λ l laid e. trailing-start l refl e)
+pub loop-r-init : goal.loop-r-init
+loop-r-init c = (omega arith, λ l laid e. trailing-start l (ap (λ k. l ++ k) (sym (map-id _))) e)
 
-pub loop-i-preserved : goal.loop-i-preserved
-loop-i-preserved c =
-    let s = c.before.before.before in
-    let a = s.args in
-    let h : s.loop-i.i < length (waiting_of a.from) = omega arith in (
-      omega (arith, c.keep-out.ensures.0),
-      omega (arith, c.keep-out.ensures.0),
+pub loop-r-preserved : goal.loop-r-preserved
+loop-r-preserved c =
+    let h = c.loop-r-test.true in (
+      omega (arith, c.keep-out.ensures.0, c.loop-r.invariant.0),
       λ l laid e.
-          trailing-add no_removal_read (s.loop-i.invariant.2 l laid e) h (λ m q. c.keep-out.ensures.1 m q
-          (laid _ (in_list a.from.items a.from.len s.loop-i.i no_removal_read h))),
+          trailing-add no_removal_read (c.loop-r.invariant.1 l laid e) h
+          (λ m q. c.keep-out.ensures.1 m q (laid _ (in_list _ _ no_removal_read h))),
     )
 
 pub returns : goal.returns
-returns c = (search rules, λ l laid e. trailing-end (c.loop-i.invariant.2 l laid e) (omega arith))
+returns c = (omega (arith, c.loop-r.invariant.0), λ l laid e. trailing-end (c.loop-r.invariant.1 l laid e) (omega arith))

@@ -1,21 +1,21 @@
--- `Keys::contains` meets its contract: the loop looks for the key.
-use borrow.Author.Tests.{eq-eqb, ne_eqb}
-use Rattle.listlaws.proofs.Passing.{passing-start, passing-here, passing-on, passing-end}
+-- `Keys::contains` meets its contract: the library's search asks the same of each key.
+use mathlib.Core.Path.{◌≡◌, refl, ap, ◌∙◌}
+use mathlib.Core.Bool.{Bool, true, false, cond, ◌||◌}
+use mathlib.Core.List.{List, [], ◌∷◌}
+use Rattle.std.specs.List.{list_any}
+use Rattle.listlaws.specs.First.{first_in, some}
 use Rattle.removals.specs.Waits.{listed}
-use borrow.Author.Rules.{rules}
-use native.Mathlib.Omega.{arith}
 use Rattle.removals.proofs.Keys.contains.Goals as goal
 
-pub loop-i-init : goal.loop-i-init
-loop-i-init c = (search rules, passing-start)
-
-pub returns-then-self-i : goal.returns-then-self-i
-unfolding listed
-returns-then-self-i c = passing-here 0 c.loop-i.invariant.1 (omega arith) (eq-eqb _ _ c.if-self-i.true)
-
-pub loop-i-preserved : goal.loop-i-preserved
-loop-i-preserved c = (search rules, passing-on 0 c.loop-i.invariant.1 (omega arith) (ne_eqb _ _ c.if-self-i.false))
+any-some : {A : Type 0} (p : A → Bool) (l : List A) → list_any p l ≡ some p l
+unfolding first_in
+any-some p [] = refl
+any-some p (x ∷ l) = go (p x) (any-some p l)
+  where
+    go : (b : Bool) {s t : Bool} → s ≡ t → (b || s) ≡ cond b true t
+    go true e = refl
+    go false e = e
 
 pub returns : goal.returns
 unfolding listed
-returns c = passing-end c.loop-i.invariant.1 (omega arith)
+returns c = c.contains.ensures.value ∙ any-some _ _ ∙ ap (some _) c.as_slice.ensures

@@ -7,8 +7,5 @@ use native.Mathlib.Omega.{arith}
 use Rattle.limits.specs.Limits.{key_limit}
 use Rattle.removals.proofs.Keys.size.Goals as goal
 
-pub returns-then-n-lt-KEYS : goal.returns-then-n-lt-KEYS
-returns-then-n-lt-KEYS c = let h : length c.args.self.items ≡ key_limit = search (rules, unmapped) in simp length-take (omega arith)
-
-pub returns-else-n-lt-KEYS : goal.returns-else-n-lt-KEYS
-returns-else-n-lt-KEYS c = let h : length c.args.self.items ≡ key_limit = search (rules, unmapped) in simp length-take (omega arith)
+pub returns : goal.returns
+returns c = let h : length c.args.self.items ≡ key_limit = search (rules, unmapped) in simp length-take (omega (arith, c.min.ensures))

@@ -1,53 +1,47 @@
 -- `Waiting::uncovered` meets its contract: the loop sifts the removals.
-use mathlib.Core.Path.{refl, ap, sym, ◌∙◌}
-use Prim.Native.Nat.{◌<◌}
+use mathlib.Core.Path.{◌≡◌, refl, ap, sym, ◌∙◌}
+use lib.ListN.{length}
+use Rattle.listlaws.proofs.Pads.{unmapped, used}
 use Rattle.listlaws.proofs.Sifts.{length-sift}
-use Rattle.listlaws.proofs.Sifting.{sifting-start, sifting-keep, sifting-drop, sifting-room, sifting-end}
+use Rattle.listlaws.proofs.SliceSifting.{sifting-start, sifting-keep, sifting-drop, sifting-room, sifting-end}
 use Rattle.clock.specs.Dots.{dots_of}
-use Rattle.removals.specs.Model.{waiting_of}
 use Rattle.limits.specs.Limits.{waiting_limit}
 use Rattle.removals.specs.Waits.{waits}
-use Rattle.removals.proofs.Packs.{no_removal_read, removal-pushed}
+use Rattle.removals.proofs.Packs.{no_removal_read}
 use borrow.Author.Rules.{rules}
 use native.Mathlib.Omega.{arith}
-use Rattle.removals.proofs.Waiting.uncovered.Goals.{Then-waits}
+use Rattle.removals.proofs.Waiting.uncovered.Goals.{then-waits, else-waits}
 use Rattle.removals.proofs.Waiting.uncovered.Goals as goal
 
-pub loop-i-init : goal.loop-i-init
-loop-i-init c = (search rules, sifting-start c.new-out.ensures)
+pub loop-r-init : goal.loop-r-init
+loop-r-init c = sifting-start c.new-out.ensures
 
 -- there is room for one more
-room : (c : Then-waits) → c.loop-i.out.len < waiting_limit
-room c =
-    let s = c.before.before.before.before in
-    let t = sym c.waits.ensures ∙ c.if-waits.true in
-    let r = sifting-room no_removal_read s.loop-i.invariant.1 (omega arith) refl t in
-    let a = s.args in
-    omega (arith, ap (λ k. k.len) r.1, r.2, length-sift (waits (dots_of a.seen)) (λ r. r) (waiting_of a.self))
-
-pub loop-i-preserved-then-waits : goal.loop-i-preserved-then-waits
-loop-i-preserved-then-waits c =
-    let s = c.before.before.before.before in
-    let t = sym c.waits.ensures ∙ c.if-waits.true in (
-      search rules,
-      sifting-keep no_removal_read s.loop-i.invariant.1 (omega arith) refl t
-          (λ l e. removal-pushed l _ e (omega (arith, ap (λ k. k.len) e, room c))),
+pub store-requires : goal.store-requires
+store-requires c =
+    let a = c.args in
+    let rs = c.as_slice-r-items in
+    let w : length a.self.items ≡ waiting_limit = search (rules, unmapped) in
+    let r = sifting-room no_removal_read c.loop-r.invariant c.loop-r-test.true refl (sym c.waits.ensures ∙ c.if-waits.true) in
+    omega (
+      arith,
+      ap (λ k. k.len) r.1,
+      r.2,
+      length-sift (waits (dots_of a.seen)) (λ r. r) rs.result.now,
+      ap length rs.ensures,
+      used a.self.len waiting_limit a.self.items w,
     )
 
-pub loop-i-preserved : goal.loop-i-preserved
-loop-i-preserved c =
-    let s = c.before.before.before.before in
-    let t = sym c.waits.ensures ∙ c.if-waits.false in
-    (search rules, sifting-drop no_removal_read s.loop-i.invariant.1 (omega arith) refl t)
+pub loop-r-preserved : goal.loop-r-preserved
+loop-r-preserved c =
+    elim c.if-waits.branch [
+      | then-waits w ↦
+          sifting-keep no_removal_read c.loop-r.invariant c.loop-r-test.true refl (sym c.waits.ensures ∙ w.if-waits.true)
+          (rw w.out-is w.store.ensures.1)
+      | else-waits w ↦
+          rw w.out-is
+          (sifting-drop no_removal_read c.loop-r.invariant c.loop-r-test.true refl (sym c.waits.ensures ∙ w.if-waits.false))
+    ]
 
 pub returns : goal.returns
-returns c = sifting-end c.loop-i.invariant.1 (omega arith)
-
-pub offset_bounds-out-k : goal.offset_bounds-out-k
-offset_bounds-out-k c = omega (arith, room c)
-
-pub bounds-out-k : goal.bounds-out-k
-bounds-out-k c = omega (arith, room c)
-
-pub overflow_add-out : goal.overflow_add-out
-overflow_add-out c = omega (arith, room c)
+returns c = rw (← c.as_slice-r-items.ensures) (sifting-end c.loop-r.invariant (omega arith))

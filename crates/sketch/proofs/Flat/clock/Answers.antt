@@ -1,6 +1,5 @@
 -- `Flat::clock` meets its contract: one dot after the other is put together.
 use mathlib.Core.Path.{◌≡◌, refl}
-use Prim.Native.Nat.{◌-◌}
 use lib.ListN.{length, length-set}
 use native.Mathlib.Omega.{arith}
 use borrow.Author.Rules.{rules}
@@ -11,7 +10,7 @@ use Rattle.sketch.proofs.Flat.clock.Goals.{Start}
 use Rattle.sketch.proofs.Flat.clock.Goals as goal
 
 pub loop-i-init : goal.loop-i-init
-loop-i-init c = ((omega arith, refl), refl)
+loop-i-init c = (refl, refl)
 
 -- the room of its counters and actors
 wide : (c : Start) → (length c.args.self.actors ≡ dot_limit) × (length c.args.self.counters ≡ dot_limit)
@@ -19,21 +18,19 @@ wide c = (search rules, search rules)
 
 pub loop-i-preserved : goal.loop-i-preserved
 loop-i-preserved c =
-    let s = c.before.before.before in
-    let f = s.loop-i in
+    let f = c.loop-i in
     let k = f.invariant in
-    let a = s.args.self in
-    let l = wide s.before in (
-      (omega arith, simp length-set k.0.1),
+    let a = c.args.self in
+    let l = wide (goal.at.loop-i-preserved c).Start in (
+      simp length-set k.0,
       beside-more a.actors a.counters f.dots f.i (omega (arith, l.0, l.1)) k.1 (omega arith) (omega arith),
     )
 
 pub returns : goal.returns
 returns c =
-    let s = c.before in
-    let k = s.loop-i.invariant in
-    let a = s.args.self in
-    let l = wide s.before in
+    let f = c.loop-i in
+    let a = c.args.self in
+    let l = wide (goal.at.returns c).Start in
     let b = length-beside a.actors a.counters (omega (arith, l.0, l.1)) in
-    let e = taken-all s.loop-i.dots (beside a.actors a.counters) s.loop-i.i k.1 (omega arith) (omega arith) in
+    let e = taken-all f.dots (beside a.actors a.counters) f.i f.invariant.1 (omega arith) (omega arith) in
     λ i. record { dots = e i; len = a.len }

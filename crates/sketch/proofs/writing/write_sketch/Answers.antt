@@ -1,18 +1,20 @@
 -- `write_sketch` meets its contract: one entry after the other, and one section behind the other.
-use mathlib.Core.Path.{refl, ◌∙◌}
-use mathlib.Core.List.{List, [], ◌++◌}
-use Prim.Native.Nat.{◌<◌, ◌-◌, ◌+◌}
-use lib.ListN.{length, get_or, length-map}
+use mathlib.Core.Path.{refl, ap, subst, sym, ◌∙◌}
+use mathlib.Core.List.{List, ◌++◌, map}
+use Prim.Native.Nat.{◌+◌}
+use lib.ListN.{get_or, length-map}
 use native.Mathlib.Omega.{arith}
-use Rattle.listlaws.proofs.Rests.{in_list}
-use Rattle.records.proofs.Writing.{Writing, write-start, write-room, write-on, write-end, last-room, write-last}
+use Rattle.listlaws.specs.Order.{◌∈◌}
+use Rattle.listlaws.proofs.SliceRests.{in_list}
+use Rattle.records.proofs.Writing.{Writing, write-start, write-room, write-on, write-end}
 use Rattle.clock.specs.Dots.{dots_of}
 use Rattle.records.specs.declared.Record.{Record}
 use Rattle.clockimage.specs.Image.{dot_record, dot_records}
 use Rattle.mapimage.specs.MapImage.{entry_records}
-use Rattle.sketch.specs.Drawn.{drawn, items_of, drawn_all, sections_of}
-use Rattle.sketch.proofs.Sources.{no_sketched_read, sections-end, left_from, section-start, section-on, section-end}
-use Rattle.sketch.proofs.writing.write_sketch.Goals.{After-slice_known-2-1, Start}
+use Rattle.sketch.specs.declared.Sketched.{Sketched}
+use Rattle.sketch.specs.Drawn.{drawn, drawn_all, sections_of}
+use Rattle.sketch.proofs.Sources.{no_sketched_read, sections_from, sections-end, section-start, section-on, section-end, left_as}
+use Rattle.sketch.proofs.writing.write_sketch.Goals.{Start}
 use Rattle.sketch.proofs.writing.write_sketch.Goals as goal
 
 -- the dots of the clock, and the sections behind them
@@ -28,98 +30,50 @@ module _ (z : Start) where
 
 pub write_dots-next-requires : goal.write_dots-next-requires
 write_dots-next-requires c =
-    let z = c.before.before.before.before.before in
-    omega (arith, (write-room _ _ _ (dots z.before) _ (start z.before) refl).0, length-map (dots_of z.args.clock) (dot_record 1 0 0))
-
--- what is left when they are written
-begun : (c : After-slice_known-2-1) → let z = c.before.before.before.before.before.before.before.before in
-    Writing (dots z.before ++ sections z.before) (sections z.before) 0 z.args.out.now c.write_dots-next.new.out c.write_dots-next.result
-begun c = let z = c.before.before.before.before.before.before.before.before in
-    write-on _ _ _ (dots z.before) (start z.before) refl c.write_dots-next.ensures
+    let z = (goal.at.write_dots-next-requires c).Start in
+    omega (arith, (write-room _ _ _ (dots z) _ (start z) refl).0, length-map (dots_of c.args.clock) (dot_record 1 0 0))
 
 pub loop-kind-init : goal.loop-kind-init
-loop-kind-init c =
-    let z = c.before.before.before.before.before.before.before.before in
-    let a = z.args in (
-      (omega arith, omega arith),
-      (
-        omega arith,
-        record {
-          rest = _;
-          wrote = write-start _ _ _ (last-room _ _ _ _ (begun c));
-          inside = λ h. section-start a.s.now a.t.now a.sk 2 (omega arith) (omega arith);
-          beyond = λ h. absurd (omega arith);
-        },
-      ),
-    )
+loop-kind-init c = let z = (goal.at.loop-kind-init c).Start in write-on _ _ _ (dots z) (start z) refl c.write_dots-next.ensures
+
+pub loop-e-init : goal.loop-e-init
+loop-e-init c =
+    let s = c.args.s.now in
+    let t = c.args.t.now in
+    let kind = c.loop-kind.kind in
+    left_as (ap (λ (xs : List Sketched). sections_from kind (map (drawn s t) xs)) (sym c.as_slice-e-items.ensures)
+    ∙ section-start s t kind c.as_slice-e-items.result.now (omega arith) c.loop-kind-test.true) c.loop-kind.invariant
 
 pub write_entry-next-requires : goal.write_entry-next-requires
 write_entry-next-requires c =
-    let s = c.before.before.before.before in
-    let z = s.before.before.before.before.before.before.before.before.before in
-    let a = z.args in
-    let g = s.loop-kind.invariant.1.1 in
-    let k : s.loop-kind.i < length (items_of a.sk) = omega (arith, s.size-n.ensures.0) in
-    let x = get_or a.sk.items s.loop-kind.i no_sketched_read in (
-      z.requires.0.each x (in_list a.sk.items a.sk.sums.count s.loop-kind.i no_sketched_read k),
-      (write-room _ _ _ (entry_records s.loop-kind.kind s.loop-kind.i (drawn a.s.now a.t.now x)) _ g.wrote
-          (g.inside (omega arith) ∙ section-on a.s.now a.t.now a.sk s.loop-kind.kind s.loop-kind.i k)).0,
+    let s = c.args.s.now in
+    let t = c.args.t.now in
+    let kind = c.loop-kind.kind in
+    let xs = c.as_slice-e-items.result.now in
+    let i = c.loop-e.e-index in
+    let k = c.loop-e-test.true in (
+      c.requires.0.each _ (subst (λ (z : List Sketched). get_or xs i no_sketched_read ∈ z) c.as_slice-e-items.ensures
+          (in_list xs i no_sketched_read k)),
+      (write-room _ _ _ (entry_records kind i (drawn s t (get_or xs i no_sketched_read))) _ c.loop-e.invariant (section-on s t kind xs i k)).0,
     )
 
-pub loop-kind-preserved-then-i-n : goal.loop-kind-preserved-then-i-n
-loop-kind-preserved-then-i-n c =
-    let s = c.before.before.before.before.before.before.before in
-    let a = s.args in
-    let g = s.loop-kind.invariant.1.1 in
-    let on : s.loop-kind.kind < 5 = c.loop-kind-test.true in
-    let k : s.loop-kind.i < length (items_of a.sk) = omega (
-      arith,
-      s.size-n.ensures.0,
-      c.if-i-n.true,
-    ) in
-    let x = get_or a.sk.items s.loop-kind.i no_sketched_read in (
-      (omega arith, omega arith),
-      (
-        omega (arith, c.if-i-n.true),
-        record {
-          rest = left_from a.s.now a.t.now a.sk s.loop-kind.kind (s.loop-kind.i + 1);
-          wrote = write-on _ _ _ (entry_records s.loop-kind.kind s.loop-kind.i (drawn a.s.now a.t.now x)) g.wrote
-              (g.inside on ∙ section-on a.s.now a.t.now a.sk s.loop-kind.kind s.loop-kind.i k) c.write_entry-next.ensures;
-          inside = λ h. refl;
-          beyond = λ h. absurd (omega (arith, on));
-        },
-      ),
-    )
+pub loop-e-preserved : goal.loop-e-preserved
+loop-e-preserved c =
+    let s = c.args.s.now in
+    let t = c.args.t.now in
+    let kind = c.loop-kind.kind in
+    let xs = c.as_slice-e-items.result.now in
+    let i = c.loop-e.e-index in
+    write-on _ _ _ (entry_records kind i (drawn s t (get_or xs i no_sketched_read))) c.loop-e.invariant
+    (section-on s t kind xs i c.loop-e-test.true) c.write_entry-next.ensures
 
 pub loop-kind-preserved : goal.loop-kind-preserved
 loop-kind-preserved c =
-    let s = c.before.before in
-    let a = s.args in
-    let g = s.loop-kind.invariant.1.1 in
-    let on : s.loop-kind.kind < 5 = c.loop-kind-test.true in
-    let l = drawn_all a.s.now a.t.now a.sk in
-    let e = g.inside on ∙ section-end a.s.now a.t.now a.sk s.loop-kind.kind s.loop-kind.i
-    (omega (arith, s.size-n.ensures.0, c.if-i-n.false)) in (
-      (omega arith, omega arith),
-      (
-        omega arith,
-        record {
-          rest = g.rest;
-          wrote = g.wrote;
-          inside = λ h. e ∙ section-start a.s.now a.t.now a.sk (s.loop-kind.kind + 1) (omega arith) h;
-          beyond = λ h. e ∙ sections-end (s.loop-kind.kind + 1) l (omega arith);
-        },
-      ),
-    )
-
-pub shape_of-out : goal.shape_of-out
-shape_of-out c =
-    let s = c.before in
-    (write-room _ _ _ [] _ s.loop-kind.invariant.1.1.wrote refl).1
-    ∙ (write-room _ _ _ [] _ (begun (goal.at.shape_of-out c).After-slice_known-2-1) refl).1
+    let s = c.args.s.now in
+    let t = c.args.t.now in
+    let kind = c.loop-kind.kind in
+    left_as (section-end s t kind c.as_slice-e-items.result.now c.loop-e.e-index (omega arith)
+    ∙ ap (λ (xs : List Sketched). sections_from (kind + 1) (map (drawn s t) xs)) c.as_slice-e-items.ensures) c.loop-e.invariant
 
 pub returns : goal.returns
-returns c =
-    let s = c.before in
-    let g = s.loop-kind.invariant.1.1 in
-    write-last _ _ _ _ (begun (goal.at.returns c).After-slice_known-2-1) (write-end _ _ _ g.wrote (g.beyond (omega arith)))
+returns c = write-end _ _ _ c.loop-kind.invariant (sections-end c.loop-kind.kind (drawn_all c.args.s.now c.args.t.now c.args.sk) (omega arith))

@@ -1,12 +1,18 @@
 -- `write_sketch` meets its contract: one entry after the other, and one section behind the other.
-use Prim.Native.Nat.{◌≤◌, ◌-◌, ◌+◌, ◌*◌}
-use Rattle.limits.specs.Limits.{entry_limit}
-use Rattle.sketch.proofs.Sources.{Sectioned}
+use mathlib.Core.List.{◌++◌}
+use Rattle.clock.specs.Dots.{dots_of}
+use Rattle.records.proofs.Writing.{Writing}
+use Rattle.clockimage.specs.Image.{dot_records}
+use Rattle.sketch.specs.Drawn.{drawn_all, sections_of}
+use Rattle.sketch.proofs.Sources.{sections_from, left_from}
 use Rattle.sketch.proofs.writing.write_sketch.Given as goal
 
 abbrev pub invariant-loop-kind : goal.invariant-loop-kind
-invariant-loop-kind l = ((2 ≤ l.kind) × (l.kind ≤ 5)) × ((l.i ≤ l.n) × Sectioned l.s l.t l.sk l.kind l.i l.initial.next l.initial.out l.out l.next)
+invariant-loop-kind l =
+    Writing (dot_records 1 0 0 (dots_of l.fn.clock) ++ sections_of (drawn_all l.s l.t l.sk)) (sections_from l.kind (drawn_all l.s l.t l.sk))
+    0 l.fn.out l.out l.next
 
--- a section has at most as many entries as a map
-abbrev pub decreases-loop-kind : goal.decreases-loop-kind
-decreases-loop-kind l = (5 - l.kind) * (entry_limit + 1) + (l.n - l.i)
+abbrev pub invariant-loop-e : goal.invariant-loop-e
+invariant-loop-e l =
+    Writing (dot_records 1 0 0 (dots_of l.fn.clock) ++ sections_of (drawn_all l.s l.t l.fn.sk)) (left_from l.s l.t l.kind l.e-items l.e-index)
+    0 l.fn.out l.out l.next

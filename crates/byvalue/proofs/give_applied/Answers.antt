@@ -1,0 +1,42 @@
+-- `give_applied` meets its contract: each way out is a law of `Ways`.
+use mathlib.Core.Path.{ap, ap₂, sym, ◌∙◌}
+use Rattle.maprecords.specs.Related.{ReadMap}
+use Rattle.opimage.specs.OpImage.{ReadOp}
+use Rattle.map.specs.Judging.{Judged, judged}
+use Rattle.map.specs.Applying.{apply}
+use Rattle.map.proofs.Kept.{valid-apply}
+use Rattle.byvalue.proofs.Ways.{read-within, read-op-within, op-valid, judged-out}
+use Rattle.refusals.proofs.Handed.{handed, number-some}
+use Rattle.answers.specs.Answer.{word_in}
+use Rattle.promises.proofs.Ways.{first_out, second-out, own-out, map-out}
+use Rattle.byvalue.proofs.give_applied.Goals as goal
+
+pub returns-in_err-m : goal.returns-in_err-m
+returns-in_err-m c =
+    first_out _ _ (ap (λ (r : ReadMap). r.number) c.in_err-m.ensures) (number-some _)
+    (ap word_in (handed c.from_residual.result _ c.from_residual.ensures.1))
+
+pub returns-in_err-o : goal.returns-in_err-o
+returns-in_err-o c =
+    second-out _ _ (sym (ap (λ (r : ReadMap). r.number) c.in_ok-m.ensures))
+    (ap (λ (r : ReadOp). r.number) c.in_err-o.ensures) (number-some _)
+    (ap word_in (handed c.from_residual-in_err-o.result _ c.from_residual-in_err-o.ensures.1))
+
+pub apply-requires : goal.apply-requires
+apply-requires c = (read-within _ c.in_ok-m.ensures, read-op-within _ c.in_ok-o.ensures)
+
+pub returns-in_err-applied : goal.returns-in_err-applied
+returns-in_err-applied c =
+    own-out _ _ (sym (ap (λ (r : ReadMap). r.number) c.in_ok-m.ensures)) (sym (ap (λ (r : ReadOp). r.number) c.in_ok-o.ensures))
+    (ap (λ (j : Judged). j.number) (c.in_err-applied.ensures
+    ∙ ap₂ (λ (m : ReadMap) (o : ReadOp). judged (apply m.map o.op)) c.in_ok-m.ensures c.in_ok-o.ensures))
+    (number-some _) (ap word_in (handed c.from_residual-in_err-applied.result _ c.from_residual-in_err-applied.ensures.1))
+
+pub give_map-requires : goal.give_map-requires
+give_map-requires c = judged-out (valid-apply (read-within _ c.in_ok-m.ensures).valid
+    (op-valid (read-op-within _ c.in_ok-o.ensures))) c.in_ok-applied.ensures
+
+pub returns : goal.returns
+returns c =
+    map-out _ _ (sym (ap (λ (r : ReadMap). r.number) c.in_ok-m.ensures)) (sym (ap (λ (r : ReadOp). r.number) c.in_ok-o.ensures))
+    (c.in_ok-applied.ensures ∙ ap₂ (λ (m : ReadMap) (o : ReadOp). judged (apply m.map o.op)) c.in_ok-m.ensures c.in_ok-o.ensures) c.give_map.ensures
