@@ -1,16 +1,17 @@
 // What the calls of castribba.h share: refusing, and writing an image where it fits.
 #![tactic(auto)]
 
-ghost use Rattle.std.specs.Prelude.{◌≡◌, ◌+◌, ◌*◌, ◌^◌, ◌≤◌, length};
+ghost use Rattle.std.specs.Prelude.{◌≡◌, ◌+◌, ◌*◌, ◌^◌, ◌≤◌, length, IfOk};
 ghost use Rattle.register.specs.Values.{values_of};
 ghost use Rattle.limits.specs.Limits.{waiting_limit};
 ghost use Rattle.removals.specs.Model.{waiting_of};
 ghost use Rattle.entries.specs.Model.{entries_of};
-ghost use Rattle.map.specs.Model.{waiting_in};
+ghost use Rattle.map.specs.Model.{waiting_in, no_map, no_op};
 ghost use Rattle.map.specs.Valid.{Valid};
 ghost use Rattle.opimage.specs.OpImage.{op_longest, op_image};
 ghost use Rattle.mapimage.specs.MapImage.{map_longest, map_image};
 ghost use Rattle.answers.specs.Answer.{Answered, word_in};
+ghost use Rattle.refusals.specs.Numbers.{number_told, done_or};
 ghost use Rattle.listlaws.specs.Fold.{total_of};
 ghost use Rattle.answers.specs.Sizes.{value_size, entry_size, removal_size, register_most, entries_most, waiting_most, map_size};
 
@@ -93,21 +94,26 @@ pub fn op_length(op: Op) -> usize
     (1 + (clock.size() + keys.size())) * 16
 }
 
-// Answers a map, where there is room for it.
-pub fn give_map(map: Map, out: &mut [u8]) -> Result<usize, Refusal>
-    requires { Valid map }
-    ensures { Answered (record { first = 0; second = 0; own = 0; bytes = map_image map }) out.old out.new (word_in result) }
+// Answers a map, or why there is none, where there is room for it.
+pub fn give_map(map: Result<Map, Refusal>, out: &mut [u8]) -> Result<usize, Refusal>
+    requires { IfOk map (λ m. Valid m) }
+    ensures { Answered (record { first = 0; second = 0; own = number_told map; bytes = map_image (done_or no_map map) }) out.old out.new
+        (word_in result) × IfOk result (λ n. n ≡ length (map_image (done_or no_map map))) }
 {
+    let map = map?;
     if out.len() < map_length(map) {
-        return Err(Refusal::ShortBuffer);
+        return Err(Refusal::ShortBuffer); // nothing is written
     }
     Ok(mapimage::write_map(map, out))
 }
 
-// Answers an operation, where there is room for it.
-pub fn give_op(op: Op, out: &mut [u8]) -> Result<usize, Refusal>
-    ensures { Answered (record { first = 0; second = 0; own = 0; bytes = op_image op }) out.old out.new (word_in result) }
+// Answers an operation, or why it can't be made, where there is room for it. Inlined, so that the operation is not copied into a `Result`.
+#[inline(always)]
+pub fn give_op(op: Result<Op, Refusal>, out: &mut [u8]) -> Result<usize, Refusal>
+    ensures { Answered (record { first = 0; second = 0; own = number_told op; bytes = op_image (done_or no_op op) }) out.old out.new
+        (word_in result) × IfOk result (λ n. n ≡ length (op_image (done_or no_op op))) }
 {
+    let op = op?;
     if out.len() < op_length(op) {
         return Err(Refusal::ShortBuffer);
     }

@@ -5,6 +5,10 @@ use mathlib.Core.List.{List}
 use Prim.Native.Nat.{ℕ, ◌+◌, ◌≤◌}
 use native.Mathlib.Omega.{arith}
 use lib.Dec.{eqb}
+use Rattle.std.specs.Prelude.{IfOk}
+use Rattle.std.specs.declared.result.Result.{Result}
+use Rattle.std.specs.declared.result.Result.TheVariants.{Ok, Err}
+use Rattle.refusals.specs.declared.Refusal.{Refusal}
 use Rattle.scan.proofs.Eachs.{decide}
 use Rattle.clock.specs.declared.Dot.{Dot}
 use Rattle.clock.specs.Dots.{dots_of}
@@ -13,7 +17,7 @@ use Rattle.clockimage.specs.ClockImage.{read_clock}
 use Rattle.map.specs.declared.Map.{Map}
 use Rattle.map.specs.declared.Op.{Op}
 use Rattle.map.specs.Judging.{Judged}
-use Rattle.map.specs.Judging.{over_number, judged}
+use Rattle.map.specs.Judging.{over_number, judgement, judged}
 use Rattle.map.specs.Valid.{Valid, ValidOp, Within, OpWithin}
 use Rattle.map.specs.Applying.{apply}
 use Rattle.map.specs.Resetting.{reset}
@@ -44,6 +48,10 @@ judged-allowed m v = decide (eqb (over_number m) 0) (λ t. rw t v) (λ f. rw f n
 
 pub judged-out : {m : Map} {j : Judged} → Valid m → j ≡ judged m → Valid j.map
 judged-out {m} v e = rw e (judged-allowed m v)
+
+pub answer-allowed : {m : Map} (r : Result Map Refusal) → Valid m → judgement r ≡ judged m → IfOk r (λ x. Valid x)
+answer-allowed (Ok x) v e = judged-out v e
+answer-allowed (Err y) v e = tt
 
 -- a judged map that is not refused has the dots that are left
 kept-dots : (m : Map) {j : Judged} → j ≡ judged m → j.number ≡ 0 → entry_dots j.map ≡ entry_dots m

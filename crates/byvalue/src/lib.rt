@@ -21,8 +21,7 @@ fn give_applied(map: &[u8], op: &[u8], out: &mut [u8]) -> Result<usize, Refusal>
 {
     let m = reading::read_map(map)?;
     let o = opimage::read_op(op)?;
-    let applied = m.apply(o)?;
-    answers::give_map(applied, out)
+    answers::give_map(m.apply(o), out)
 }
 
 pub fn merge(map: &[u8], other: &[u8], out: &mut [u8]) -> u64
@@ -36,8 +35,7 @@ fn give_merged(map: &[u8], other: &[u8], out: &mut [u8]) -> Result<usize, Refusa
 {
     let m = reading::read_map(map)?;
     let o = reading::read_map(other)?;
-    let merged = m.merge(o)?;
-    answers::give_map(merged, out)
+    answers::give_map(m.merge(o), out)
 }
 
 pub fn reset_remove(map: &[u8], clock: &[u8], out: &mut [u8]) -> u64
@@ -51,6 +49,5 @@ fn give_reset(map: &[u8], clock: &[u8], out: &mut [u8]) -> Result<usize, Refusal
 {
     let m = reading::read_map(map)?;
     let by = clockimage::read_clock(clock)?;
-    let reset = m.reset_remove(by)?;
-    answers::give_map(reset, out)
+    answers::give_map(m.reset_remove(by), out)
 }

@@ -1,7 +1,7 @@
 // The floor of some peers' clocks: one peer after the other, by value.
 #![tactic(auto)]
 
-ghost use Rattle.std.specs.Prelude.{◌≡◌};
+ghost use Rattle.std.specs.Prelude.{◌≡◌, min};
 ghost use Rattle.clock.specs.Dots.{dots_of, clock_of};
 ghost use Rattle.flooring.specs.Steps.{lowered_by, begun_of, next_of};
 
@@ -20,6 +20,13 @@ pub struct Floored {
     pub clock: Clock,
 }
 
+// The smaller of two counters: 0, which is not reported, where a peer has not the actor.
+fn smaller(counter: u64, other: u64) -> u64
+    ensures { result ≡ min counter other }
+{
+    counter.min(other)
+}
+
 // The smaller counter of each actor, zero left out.
 fn lower(clock: Clock, peer: Clock) -> Clock
     ensures { result ≡ clock_of (lowered_by (dots_of peer) (dots_of clock)) }
@@ -27,7 +34,7 @@ fn lower(clock: Clock, peer: Clock) -> Clock
     let mut out = Clock::new();
     for d in clock.as_slice() {
         let seen = peer.get(d.actor);
-        let least = d.counter.min(seen);
+        let least = smaller(d.counter, seen);
         if 0 < least {
             let k = out.len;
             out.dots[k] = Dot {

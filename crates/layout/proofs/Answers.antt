@@ -6,7 +6,7 @@ use Prim.Native.Nat.{ℕ, ◌%◌, ◌≤◌}
 use native.Mathlib.Omega.{arith}
 use lib.Dec.{eqb, ltb}
 use lib.ListN.{length, replicate}
-use borrow.Author.Tests.{ltb-true, ltb-false, le-ltb, le-leb, lt-leb, eqb-true, eq-eqb, ne_eqb}
+use borrow.Author.Tests.{ltb-true, ltb-false, le-ltb, le-leb, lt-leb, eqb-true, eqb-false, eq-eqb, ne_eqb}
 use Rattle.listlaws.proofs.Orders.{apart}
 use Rattle.scan.specs.Numbers.{scan_number}
 use Rattle.scan.proofs.Eachs.{decide}
@@ -28,6 +28,7 @@ use Rattle.oneimagelaws.proofs.Relates.{records-related}
 use Rattle.oneimagelaws.proofs.Reread.{map-again}
 use Rattle.oneimagelaws.proofs.Rewritten.{records-rewritten}
 use Rattle.walks.specs.declared.Layout.{Layout}
+use Rattle.layout.specs.declared.Laid.{Laid}
 use Rattle.walks.specs.Walk.{part, dot_test, run_end, entries_end, waits_end, keys_good}
 use Rattle.layout.specs.Whole.{recognised, recognised_at, Parted, slow_number, LaidOut}
 use Rattle.walks.proofs.Loops.{length_part}
@@ -52,6 +53,10 @@ module _ (s : List ℕ) (n : ℕ) (e : n ≡ length_number (length s)) where
       decide (ltb map_longest (length s)) (λ t. absurd (let k = rw t at e in omega arith))
       (λ f. decide (eqb (length s % 16) 0) (λ t. (ltb-false map_longest (length s) f, eqb-true (length s % 16) 0 t))
       (λ u. absurd (let k = rw (f, u) at e in omega arith)))
+
+slow-some : (l : List Record) → slow_number l ≡ 0 → ⊥
+slow-some l e = decide (eqb (scan_number 1 6 l) 0) (λ t. let k = rw t at e in omega arith) (λ f. let k = rw f at e in
+    eqb-false (scan_number 1 6 l) 0 f k)
 
 module _ (s : List ℕ) (l : Layout) (p : Parted s l) (good : (length s ≤ map_longest) × (length s % 16 ≡ 0)) where
   read_as : read_map s ≡ judged_map (records_of s)
@@ -97,8 +102,9 @@ module _ (s : List ℕ) (l : Layout) (p : Parted s l) (good : (length s ≤ map_
       (λ t. rw t))
 
   -- a refusal
-  pub refuses : recognised_at s l ≡ false → (n : ℕ) → n ≡ slow_number (records_of s) → n ≡ (read_map s).number
-  refuses f n e = e ∙ not-accepted f
+  pub refuses : recognised_at s l ≡ false → (r : Laid) (n : ℕ) → r.number ≡ n → n ≡ slow_number (records_of s)
+      → (r.number ≡ (read_map s).number) × (r.number ≡ 0 → LaidOut s (read_map s).map r)
+  refuses f r n a b = (a ∙ b ∙ not-accepted f, λ z. absurd (slow-some (records_of s) (sym (a ∙ b) ∙ z)))
 
   -- what the walks found
   module _ (run : ℕ) (er : run ≡ run_end (dot_test 1 0 0) 0 dot_limit 0 (part s 0 l.second)) where

@@ -1,9 +1,9 @@
 // A map's image recognised where it stands, and the places of its sections.
 #![tactic(auto)]
 
-ghost use Rattle.std.specs.Prelude.{◌≡◌, ◌+◌, ◌<◌, IfOk};
+ghost use Rattle.std.specs.Prelude.{◌≡◌, ◌+◌, ◌<◌};
 ghost use Rattle.records.specs.Records.{records_of};
-ghost use Rattle.refusals.specs.Numbers.{number_for, number_told};
+ghost use Rattle.refusals.specs.Numbers.{number_for};
 ghost use Rattle.maprecords.specs.Related.{read_map};
 ghost use Rattle.layout.specs.Whole.{Parted, slow_number, LaidOut};
 
@@ -85,45 +85,36 @@ fn refused(refusal: Refusal) -> Laid
     }
 }
 
-// What an image is, and where its parts stand.
+// What an image is, and where its parts stand. No `Result` of a `Laid` is handed on here: each call that reads a map would copy it twice.
 pub fn lay_out(s: &[u8]) -> Laid
     ensures { (result.number ≡ (read_map s.now).number) × (result.number ≡ 0 → LaidOut s.now (read_map s.now).map result) }
 {
-    match lay(s) {
-        Ok(laid) => laid,
-        Err(refusal) => refused(refusal),
+    if let Err(refusal) = maprecords::check_length(s.len()) {
+        return refused(refusal);
     }
-}
-
-// Where the parts of an image stand, or why it is refused.
-fn lay(s: &[u8]) -> Result<Laid, Refusal>
-    ensures { (number_told result ≡ (read_map s.now).number)
-        × IfOk result (λ laid. (laid.number ≡ 0) × LaidOut s.now (read_map s.now).map laid) }
-{
-    maprecords::check_length(s.len())?;
     let layout = sections(s);
     let second = layout.second;
     let sixth = layout.sixth;
     let end = layout.end;
     let run = walks::run_end(s, 0, second, CLOCK_DOT, 0, 0);
     if run != second {
-        return Err(slow_refusal(s));
+        return refused(slow_refusal(s));
     }
     let to = second * 16;
     let clock = runs::clock_of(&s[0..to]);
     let entries = walks::count_entries(s, layout, clock);
     let waits = walks::count_waiting(s, layout);
     if (ENTRIES < entries) | (WAITING < waits) {
-        return Err(slow_refusal(s));
+        return refused(slow_refusal(s));
     }
     if !walks::keys_good(s, sixth, end, waits) {
-        return Err(slow_refusal(s));
+        return refused(slow_refusal(s));
     }
-    Ok(Laid {
+    Laid {
         number: 0,
         entries,
         waits,
         clock,
         layout,
-    })
+    }
 }

@@ -26,7 +26,7 @@ pub fn update(map: &[u8], actor: u16, key: u32, value: u64, origin: u16, out: &m
     if made.number != 0 {
         return answers::word(made.number);
     }
-    answers::told(answers::give_op(made.op, out))
+    answers::told(answers::give_op(Ok(made.op), out))
 }
 
 pub fn rm_get(map: &[u8], key: u32, out: &mut [u8]) -> u64
@@ -37,7 +37,7 @@ pub fn rm_get(map: &[u8], key: u32, out: &mut [u8]) -> u64
         return answers::word(l.number);
     }
     let held = keyed::clock_at(map, l.layout, key);
-    answers::told(answers::give_op(asking::rm(held, key), out))
+    answers::told(answers::give_op(Ok(asking::rm(held, key)), out))
 }
 
 pub fn rm_read_ctx(map: &[u8], key: u32, out: &mut [u8]) -> u64
@@ -47,5 +47,5 @@ pub fn rm_read_ctx(map: &[u8], key: u32, out: &mut [u8]) -> u64
     if l.number != 0 {
         return answers::word(l.number);
     }
-    answers::told(answers::give_op(asking::rm(l.clock, key), out))
+    answers::told(answers::give_op(Ok(asking::rm(l.clock, key)), out))
 }

@@ -2,13 +2,13 @@
 use mathlib.Core.Path.{ap, ap₂, sym, ◌∙◌}
 use Rattle.maprecords.specs.Related.{ReadMap}
 use Rattle.opimage.specs.OpImage.{ReadOp}
-use Rattle.map.specs.Judging.{Judged, judged}
+use Rattle.map.specs.Judging.{judged}
 use Rattle.map.specs.Applying.{apply}
 use Rattle.map.proofs.Kept.{valid-apply}
-use Rattle.byvalue.proofs.Ways.{read-within, read-op-within, op-valid, judged-out}
+use Rattle.byvalue.proofs.Ways.{read-within, read-op-within, op-valid, answer-allowed}
 use Rattle.refusals.proofs.Handed.{handed, number-some}
 use Rattle.answers.specs.Answer.{word_in}
-use Rattle.promises.proofs.Ways.{first_out, second-out, own-out, map-out}
+use Rattle.promises.proofs.Ways.{first_out, second-out, map-out}
 use Rattle.byvalue.proofs.give_applied.Goals as goal
 
 pub returns-in_err-m : goal.returns-in_err-m
@@ -25,18 +25,11 @@ returns-in_err-o c =
 pub apply-requires : goal.apply-requires
 apply-requires c = (read-within _ c.in_ok-m.ensures, read-op-within _ c.in_ok-o.ensures)
 
-pub returns-in_err-applied : goal.returns-in_err-applied
-returns-in_err-applied c =
-    own-out _ _ (sym (ap (λ (r : ReadMap). r.number) c.in_ok-m.ensures)) (sym (ap (λ (r : ReadOp). r.number) c.in_ok-o.ensures))
-    (ap (λ (j : Judged). j.number) (c.in_err-applied.ensures
-    ∙ ap₂ (λ (m : ReadMap) (o : ReadOp). judged (apply m.map o.op)) c.in_ok-m.ensures c.in_ok-o.ensures))
-    (number-some _) (ap word_in (handed c.from_residual-in_err-applied.result _ c.from_residual-in_err-applied.ensures.1))
-
 pub give_map-requires : goal.give_map-requires
-give_map-requires c = judged-out (valid-apply (read-within _ c.in_ok-m.ensures).valid
-    (op-valid (read-op-within _ c.in_ok-o.ensures))) c.in_ok-applied.ensures
+give_map-requires c = answer-allowed _ (valid-apply (read-within _ c.in_ok-m.ensures).valid
+    (op-valid (read-op-within _ c.in_ok-o.ensures))) c.apply.ensures
 
 pub returns : goal.returns
 returns c =
     map-out _ _ (sym (ap (λ (r : ReadMap). r.number) c.in_ok-m.ensures)) (sym (ap (λ (r : ReadOp). r.number) c.in_ok-o.ensures))
-    (c.in_ok-applied.ensures ∙ ap₂ (λ (m : ReadMap) (o : ReadOp). judged (apply m.map o.op)) c.in_ok-m.ensures c.in_ok-o.ensures) c.give_map.ensures
+    (c.apply.ensures ∙ ap₂ (λ (m : ReadMap) (o : ReadOp). judged (apply m.map o.op)) c.in_ok-m.ensures c.in_ok-o.ensures) c.give_map.ensures.0

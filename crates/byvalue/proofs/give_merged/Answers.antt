@@ -1,13 +1,13 @@
 -- `give_merged` meets its contract: each way out is a law of `Ways`.
 use mathlib.Core.Path.{ap, ap₂, sym, ◌∙◌}
 use Rattle.maprecords.specs.Related.{ReadMap}
-use Rattle.map.specs.Judging.{Judged, judged}
+use Rattle.map.specs.Judging.{judged}
 use Rattle.map.specs.Merging.{merge}
 use Rattle.map.proofs.Kept.{valid-merge}
-use Rattle.byvalue.proofs.Ways.{read-within, judged-out}
+use Rattle.byvalue.proofs.Ways.{read-within, answer-allowed}
 use Rattle.refusals.proofs.Handed.{handed, number-some}
 use Rattle.answers.specs.Answer.{word_in}
-use Rattle.promises.proofs.Ways.{first_out, second-out, own-out, map-out}
+use Rattle.promises.proofs.Ways.{first_out, second-out, map-out}
 use Rattle.byvalue.proofs.give_merged.Goals as goal
 
 pub returns-in_err-m : goal.returns-in_err-m
@@ -24,17 +24,10 @@ returns-in_err-o c =
 pub merge-requires : goal.merge-requires
 merge-requires c = (read-within _ c.in_ok-m.ensures, read-within _ c.in_ok-o.ensures)
 
-pub returns-in_err-merged : goal.returns-in_err-merged
-returns-in_err-merged c =
-    own-out _ _ (sym (ap (λ (r : ReadMap). r.number) c.in_ok-m.ensures)) (sym (ap (λ (r : ReadMap). r.number) c.in_ok-o.ensures))
-    (ap (λ (j : Judged). j.number) (c.in_err-merged.ensures
-    ∙ ap₂ (λ (m o : ReadMap). judged (merge m.map o.map)) c.in_ok-m.ensures c.in_ok-o.ensures))
-    (number-some _) (ap word_in (handed c.from_residual-in_err-merged.result _ c.from_residual-in_err-merged.ensures.1))
-
 pub give_map-requires : goal.give_map-requires
-give_map-requires c = judged-out (valid-merge (read-within _ c.in_ok-m.ensures).valid (read-within _ c.in_ok-o.ensures).valid) c.in_ok-merged.ensures
+give_map-requires c = answer-allowed _ (valid-merge (read-within _ c.in_ok-m.ensures).valid (read-within _ c.in_ok-o.ensures).valid) c.merge.ensures
 
 pub returns : goal.returns
 returns c =
     map-out _ _ (sym (ap (λ (r : ReadMap). r.number) c.in_ok-m.ensures)) (sym (ap (λ (r : ReadMap). r.number) c.in_ok-o.ensures))
-    (c.in_ok-merged.ensures ∙ ap₂ (λ (m o : ReadMap). judged (merge m.map o.map)) c.in_ok-m.ensures c.in_ok-o.ensures) c.give_map.ensures
+    (c.merge.ensures ∙ ap₂ (λ (m o : ReadMap). judged (merge m.map o.map)) c.in_ok-m.ensures c.in_ok-o.ensures) c.give_map.ensures.0

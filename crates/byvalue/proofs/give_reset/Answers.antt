@@ -3,13 +3,13 @@ use mathlib.Core.Path.{ap, ap₂, sym, ◌∙◌}
 use Rattle.maprecords.specs.Related.{ReadMap}
 use Rattle.clock.specs.Dots.{dots_of}
 use Rattle.clockimage.specs.ClockImage.{ReadClock}
-use Rattle.map.specs.Judging.{Judged, judged}
+use Rattle.map.specs.Judging.{judged}
 use Rattle.map.specs.Resetting.{reset}
 use Rattle.map.proofs.Kept.{valid-reset}
-use Rattle.byvalue.proofs.Ways.{read-within, judged-out}
+use Rattle.byvalue.proofs.Ways.{read-within, answer-allowed}
 use Rattle.refusals.proofs.Handed.{handed, number-some}
 use Rattle.answers.specs.Answer.{word_in}
-use Rattle.promises.proofs.Ways.{first_out, second-out, own-out, map-out}
+use Rattle.promises.proofs.Ways.{first_out, second-out, map-out}
 use Rattle.byvalue.proofs.give_reset.Goals as goal
 
 pub returns-in_err-m : goal.returns-in_err-m
@@ -26,18 +26,11 @@ returns-in_err-by c =
 pub reset_remove-requires : goal.reset_remove-requires
 reset_remove-requires c = read-within _ c.in_ok-m.ensures
 
-pub returns-in_err-reset : goal.returns-in_err-reset
-returns-in_err-reset c =
-    own-out _ _ (sym (ap (λ (r : ReadMap). r.number) c.in_ok-m.ensures)) (sym (ap (λ (r : ReadClock). r.number) c.in_ok-by.ensures))
-    (ap (λ (j : Judged). j.number) (c.in_err-reset.ensures
-    ∙ ap₂ (λ (m : ReadMap) (k : ReadClock). judged (reset m.map (dots_of k.clock))) c.in_ok-m.ensures c.in_ok-by.ensures))
-    (number-some _) (ap word_in (handed c.from_residual-in_err-reset.result _ c.from_residual-in_err-reset.ensures.1))
-
 pub give_map-requires : goal.give_map-requires
-give_map-requires c = judged-out (valid-reset (read-within _ c.in_ok-m.ensures).valid _) c.in_ok-reset.ensures
+give_map-requires c = answer-allowed _ (valid-reset (read-within _ c.in_ok-m.ensures).valid _) c.reset_remove.ensures
 
 pub returns : goal.returns
 returns c =
     map-out _ _ (sym (ap (λ (r : ReadMap). r.number) c.in_ok-m.ensures)) (sym (ap (λ (r : ReadClock). r.number) c.in_ok-by.ensures))
-    (c.in_ok-reset.ensures
-    ∙ ap₂ (λ (m : ReadMap) (k : ReadClock). judged (reset m.map (dots_of k.clock))) c.in_ok-m.ensures c.in_ok-by.ensures) c.give_map.ensures
+    (c.reset_remove.ensures
+    ∙ ap₂ (λ (m : ReadMap) (k : ReadClock). judged (reset m.map (dots_of k.clock))) c.in_ok-m.ensures c.in_ok-by.ensures) c.give_map.ensures.0

@@ -36,17 +36,17 @@ room clock peer {items} full same s h e f more =
 room-here : (c : Then-least-gt0) → c.loop-d.out.len < dot_limit
 room-here c =
     let full : length c.args.clock.dots ≡ dot_limit = search (rules, unmapped) in
-    room c.args.clock (dots_of c.args.peer) full c.as_slice-d-items.ensures c.loop-d.invariant c.loop-d-test.true c.min-least.ensures
+    room c.args.clock (dots_of c.args.peer) full c.as_slice-d-items.ensures c.loop-d.invariant c.loop-d-test.true c.smaller-least.ensures
     c.get-seen.ensures c.if-least-gt0.true
 
 pub loop-d-preserved : goal.loop-d-preserved
 loop-d-preserved c =
-    let e = lowest (dots_of c.args.peer) _ c.min-least.ensures c.get-seen.ensures in
+    let e = lowest (dots_of c.args.peer) _ c.smaller-least.ensures c.get-seen.ensures in
     let h = c.loop-d-test.true in
     elim c.if-least-gt0.branch [
       | then-least-gt0 w ↦
           let full : length c.args.clock.dots ≡ dot_limit = search (rules, unmapped) in
-          let r = room c.args.clock (dots_of c.args.peer) full c.as_slice-d-items.ensures c.loop-d.invariant h c.min-least.ensures
+          let r = room c.args.clock (dots_of c.args.peer) full c.as_slice-d-items.ensures c.loop-d.invariant h c.smaller-least.ensures
           c.get-seen.ensures w.if-least-gt0.true in
           sifting-keep no_dot c.loop-d.invariant h e (lt-ltb 0 _ w.if-least-gt0.true)
           (λ l q. w.out-is ∙ pushed l _ q (omega (arith, ap (λ k. k.len) q, r)))

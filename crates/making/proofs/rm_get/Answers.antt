@@ -18,4 +18,4 @@ returns c =
     let key = c.args.key in
     let g = c.rm.ensures ∙ ap (λ (x : Clock). removal_under x key)
     c.clock_at-held.ensures in
-    rw c.told.ensures (op-out _ (sym l.0 ∙ c.if-l-ne0.false) (ap (λ (x : Op). record { number = 0; op = x }) g) c.give_op.ensures)
+    rw c.told.ensures (op-out _ (sym l.0 ∙ c.if-l-ne0.false) (ap (λ (x : Op). record { number = 0; op = x }) g) c.give_op.ensures.0)

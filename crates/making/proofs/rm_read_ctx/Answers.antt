@@ -14,4 +14,4 @@ returns c =
     let q = l.1 c.if-l-ne0.false in
     let g = removal-is c.args.key q.lies.within q.clock
     c.rm.ensures in
-    rw c.told.ensures (op-out _ (sym l.0 ∙ c.if-l-ne0.false) (ap (λ (x : Op). record { number = 0; op = x }) g) c.give_op.ensures)
+    rw c.told.ensures (op-out _ (sym l.0 ∙ c.if-l-ne0.false) (ap (λ (x : Op). record { number = 0; op = x }) g) c.give_op.ensures.0)

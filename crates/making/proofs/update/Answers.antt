@@ -30,4 +30,4 @@ pub returns : goal.returns
 returns c =
     let l = c.lay_out-l.ensures in
     let e = made_is (goal.at.returns c).After-update-made in
-    op-out _ (sym l.0 ∙ c.if-l-ne0.false) e (rw (c.if-made-ne0.false, c.told.ensures) c.give_op.ensures)
+    op-out _ (sym l.0 ∙ c.if-l-ne0.false) e (rw (c.if-made-ne0.false, c.told.ensures) c.give_op.ensures.0)
