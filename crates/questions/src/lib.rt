@@ -15,7 +15,7 @@ pub const RECORDS: usize = DOTS
 
 pub const BUFFER: usize = RECORDS * 16;
 
-// One more than the longest map has bytes.
+// One more than a buffer has bytes.
 const LENGTHS: u64 = 28993;
 
 // One call with its plain arguments, and the word that the oracle answers.
